@@ -12,6 +12,7 @@ mod Dumps
 mod Notes
 mod Alike
 mod Returns
+mod FirstLine
 mod Reasons
 mod PrintedDigits
 mod LineWords

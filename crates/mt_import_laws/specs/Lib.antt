@@ -3,6 +3,7 @@ pub mod Notes
 pub mod Worked
 pub mod Alike
 pub mod Returns
+pub mod FirstLine
 pub mod Printed
 pub mod PrintedByInteltool
 pub mod PrintedByCoreboot

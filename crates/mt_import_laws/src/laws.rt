@@ -1,8 +1,11 @@
 ghost use Rattle.std.specs.Prelude.{◌≡◌, ◌≢◌, ◌++◌, ℕ, List, [], Some, false, true};
 ghost use Rattle.mt_kinds.specs.Bits.{is_bit_set};
 ghost use Rattle.mt_ports.specs.declared.status.Status.TheVariants.{BadText, Done};
+ghost use Rattle.mt_text.specs.Text.{lines_of};
 ghost use Rattle.mt_text.specs.declared.place.Place.{Place};
 ghost use Rattle.mt_import.specs.declared.format.Choice.{Choice};
+ghost use Rattle.mt_import.specs.declared.format.Choice.TheVariants.{Auto, Only};
+ghost use Rattle.mt_import.specs.declared.format.Format.{Format};
 ghost use Rattle.mt_import.specs.declared.shape.Reading.{Reading};
 ghost use Rattle.mt_import.specs.Import.{log_told, told_of};
 ghost use Rattle.mt_import.specs.Outcome.{Seen, Told, shows_fixed, shows_no_fix};
@@ -10,6 +13,7 @@ ghost use Rattle.mt_import.specs.Readings.{is_width};
 ghost use Rattle.mt_import.specs.Shown.{format_of, shown};
 ghost use Rattle.mt_import.specs.Supplied.{Supplied, supplied_value};
 ghost use Rattle.mt_import_laws.specs.Alike.{AreAlikeLogs};
+ghost use Rattle.mt_import_laws.specs.FirstLine.{ComeToSame, TellsFirst};
 ghost use Rattle.mt_import_laws.specs.Notes.{AreNoted};
 ghost use Rattle.mt_import_laws.specs.Origins.{Contradict, ContradictInCapabilities, ContradictsWord, CountsPair, HasOrigins, IsAmong, IsRead, WidthOrigin, readings_of, seen_of};
 ghost use Rattle.mt_import_laws.specs.Returns.{DifferInReturns};
@@ -93,6 +97,12 @@ pub fn lines_that_match_nothing_change_nothing()
 /// A CR at the end of lines changes nothing, in any format: the texts and the status stay.
 pub fn returns_change_nothing()
     ensures { (choice : Choice) (supplied : Supplied) (a b : List ℕ) → DifferInReturns a b → log_told choice supplied a ≡ log_told choice supplied b }
+{}
+
+/// If the first line of a log that tells a format tells this one, `auto` comes to the same dump, comments and status as this format.
+pub fn auto_takes_the_first_format()
+    ensures { (format : Format) (supplied : Supplied) (text : List ℕ) → TellsFirst format 1 (lines_of text)
+        → ComeToSame (log_told Auto supplied text) (log_told (Only format) supplied text) }
 {}
 
 /// Where the status isn't 0, nothing goes to standard output.

@@ -5,11 +5,12 @@ ghost use Rattle.mt_import.specs.declared.format.Choice.TheVariants.{Only};
 ghost use Rattle.mt_import.specs.declared.format.Format.TheVariants.{Coreboot, Edk2, Inteltool, Linux, Rdmsr, X86info, Xen};
 ghost use Rattle.mt_import.specs.Import.{log_told};
 ghost use Rattle.mt_import.specs.Supplied.{Supplied, command_of};
+ghost use Rattle.mt_import_laws.specs.FirstLine.{TellsFirst};
 ghost use Rattle.mt_import_laws.specs.Printed.{ReadsBack, TableReadsBack, TableReadsInOrder};
 ghost use Rattle.mt_import_laws.specs.PrintedByCoreboot.{SuitsCoreboot, Tails, coreboot_lines, line_of as coreboot_line};
 ghost use Rattle.mt_import_laws.specs.PrintedByEdk2.{SuitsEdk2, edk2_lines, pair_line};
 ghost use Rattle.mt_import_laws.specs.PrintedByInteltool.{Names, SuitsInteltool, inteltool_lines, line_of as inteltool_line};
-ghost use Rattle.mt_import_laws.specs.PrintedByRdmsr.{SuitsRdmsr, call_line, hex_text, rdmsr_text};
+ghost use Rattle.mt_import_laws.specs.PrintedByRdmsr.{SuitsRdmsr, call_line, hex_text, rdmsr_lines, rdmsr_text};
 ghost use Rattle.mt_import_laws.specs.PrintedByX86info.{Print, SuitsX86info, line_of as x86info_line, size_line, x86info_lines};
 ghost use Rattle.mt_import_laws.specs.PrintedByKernel.{pair_line as kernel_pair_line, run_line};
 ghost use Rattle.mt_import_laws.specs.PrintedByLinux.{SuitsLinux, linux_lines, linux_style};
@@ -60,6 +61,18 @@ pub fn what_xen_prints_reads_back()
 pub fn what_linux_prints_reads_back()
     ensures { (time : List ℕ) (since_4_3 : Bool) (file : RegisterFile) (supplied : Supplied) → SuitsLinux time since_4_3 file supplied
         → TableReadsInOrder Linux (linux_lines time since_4_3 file) supplied file }
+{}
+
+/// What each program prints of an ordinary PC is an instance of `auto_takes_the_first_format`.
+pub fn worked_formats()
+    ensures rdmsr { TellsFirst Rdmsr 1 (rdmsr_lines ordinary_pc) }
+    ensures inteltool { TellsFirst Inteltool 1 (inteltool_lines model_names ordinary_pc) }
+    ensures x86info { TellsFirst X86info 1 (x86info_lines x86info_print ordinary_pc) }
+    ensures coreboot { TellsFirst Coreboot 1 (coreboot_lines true some_tails ordinary_pc) }
+    ensures edk2 { TellsFirst Edk2 1 (edk2_lines ordinary_pc) }
+    ensures xen { TellsFirst Xen 1 (xen_lines ordinary_pc) }
+    ensures linux { TellsFirst Linux 1 (linux_lines no_time true ordinary_pc) }
+    ensures other { TellsFirst Linux 1 (xen_lines ordinary_pc) → ⊥ }
 {}
 
 /// The registers of an ordinary PC are an instance for each program. The words of four are command lines, and a line of each is as the
