@@ -20,7 +20,7 @@ use Rattle.mt_import.specs.Shown.{chosen, context_behind, facts_from, facts_of_l
 use Rattle.mt_import.specs.Supplied.{Supplied}
 use Rattle.mt_import.specs.Values.{width_by}
 use Rattle.mt_import.specs.X86info.{is_listed, is_size, is_sizes, sizes_said}
-use Rattle.mt_import_laws.specs.FirstLine.{ComeToSame, SaysAlike, TellsFirst, TellsNone, only_turns, says_same}
+use Rattle.mt_import_laws.specs.FirstLine.{ComeToSame, LinesTellFirst, SaysAlike, TellsFirst, only_turns, says_same}
 
 -- ---- facts that are seen but for the tally's format and its count of matches
 
@@ -179,7 +179,7 @@ module _ (format : Format) (supplied : Supplied) where
   untold_all context number line lines none =
       ap (λ o. line_facts number o (apart context) (said_in o number line) ++ facts_from (context_after (apart context) o (said_in o number line)) (number + 1) lines) none
 
-  main : (lines : List (List ℕ)) (context : Context) (number : ℕ) (a b : Seen) → context.processor ≡ 0 → untold a ≡ untold b → TellsFirst format number lines
+  main : (lines : List (List ℕ)) (context : Context) (number : ℕ) (a b : Seen) → context.processor ≡ 0 → untold a ≡ untold b → LinesTellFirst format number lines
       → AreSame supplied a b (facts_from (apart context) number lines) (facts_from (within context) number lines)
   main [] context number a b zero same tells = absurd tells
   main (line ∷ lines) context number a b zero same (inl told) =
@@ -253,7 +253,7 @@ by_fault : (fault : Option ImportFault) (a b : Told) → ComeToSame a b → Come
 by_fault None a b same = same
 by_fault (Some fault) a b same = record { notes = refl; dump = refl; status = refl }
 
-pub auto_comes : (format : Format) (supplied : Supplied) (text : List ℕ) → TellsFirst format 1 (lines_of text) → ComeToSame (log_told Auto supplied text) (log_told (Only format) supplied text)
+pub auto_comes : (format : Format) (supplied : Supplied) (text : List ℕ) → TellsFirst format text → ComeToSame (log_told Auto supplied text) (log_told (Only format) supplied text)
 auto_comes format supplied text tells =
     let same = main format supplied (lines_of text) (starts None) 1 (nothing_seen None) (nothing_seen (Some format)) refl refl tells in
     subst (λ f. ComeToSame (log_told Auto supplied text) (unless f (ended false supplied (seen_after (nothing_seen (Some format)) (shown (Some format) text))))) same.fault

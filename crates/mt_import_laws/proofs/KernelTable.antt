@@ -31,7 +31,7 @@ use Rattle.mt_import_laws.specs.Origins.{IsAmong}
 use Rattle.mt_import_laws.specs.Printed.{Key, ReadsBack, TableReadsInOrder, Weaves, number_at, value_in}
 use Rattle.mt_import_laws.specs.PrintedByEdk2.{is_valid}
 use Rattle.mt_import_laws.specs.PrintedByKernel.{Style, SuitsKernel, default_line, fixed_line, fixed_lines, fixed_runs, kernel_lines, pair_line, pair_lines, range_type, run_line, variable_line}
-use Rattle.mt_import_laws.specs.PrintedByLinux.{SuitsLinux, calls_enabled, linux_lines, linux_style}
+use Rattle.mt_import_laws.specs.PrintedByLinux.{Log, SuitsLinux, calls_enabled, linux_lines, linux_style}
 use Rattle.mt_import_laws.specs.PrintedByXen.{SuitsXen, xen_lines, xen_style}
 use Rattle.mt_import_laws.proofs.Among.{all_map, among_map, join_among_first, join_among_second, map_among}
 use Rattle.mt_import_laws.proofs.Below.{passes}
@@ -684,11 +684,11 @@ xen_reads file supplied suits =
     either true = refl
     either false = refl
 
-pub linux_reads : (time : List ℕ) (since_4_3 : Bool) (file : RegisterFile) (supplied : Supplied) → SuitsLinux time since_4_3 file supplied → TableReadsInOrder Linux (linux_lines time since_4_3 file) supplied file
-linux_reads time since_4_3 file supplied suits =
+pub linux_reads : (log : Log) (file : RegisterFile) (supplied : Supplied) → SuitsLinux log file supplied → TableReadsInOrder Linux (linux_lines log file) supplied file
+linux_reads log file supplied suits =
     let narrow = suits.kernel.is_file.narrow in
-    reads Linux false (linux_style time since_4_3 file) (linux time suits.short suits.visible) (omega arith) (omega (arith, narrow)) (is_enabled file || calls_enabled since_4_3 file) file supplied suits.kernel
-    (called since_4_3) (not_called since_4_3) (λ is. swap (is_enabled file) (calls_enabled since_4_3 file) is)
+    reads Linux false (linux_style log file) (linux log.time suits.short suits.visible) (omega arith) (omega (arith, narrow)) (is_enabled file || calls_enabled log.since_4_3 file) file supplied suits.kernel
+    (called log.since_4_3) (not_called log.since_4_3) (λ is. swap (is_enabled file) (calls_enabled log.since_4_3 file) is)
   where
     called : (since : Bool) → calls_enabled since file ≡ true → is_fixed_enabled file ≡ true
     called true is = (and_parts (is_enabled file) (is_fixed_enabled file) is).1

@@ -23,7 +23,7 @@ use Rattle.mt_import_laws.specs.PrintedByLinux.{SuitsLinux}
 use Rattle.mt_import_laws.specs.PrintedByXen.{SuitsXen}
 use Rattle.mt_import_laws.proofs.Below.{passes}
 use Rattle.mt_import_laws.proofs.LineWords.{all_append}
-use Rattle.mt_import_laws.specs.WorkedPrinted.{fixed_names, model_names, no_time, ordinary_pc, some_fields, some_tails, width_36, width_and_pat, words_for_edk2, words_for_kernels, words_for_x86info, x86info_fixed, x86info_names, x86info_print}
+use Rattle.mt_import_laws.specs.WorkedPrinted.{early_log, fixed_names, model_names, ordinary_pc, some_fields, some_tails, width_36, width_and_pat, words_for_edk2, words_for_kernels, words_for_x86info, x86info_fixed, x86info_names, x86info_print}
 
 abbrev fits : RegisterFile → Register → Bool
 fits file register = nat_lt (value_of file register) 0x10000000000000000
@@ -205,7 +205,7 @@ kernel_suits = record {
 pub xen_suits : SuitsXen ordinary_pc words_for_kernels
 xen_suits = kernel_suits
 
-pub linux_suits : SuitsLinux no_time true ordinary_pc words_for_kernels
+pub linux_suits : SuitsLinux early_log ordinary_pc words_for_kernels
 linux_suits = record { short = lit≤ tt; visible = refl; kernel = kernel_suits }
 
 -- the last four of the eight pairs have no line

@@ -1,11 +1,12 @@
 -- An instance of the laws on what programs print: the registers of an ordinary PC with 8 GB (own).
-use Rattle.std.specs.Prelude.{ℕ, ◌+◌, ◌%◌, codes, List, [], ◌∷◌, ◌++◌, Some, None, slice_index_or}
+use Rattle.std.specs.Prelude.{ℕ, ◌+◌, ◌%◌, codes, true, List, [], ◌∷◌, ◌++◌, Some, None, slice_index_or}
 use Rattle.mt_regs.specs.declared.registers.Register.TheVariants.{PhysBase, PhysMask, FixedRange, Pat, DefaultType}
 use Rattle.mt_regs.specs.RegisterFile.{RegisterFile}
 use Rattle.mt_import.specs.Supplied.{Supplied, nothing_assumed}
 use Rattle.mt_import_laws.specs.PrintedByCoreboot.{Tails}
 use Rattle.mt_import_laws.specs.Printed.{Key}
 use Rattle.mt_import_laws.specs.PrintedByInteltool.{Names}
+use Rattle.mt_import_laws.specs.PrintedByLinux.{Log}
 use Rattle.mt_import_laws.specs.PrintedByX86info.{Print}
 
 -- examples/ordinary-pc.dump
@@ -90,9 +91,9 @@ width_and_pat = record { width = Some 36; registers = (0x277, 0x0007040600070406
 abbrev pub words_for_kernels : Supplied
 words_for_kernels = record { width = Some 36; registers = (0xfe, 0xd08) ∷ (0x277, 0x0007040600070406) ∷ []; assumed = nothing_assumed }
 
--- the time of a line of Linux's log
-abbrev pub no_time : List ℕ
-no_time = codes "0.000000"
+-- of Linux 6.1, before its clock runs
+abbrev pub early_log : Log
+early_log = record { time = codes "0.000000"; since_4_3 = true }
 
 -- `maxphyaddr=36 0fe=d08 277=7040600070406 208=0 .. 20f=0`
 abbrev pub words_for_edk2 : Supplied

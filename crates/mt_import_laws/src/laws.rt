@@ -1,7 +1,6 @@
 ghost use Rattle.std.specs.Prelude.{◌≡◌, ◌≢◌, ◌++◌, ℕ, List, [], Some, false, true};
 ghost use Rattle.mt_kinds.specs.Bits.{is_bit_set};
 ghost use Rattle.mt_ports.specs.declared.status.Status.TheVariants.{BadText, Done};
-ghost use Rattle.mt_text.specs.Text.{lines_of};
 ghost use Rattle.mt_text.specs.declared.place.Place.{Place};
 ghost use Rattle.mt_import.specs.declared.format.Choice.{Choice};
 ghost use Rattle.mt_import.specs.declared.format.Choice.TheVariants.{Auto, Only};
@@ -101,7 +100,7 @@ pub fn returns_change_nothing()
 
 /// If the first line of a log that tells a format tells this one, `auto` comes to the same dump, comments and status as this format.
 pub fn auto_takes_the_first_format()
-    ensures { (format : Format) (supplied : Supplied) (text : List ℕ) → TellsFirst format 1 (lines_of text)
+    ensures { (format : Format) (supplied : Supplied) (text : List ℕ) → TellsFirst format text
         → ComeToSame (log_told Auto supplied text) (log_told (Only format) supplied text) }
 {}
 

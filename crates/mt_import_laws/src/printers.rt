@@ -5,7 +5,7 @@ ghost use Rattle.mt_import.specs.declared.format.Choice.TheVariants.{Only};
 ghost use Rattle.mt_import.specs.declared.format.Format.TheVariants.{Coreboot, Edk2, Inteltool, Linux, Rdmsr, X86info, Xen};
 ghost use Rattle.mt_import.specs.Import.{log_told};
 ghost use Rattle.mt_import.specs.Supplied.{Supplied, command_of};
-ghost use Rattle.mt_import_laws.specs.FirstLine.{TellsFirst};
+ghost use Rattle.mt_import_laws.specs.FirstLine.{LinesTellFirst};
 ghost use Rattle.mt_import_laws.specs.Printed.{ReadsBack, TableReadsBack, TableReadsInOrder};
 ghost use Rattle.mt_import_laws.specs.PrintedByCoreboot.{SuitsCoreboot, Tails, coreboot_lines, line_of as coreboot_line};
 ghost use Rattle.mt_import_laws.specs.PrintedByEdk2.{SuitsEdk2, edk2_lines, pair_line};
@@ -13,9 +13,9 @@ ghost use Rattle.mt_import_laws.specs.PrintedByInteltool.{Names, SuitsInteltool,
 ghost use Rattle.mt_import_laws.specs.PrintedByRdmsr.{SuitsRdmsr, call_line, hex_text, rdmsr_lines, rdmsr_text};
 ghost use Rattle.mt_import_laws.specs.PrintedByX86info.{Print, SuitsX86info, line_of as x86info_line, size_line, x86info_lines};
 ghost use Rattle.mt_import_laws.specs.PrintedByKernel.{pair_line as kernel_pair_line, run_line};
-ghost use Rattle.mt_import_laws.specs.PrintedByLinux.{SuitsLinux, linux_lines, linux_style};
+ghost use Rattle.mt_import_laws.specs.PrintedByLinux.{Log, SuitsLinux, linux_lines, linux_style};
 ghost use Rattle.mt_import_laws.specs.PrintedByXen.{SuitsXen, xen_lines, xen_style};
-ghost use Rattle.mt_import_laws.specs.WorkedPrinted.{model_names, no_time, ordinary_pc, some_tails, width_36, width_and_pat, words_for_edk2, words_for_kernels, words_for_x86info, x86info_print};
+ghost use Rattle.mt_import_laws.specs.WorkedPrinted.{early_log, model_names, ordinary_pc, some_tails, width_36, width_and_pat, words_for_edk2, words_for_kernels, words_for_x86info, x86info_print};
 
 /// What a shell prints under `set -x` that calls rdmsr for each register of a file reads back as the file, if words supply its width.
 pub fn what_rdmsr_prints_reads_back()
@@ -59,20 +59,19 @@ pub fn what_xen_prints_reads_back()
 /// What Linux prints of a register file reads back as the file, if words supply the same, and IA32_MTRR_DEF_TYPE also if neither E is set
 /// nor fixed ranges are called enabled.
 pub fn what_linux_prints_reads_back()
-    ensures { (time : List ℕ) (since_4_3 : Bool) (file : RegisterFile) (supplied : Supplied) → SuitsLinux time since_4_3 file supplied
-        → TableReadsInOrder Linux (linux_lines time since_4_3 file) supplied file }
+    ensures { (log : Log) (file : RegisterFile) (supplied : Supplied) → SuitsLinux log file supplied → TableReadsInOrder Linux (linux_lines log file) supplied file }
 {}
 
 /// What each program prints of an ordinary PC is an instance of `auto_takes_the_first_format`.
 pub fn worked_formats()
-    ensures rdmsr { TellsFirst Rdmsr 1 (rdmsr_lines ordinary_pc) }
-    ensures inteltool { TellsFirst Inteltool 1 (inteltool_lines model_names ordinary_pc) }
-    ensures x86info { TellsFirst X86info 1 (x86info_lines x86info_print ordinary_pc) }
-    ensures coreboot { TellsFirst Coreboot 1 (coreboot_lines true some_tails ordinary_pc) }
-    ensures edk2 { TellsFirst Edk2 1 (edk2_lines ordinary_pc) }
-    ensures xen { TellsFirst Xen 1 (xen_lines ordinary_pc) }
-    ensures linux { TellsFirst Linux 1 (linux_lines no_time true ordinary_pc) }
-    ensures other { TellsFirst Linux 1 (xen_lines ordinary_pc) → ⊥ }
+    ensures rdmsr { LinesTellFirst Rdmsr 1 (rdmsr_lines ordinary_pc) }
+    ensures inteltool { LinesTellFirst Inteltool 1 (inteltool_lines model_names ordinary_pc) }
+    ensures x86info { LinesTellFirst X86info 1 (x86info_lines x86info_print ordinary_pc) }
+    ensures coreboot { LinesTellFirst Coreboot 1 (coreboot_lines true some_tails ordinary_pc) }
+    ensures edk2 { LinesTellFirst Edk2 1 (edk2_lines ordinary_pc) }
+    ensures xen { LinesTellFirst Xen 1 (xen_lines ordinary_pc) }
+    ensures linux { LinesTellFirst Linux 1 (linux_lines early_log ordinary_pc) }
+    ensures other { LinesTellFirst Linux 1 (xen_lines ordinary_pc) → ⊥ }
 {}
 
 /// The registers of an ordinary PC are an instance for each program. The words of four are command lines, and a line of each is as the
@@ -84,7 +83,7 @@ pub fn worked_prints()
     ensures edk2 { SuitsEdk2 ordinary_pc words_for_edk2 }
     ensures x86info { SuitsX86info x86info_print ordinary_pc words_for_x86info }
     ensures xen { SuitsXen ordinary_pc words_for_kernels }
-    ensures linux { SuitsLinux no_time true ordinary_pc words_for_kernels }
+    ensures linux { SuitsLinux early_log ordinary_pc words_for_kernels }
     ensures words { command_of (codes "inteltool" ∷ codes "maxphyaddr=36" ∷ []) ≡ Some (Only Inteltool, width_36) }
     ensures more_words { command_of (codes "coreboot" ∷ codes "maxphyaddr=36" ∷ codes "277=7040600070406" ∷ []) ≡ Some (Only Coreboot, width_and_pat) }
     ensures words_too { command_of (codes "x86info" ∷ codes "268=505050505050505" ∷ codes "277=7040600070406" ∷ []) ≡ Some (Only X86info, words_for_x86info) }
@@ -95,7 +94,7 @@ pub fn worked_prints()
         ≡ codes "MTRRphysMask3 (0x207): 0x0000000fe0000800 (physmask field:0xfe0000 valid flag: 1)" }
     ensures sizes_by_x86info { size_line 36 48 ≡ codes "Address sizes : 36 bits physical, 48 bits virtual" }
     ensures by_xen { run_line (xen_style ordinary_pc) ordinary_pc (24, 88) ≡ codes "(XEN)   c0000-fffff write-protect" }
-    ensures by_linux { kernel_pair_line (linux_style no_time true ordinary_pc) 3 (pair_at ordinary_pc.pairs 3) true
+    ensures by_linux { kernel_pair_line (linux_style early_log ordinary_pc) 3 (pair_at ordinary_pc.pairs 3) true
         ≡ codes "[    0.000000]   3 base 0E0000000 mask FE0000000 uncachable" }
     ensures by_coreboot { coreboot_line true some_tails ordinary_pc (Some (PhysMask 2))
         ≡ codes "[DEBUG]  0x0000000fe0000800: PHYMASK2: Length  = 0x0000000020000000, Valid" }
