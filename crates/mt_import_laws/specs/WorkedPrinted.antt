@@ -95,6 +95,44 @@ words_for_kernels = record { width = Some 36; registers = (0xfe, 0xd08) ∷ (0x2
 abbrev pub early_log : Log
 early_log = record { time = codes "0.000000"; since_4_3 = true }
 
+-- examples/logs/ordinary-pc.xen.log
+abbrev pub xen_log : List (List ℕ)
+xen_log =
+    codes "(XEN) MTRR default type: uncachable"
+    ∷ codes "(XEN) MTRR fixed ranges enabled:"
+    ∷ codes "(XEN)   00000-9ffff write-back"
+    ∷ codes "(XEN)   a0000-bffff uncachable"
+    ∷ codes "(XEN)   c0000-fffff write-protect"
+    ∷ codes "(XEN) MTRR variable ranges enabled:"
+    ∷ codes "(XEN)   0 base 000000000 mask f00000000 write-back"
+    ∷ codes "(XEN)   1 base 100000000 mask f00000000 write-back"
+    ∷ codes "(XEN)   2 base 200000000 mask fe0000000 write-back"
+    ∷ codes "(XEN)   3 base 0e0000000 mask fe0000000 uncachable"
+    ∷ codes "(XEN)   4 disabled"
+    ∷ codes "(XEN)   5 disabled"
+    ∷ codes "(XEN)   6 disabled"
+    ∷ codes "(XEN)   7 disabled"
+    ∷ []
+
+-- the table of examples/logs/ordinary-pc.linux.log
+abbrev pub linux_log : List (List ℕ)
+linux_log =
+    codes "[    0.000000] MTRR default type: uncachable"
+    ∷ codes "[    0.000000] MTRR fixed ranges enabled:"
+    ∷ codes "[    0.000000]   00000-9FFFF write-back"
+    ∷ codes "[    0.000000]   A0000-BFFFF uncachable"
+    ∷ codes "[    0.000000]   C0000-FFFFF write-protect"
+    ∷ codes "[    0.000000] MTRR variable ranges enabled:"
+    ∷ codes "[    0.000000]   0 base 000000000 mask F00000000 write-back"
+    ∷ codes "[    0.000000]   1 base 100000000 mask F00000000 write-back"
+    ∷ codes "[    0.000000]   2 base 200000000 mask FE0000000 write-back"
+    ∷ codes "[    0.000000]   3 base 0E0000000 mask FE0000000 uncachable"
+    ∷ codes "[    0.000000]   4 disabled"
+    ∷ codes "[    0.000000]   5 disabled"
+    ∷ codes "[    0.000000]   6 disabled"
+    ∷ codes "[    0.000000]   7 disabled"
+    ∷ []
+
 -- `maxphyaddr=36 0fe=d08 277=7040600070406 208=0 .. 20f=0`
 abbrev pub words_for_edk2 : Supplied
 words_for_edk2 = record {

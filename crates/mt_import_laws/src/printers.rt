@@ -12,10 +12,9 @@ ghost use Rattle.mt_import_laws.specs.PrintedByEdk2.{SuitsEdk2, edk2_lines, pair
 ghost use Rattle.mt_import_laws.specs.PrintedByInteltool.{Names, SuitsInteltool, inteltool_lines, line_of as inteltool_line};
 ghost use Rattle.mt_import_laws.specs.PrintedByRdmsr.{SuitsRdmsr, call_line, hex_text, rdmsr_lines, rdmsr_text};
 ghost use Rattle.mt_import_laws.specs.PrintedByX86info.{Print, SuitsX86info, line_of as x86info_line, size_line, x86info_lines};
-ghost use Rattle.mt_import_laws.specs.PrintedByKernel.{pair_line as kernel_pair_line, run_line};
-ghost use Rattle.mt_import_laws.specs.PrintedByLinux.{Log, SuitsLinux, linux_lines, linux_style};
-ghost use Rattle.mt_import_laws.specs.PrintedByXen.{SuitsXen, xen_lines, xen_style};
-ghost use Rattle.mt_import_laws.specs.WorkedPrinted.{early_log, model_names, ordinary_pc, some_tails, width_36, width_and_pat, words_for_edk2, words_for_kernels, words_for_x86info, x86info_print};
+ghost use Rattle.mt_import_laws.specs.PrintedByLinux.{Log, SuitsLinux, linux_lines};
+ghost use Rattle.mt_import_laws.specs.PrintedByXen.{SuitsXen, xen_lines};
+ghost use Rattle.mt_import_laws.specs.WorkedPrinted.{early_log, linux_log, model_names, ordinary_pc, some_tails, width_36, width_and_pat, words_for_edk2, words_for_kernels, words_for_x86info, x86info_print, xen_log};
 
 /// What a shell prints under `set -x` that calls rdmsr for each register of a file reads back as the file, if words supply its width.
 pub fn what_rdmsr_prints_reads_back()
@@ -74,8 +73,8 @@ pub fn worked_formats()
     ensures other { LinesTellFirst Linux 1 (xen_lines ordinary_pc) → ⊥ }
 {}
 
-/// The registers of an ordinary PC are an instance for each program. The words of four are command lines, and a line of each is as the
-/// program printed it.
+/// The registers of an ordinary PC are an instance for each program. The words of four are command lines. A line of each is as the
+/// program printed it, and the whole table of Xen and of Linux.
 pub fn worked_prints()
     ensures rdmsr { SuitsRdmsr ordinary_pc width_36 }
     ensures inteltool { SuitsInteltool model_names ordinary_pc width_36 }
@@ -93,9 +92,8 @@ pub fn worked_prints()
     ensures by_x86info { x86info_line x86info_print ordinary_pc (Some (PhysMask 3))
         ≡ codes "MTRRphysMask3 (0x207): 0x0000000fe0000800 (physmask field:0xfe0000 valid flag: 1)" }
     ensures sizes_by_x86info { size_line 36 48 ≡ codes "Address sizes : 36 bits physical, 48 bits virtual" }
-    ensures by_xen { run_line (xen_style ordinary_pc) ordinary_pc (24, 88) ≡ codes "(XEN)   c0000-fffff write-protect" }
-    ensures by_linux { kernel_pair_line (linux_style early_log ordinary_pc) 3 (pair_at ordinary_pc.pairs 3) true
-        ≡ codes "[    0.000000]   3 base 0E0000000 mask FE0000000 uncachable" }
+    ensures by_xen { xen_lines ordinary_pc ≡ xen_log }
+    ensures by_linux { linux_lines early_log ordinary_pc ≡ linux_log }
     ensures by_coreboot { coreboot_line true some_tails ordinary_pc (Some (PhysMask 2))
         ≡ codes "[DEBUG]  0x0000000fe0000800: PHYMASK2: Length  = 0x0000000020000000, Valid" }
     ensures by_edk2 { pair_line 3 (pair_at ordinary_pc.pairs 3) ≡ codes "Variable MTRR[03]: Base=00000000E0000000 Mask=0000000FE0000800" }
