@@ -5,7 +5,7 @@ use Rattle.std.specs.List.{list_all}
 use Rattle.std.proofs.lemmas.Bool.Decides.{nat_tests}
 use Rattle.std.proofs.lemmas.List.{append_assoc}
 use Rattle.mt_regs.specs.RegisterFile.{RegisterFile, is_enabled, low_byte}
-use Rattle.mt_text.specs.Text.{is_word_byte, words_of}
+use Rattle.mt_text.specs.Text.{is_too_long, is_word_byte, words_of}
 use Rattle.mt_text.specs.Number.{decimal_number, hex_number}
 use Rattle.mt_text.specs.Words.{place_of, text_of}
 use Rattle.mt_text.specs.declared.place.Place.{Place}
@@ -19,7 +19,7 @@ use Rattle.mt_import.specs.LineWords.{behind_log, behind_stamp, head_end, is_clo
 use Rattle.mt_import.specs.Linux.{is_map, linux_said, linux_words_said}
 use Rattle.mt_import.specs.Pieces.{is_text, number_in, shown_as, shown_bits, value_at}
 use Rattle.mt_import.specs.Readings.{one_shown, two_shown}
-use Rattle.mt_import.specs.Shown.{said_of, said_or_sizes}
+use Rattle.mt_import.specs.Shown.{format_told, is_telling, said_of, said_or_sizes, tells}
 use Rattle.mt_import.specs.Xen.{xen_said}
 use Rattle.mt_import_laws.specs.PrintedByInteltool.{is_name_byte}
 use Rattle.mt_import_laws.specs.PrintedByKernel.{Style, default_line, fixed_line, five_digits, has_name, page_text, pair_line, range_start, range_type, run_line, switch_text, type_name, variable_line}
@@ -43,6 +43,8 @@ pub record IsKernel (format : Format) (alone : Bool) (front : List ℕ) : Type 0
   pub reads : (number gap : ℕ) (first : List ℕ) (others : List (ℕ × List ℕ)) → GoOn first others → AreWords ((gap, first) ∷ others) → are_apart others ≡ true → size_of ((gap, first) ∷ others) ≤ 1000
       → said_of format number (front ++ line_with ((gap, first) ∷ others) [])
       ≡ said_or_sizes (kernel_said alone number (placed offset ((suc gap, first) ∷ others) [])) number (front ++ line_with ((gap, first) ∷ others) [])
+  pub told : (number gap : ℕ) (first : List ℕ) (others : List (ℕ × List ℕ)) → GoOn first others → AreWords ((gap, first) ∷ others) → are_apart others ≡ true → size_of ((gap, first) ∷ others) ≤ 1000
+      → is_telling (kernel_said alone number (placed offset ((suc gap, first) ∷ others) [])) ≡ true → format_told number (front ++ line_with ((gap, first) ∷ others) []) ≡ Some format
 
 within_limit : (n : ℕ) → n ≤ 2000 → nat_lt 4096 n ≡ false
 within_limit n le = grind (arith, nat_tests, le)
@@ -55,23 +57,34 @@ more_apart gap first others apart = rw (some_gap gap) apart
 
 -- ---- Xen
 
+module _ (number gap : ℕ) (first : List ℕ) (others : List (ℕ × List ℕ)) (go : GoOn first others) (are : AreWords ((gap, first) ∷ others)) (apart : are_apart others ≡ true) (size : size_of ((gap, first) ∷ others) ≤ 1000) where
+  abbrev xen_line : List ℕ
+  xen_line = codes "(XEN) " ++ line_with ((gap, first) ∷ others) []
+
+  xen_short : is_too_long xen_line ≡ false
+  xen_short =
+      let long = length_of_pieces ((0, codes "(XEN)") ∷ (suc gap, first) ∷ others) [] in
+      within_limit (length xen_line) (omega (arith, long, size))
+
+  xen_own : xen_said number xen_line ≡ kernel_said true number (placed 5 ((suc gap, first) ∷ others) [])
+  xen_own =
+      let words : words_of xen_line ≡ placed 0 ((0, codes "(XEN)") ∷ (suc gap, first) ∷ others) [] =
+      words_of_pieces (0, codes "(XEN)") ((suc gap, first) ∷ others) [] ((lit≤ tt, refl, refl), are) (more_apart gap first others apart) refl refl in
+      let stamp : behind_stamp 1 (placed 0 ((0, codes "(XEN)") ∷ (suc gap, first) ∷ others) []) ≡ 1 = rw go.start.opened refl in
+      ap (λ ws. if is_text (codes "(XEN)") (text_of ws 0) then kernel_said true number (drop (behind_stamp 1 ws) ws) else Nothing) words
+      ∙ ap (λ at. kernel_said true number (drop at (placed 0 ((0, codes "(XEN)") ∷ (suc gap, first) ∷ others) []))) stamp
+
+  xen_reads : said_of Xen number xen_line ≡ said_or_sizes (kernel_said true number (placed 5 ((suc gap, first) ∷ others) [])) number xen_line
+  xen_reads = rw xen_short (ap (λ s. said_or_sizes s number xen_line) xen_own)
+
+  xen_told : is_telling (kernel_said true number (placed 5 ((suc gap, first) ∷ others) [])) ≡ true → format_told number xen_line ≡ Some Xen
+  unfolding tells
+  xen_told telling =
+      let own : tells Xen number xen_line ≡ true = ap is_telling xen_own ∙ telling in
+      rw (xen_short, own) refl
+
 pub xen : IsKernel Xen true (codes "(XEN) ")
-xen = record { offset = 5; plain = refl; reads = reads }
-  where
-    reads : (number gap : ℕ) (first : List ℕ) (others : List (ℕ × List ℕ)) → GoOn first others → AreWords ((gap, first) ∷ others) → are_apart others ≡ true → size_of ((gap, first) ∷ others) ≤ 1000
-        → said_of Xen number (codes "(XEN) " ++ line_with ((gap, first) ∷ others) [])
-        ≡ said_or_sizes (kernel_said true number (placed 5 ((suc gap, first) ∷ others) [])) number (codes "(XEN) " ++ line_with ((gap, first) ∷ others) [])
-    reads number gap first others go are apart size =
-        let line : List ℕ = line_with ((0, codes "(XEN)") ∷ (suc gap, first) ∷ others) [] in
-        let long = length_of_pieces ((0, codes "(XEN)") ∷ (suc gap, first) ∷ others) [] in
-        let short : nat_lt 4096 (length line) ≡ false = within_limit (length line) (omega (arith, long, size)) in
-        let words : words_of line ≡ placed 0 ((0, codes "(XEN)") ∷ (suc gap, first) ∷ others) [] =
-        words_of_pieces (0, codes "(XEN)") ((suc gap, first) ∷ others) [] ((lit≤ tt, refl, refl), are) (more_apart gap first others apart) refl refl in
-        let stamp : behind_stamp 1 (placed 0 ((0, codes "(XEN)") ∷ (suc gap, first) ∷ others) []) ≡ 1 = rw go.start.opened refl in
-        let said : xen_said number line ≡ kernel_said true number (placed 5 ((suc gap, first) ∷ others) []) =
-        ap (λ ws. if is_text (codes "(XEN)") (text_of ws 0) then kernel_said true number (drop (behind_stamp 1 ws) ws) else Nothing) words
-        ∙ ap (λ at. kernel_said true number (drop at (placed 0 ((0, codes "(XEN)") ∷ (suc gap, first) ∷ others) []))) stamp in
-        rw short (ap (λ s. said_or_sizes s number line) said)
+xen = record { offset = 5; plain = refl; reads = xen_reads; told = xen_told }
 
 -- ---- Linux
 
@@ -116,45 +129,64 @@ module _ (time : List ℕ) (few : length time ≤ 20) (visible : list_all is_nam
   no_log : (a b : Bool) → a ≡ false → b ≡ false → ◌≡◌ {A = ℕ} (if a then 3 else if b then 5 else 0) 0
   no_log a b one two = rw (one, two) refl
 
+  no_map : (size : ℕ) → size ≤ 6 → (size == 16) ≡ false
+  no_map size le = grind (arith, nat_tests, le)
+
+  by_tests : (x86 pat reg region map : Bool) (a b c d e f : Said) → x86 ≡ false → pat ≡ false → reg ≡ false → region ≡ false → map ≡ false
+      → (if x86 then a else if pat then b else if reg then c else if region then d else if map then e else f) ≡ f
+  by_tests x86 pat reg region map a b c d e f one two three four five = rw (one, two, three, four, five) refl
+
+  kernel_words : (number at offset : ℕ) (first : List ℕ) (others : List (ℕ × List ℕ)) → GoOn first others
+      → linux_words_said number ((at, first) ∷ placed offset others []) ≡ kernel_said false number ((at, first) ∷ placed offset others [])
+  kernel_words number at offset first others go =
+      let words : List (ℕ × List ℕ) = (at, first) ∷ placed offset others [] in
+      let size : length words ≤ 6 = let long = placed_long offset others in let few_words = go.few in omega (arith, long, few_words) in
+      let map : is_map words ≡ false = rw (no_map (length words) size) refl in
+      by_tests _ _ _ _ _ _ _ _ _ _ _ go.start.x86 go.start.pat go.start.reg go.start.region map
+
+  -- where the words behind the stamp begin
+  abbrev behind_time : ℕ
+  behind_time = 1 + 4 + length (time ++ codes "]")
+
+  module _ (number gap : ℕ) (first : List ℕ) (others : List (ℕ × List ℕ)) (go : GoOn first others) (are : AreWords ((gap, first) ∷ others)) (apart : are_apart others ≡ true) (size : size_of ((gap, first) ∷ others) ≤ 1000) where
+    abbrev linux_line : List ℕ
+    linux_line = linux_front ++ line_with ((gap, first) ∷ others) []
+
+    abbrev all_words : List (ℕ × List ℕ)
+    all_words = placed 0 (stamped gap first others) []
+
+    linux_short : is_too_long linux_line ≡ false
+    linux_short =
+        let long = ap length (is_stamped gap first others) ∙ length_of_pieces (stamped gap first others) [] in
+        let one = length-append time (codes "]") in
+        within_limit (length linux_line) (omega (arith, long, size, one, few))
+
+    linux_words : words_of linux_line ≡ all_words
+    linux_words =
+        ap words_of (is_stamped gap first others)
+        ∙ words_of_pieces (0, codes "[") ((4, time ++ codes "]") ∷ (suc gap, first) ∷ others) [] ((lit≤ tt, refl, refl), (time_word, are)) (more_apart gap first others apart) refl refl
+
+    linux_own : linux_said number linux_line ≡ kernel_said false number (placed behind_time ((suc gap, first) ∷ others) [])
+    linux_own =
+        let log : behind_log all_words ≡ 0 =
+        no_log (is_text (codes "kernel:") first) (is_text (codes "kernel:") (text_of (placed (behind_time + suc gap + length first) others []) 1)) go.start.kernel (go.third (behind_time + suc gap + length first)) in
+        let stamp : head_end all_words ≡ 2 = ap (λ at. behind_stamp at all_words) log ∙ rw (closed time) refl in
+        ap (λ w. linux_words_said number (drop (head_end w) w)) linux_words
+        ∙ ap (λ at. linux_words_said number (drop at all_words)) stamp
+        ∙ kernel_words number (behind_time + suc gap) (behind_time + suc gap + length first) first others go
+
+    linux_reads : said_of Linux number linux_line ≡ said_or_sizes (kernel_said false number (placed behind_time ((suc gap, first) ∷ others) [])) number linux_line
+    linux_reads = rw linux_short (ap (λ s. said_or_sizes s number linux_line) linux_own)
+
+    linux_told : is_telling (kernel_said false number (placed behind_time ((suc gap, first) ∷ others) [])) ≡ true → format_told number linux_line ≡ Some Linux
+    unfolding tells
+    linux_told telling =
+        let other : tells Xen number linux_line ≡ false = ap (λ ws. is_telling (if is_text (codes "(XEN)") (text_of ws 0) then kernel_said true number (drop (behind_stamp 1 ws) ws) else Nothing)) linux_words in
+        let own : tells Linux number linux_line ≡ true = ap is_telling linux_own ∙ telling in
+        rw (linux_short, other, own) refl
+
   pub linux : IsKernel Linux false linux_front
-  linux = record { offset = 1 + 4 + length (time ++ codes "]"); plain = front_plain; reads = reads }
-    where
-      no_map : (size : ℕ) → size ≤ 6 → (size == 16) ≡ false
-      no_map size le = grind (arith, nat_tests, le)
-
-      by_tests : (x86 pat reg region map : Bool) (a b c d e f : Said) → x86 ≡ false → pat ≡ false → reg ≡ false → region ≡ false → map ≡ false
-          → (if x86 then a else if pat then b else if reg then c else if region then d else if map then e else f) ≡ f
-      by_tests x86 pat reg region map a b c d e f one two three four five = rw (one, two, three, four, five) refl
-
-      kernel_words : (number at offset : ℕ) (first : List ℕ) (others : List (ℕ × List ℕ)) → GoOn first others
-          → linux_words_said number ((at, first) ∷ placed offset others []) ≡ kernel_said false number ((at, first) ∷ placed offset others [])
-      kernel_words number at offset first others go =
-          let words : List (ℕ × List ℕ) = (at, first) ∷ placed offset others [] in
-          let size : length words ≤ 6 = let long = placed_long offset others in let few_words = go.few in omega (arith, long, few_words) in
-          let map : is_map words ≡ false = rw (no_map (length words) size) refl in
-          by_tests _ _ _ _ _ _ _ _ _ _ _ go.start.x86 go.start.pat go.start.reg go.start.region map
-
-      reads : (number gap : ℕ) (first : List ℕ) (others : List (ℕ × List ℕ)) → GoOn first others → AreWords ((gap, first) ∷ others) → are_apart others ≡ true → size_of ((gap, first) ∷ others) ≤ 1000
-          → said_of Linux number (linux_front ++ line_with ((gap, first) ∷ others) [])
-          ≡ said_or_sizes (kernel_said false number (placed (1 + 4 + length (time ++ codes "]")) ((suc gap, first) ∷ others) [])) number (linux_front ++ line_with ((gap, first) ∷ others) [])
-      reads number gap first others go are apart size =
-          let line : List ℕ = linux_front ++ line_with ((gap, first) ∷ others) [] in
-          let ws : List (ℕ × List ℕ) = placed 0 (stamped gap first others) [] in
-          let same = is_stamped gap first others in
-          let long = ap length same ∙ length_of_pieces (stamped gap first others) [] in
-          let one = length-append time (codes "]") in
-          let short : nat_lt 4096 (length line) ≡ false = within_limit (length line) (omega (arith, long, size, one, few)) in
-          let words : words_of line ≡ ws =
-          ap words_of same
-          ∙ words_of_pieces (0, codes "[") ((4, time ++ codes "]") ∷ (suc gap, first) ∷ others) [] ((lit≤ tt, refl, refl), (time_word, are)) (more_apart gap first others apart) refl refl in
-          let log : behind_log ws ≡ 0 = no_log (is_text (codes "kernel:") first) (is_text (codes "kernel:") (text_of (placed (1 + 4 + length (time ++ codes "]") + suc gap + length first) others []) 1))
-          go.start.kernel (go.third (1 + 4 + length (time ++ codes "]") + suc gap + length first)) in
-          let stamp : head_end ws ≡ 2 = ap (λ at. behind_stamp at ws) log ∙ rw (closed time) refl in
-          let said : linux_said number line ≡ kernel_said false number (placed (1 + 4 + length (time ++ codes "]")) ((suc gap, first) ∷ others) []) =
-          ap (λ w. linux_words_said number (drop (head_end w) w)) words
-          ∙ ap (λ at. linux_words_said number (drop at ws)) stamp
-          ∙ kernel_words number (1 + 4 + length (time ++ codes "]") + suc gap) (1 + 4 + length (time ++ codes "]") + suc gap + length first) first others go in
-          rw short (ap (λ s. said_or_sizes s number line) said)
+  linux = record { offset = behind_time; plain = front_plain; reads = linux_reads; told = linux_told }
 
 -- ---- the words of a table's lines
 
@@ -215,6 +247,13 @@ module _ (format : Format) (alone : Bool) (style : Style) (kernel : IsKernel for
         let short = (type_names (low_byte file.default_type) named).short in
         line_said number 0 (codes "MTRR") default_others (codes "MTRR default type: " ++ name) _ is_default (record { start = mtrr_start; third = λ offset. refl; few = lit≤ tt }) default_words refl (omega (arith, short))
         (ap (λ code. Begins (one_shown (default_shown code (place_of number (there 0 (codes "MTRR") default_others) 3)))) (type_names (low_byte file.default_type) named).read) (λ line. refl)
+
+    -- the line tells the format
+    pub default_told : (number : ℕ) → format_told number (default_line style file) ≡ Some format
+    default_told number =
+        let short = (type_names (low_byte file.default_type) named).short in
+        ap (λ text. format_told number (style.front ++ text)) is_default
+        ∙ kernel.told number 0 (codes "MTRR") default_others (record { start = mtrr_start; third = λ offset. refl; few = lit≤ tt }) default_words refl (omega (arith, short)) refl
 
   abbrev switch_others : List ℕ → Bool → List (ℕ × List ℕ)
   switch_others kind switch = (1, kind) ∷ (1, codes "ranges") ∷ (1, switch_text switch) ∷ []

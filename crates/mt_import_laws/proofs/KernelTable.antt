@@ -28,14 +28,16 @@ use Rattle.mt_import.specs.Supplied.{Supplied, supplied_value}
 use Rattle.mt_import.specs.Values.{is_pair_number, mask_of}
 use Rattle.mt_import.specs.Outcome.{nothing_seen, outcome, slot_shown}
 use Rattle.mt_import_laws.specs.Origins.{IsAmong}
+use Rattle.mt_import_laws.specs.FirstLine.{LinesTellFirst}
 use Rattle.mt_import_laws.specs.Printed.{Key, ReadsBack, TableReadsInOrder, Weaves, number_at, value_in}
 use Rattle.mt_import_laws.specs.PrintedByEdk2.{is_valid}
 use Rattle.mt_import_laws.specs.PrintedByKernel.{Style, SuitsKernel, default_line, fixed_line, fixed_lines, fixed_runs, kernel_lines, pair_line, pair_lines, range_type, run_line, variable_line}
 use Rattle.mt_import_laws.specs.PrintedByLinux.{Log, SuitsLinux, calls_enabled, linux_lines, linux_style}
 use Rattle.mt_import_laws.specs.PrintedByXen.{SuitsXen, xen_lines, xen_style}
 use Rattle.mt_import_laws.proofs.Among.{all_map, among_map, join_among_first, join_among_second, map_among}
+use Rattle.mt_import_laws.proofs.AutoReads.{text_back}
 use Rattle.mt_import_laws.proofs.Below.{passes}
-use Rattle.mt_import_laws.proofs.KernelLines.{IsKernel, linux, xen, base_place, default_place, default_plain, default_said, fixed_line_said, fixed_place, fixed_plain, mask_place, off_line_said, off_place, off_plain, pair_line_said, pair_plain, run_line_said, run_place, run_plain, variable_line_said, variable_place, variable_plain}
+use Rattle.mt_import_laws.proofs.KernelLines.{IsKernel, linux, xen, base_place, default_place, default_plain, default_said, default_told, fixed_line_said, fixed_place, fixed_plain, mask_place, off_line_said, off_place, off_plain, pair_line_said, pair_plain, run_line_said, run_place, run_plain, variable_line_said, variable_place, variable_plain}
 use Rattle.mt_import_laws.proofs.KernelParts.{bit_clear, bit_set, bit_shown, both_flags, default_part, flag_part, kernel_bits, run_true, tells_default}
 use Rattle.mt_import_laws.proofs.KernelWeave.{IsGood, IsWithin, Leads, ShowsTrue, by_line, by_next, by_shows, ends_good, good_join, keeps, line_good, shows_good, weaves_among, weaves_itself}
 use Rattle.mt_import_laws.proofs.KernelRanges.{IsRun, are_runs, marks, runs_cover}
@@ -404,7 +406,7 @@ module _ (format : Format) (alone : Bool) (style : Style) (kernel : IsKernel for
       let of = of_pair 0 file.pairs own_pairs line among in
       subst IsPlainLine (sym of.is) (pair_line_plain of.n of.within (is_valid (pair_at file.pairs of.n)) refl))
 
-  table_plain : AllByRecursion IsPlainLine all_lines
+  table_plain : AllByRecursion (λ line. list_all is_plain line ≡ true) all_lines
   table_plain = (
     default_plain format alone style kernel file suits.default_named,
     all_join IsPlainLine (fixed_lines style file (has_fixed file)) tail_lines (fixed_lines_plain (has_fixed file) refl) (variable_plain format alone style kernel file, pair_lines_plain),
@@ -664,11 +666,15 @@ module _ (format : Format) (alone : Bool) (style : Style) (kernel : IsKernel for
     pub facts_back : ReadsBack (outcome false supplied (nothing_seen (Some format)) facts) file
     facts_back = values_back file prints format supplied suits.is_file suits.has_words facts facts_good.sound suits.agrees (inl suits.width) each_back
 
+  first_told : LinesTellFirst format 1 all_lines
+  first_told = inl (default_told format alone style kernel file suits.default_named 1)
+
   pub reads : TableReadsInOrder format (kernel_lines style file) supplied file
   reads = record {
     alone =
         let same : shown (Some format) (ended all_lines) ≡ facts_from (starts (Some format)) 1 all_lines = ap (facts_from (starts (Some format)) 1) (lines_back all_lines table_plain) in
-        subst (λ fs. ReadsBack (outcome false supplied (nothing_seen (Some format)) fs) file) (sym same) (facts_back all_lines (weaves_itself format file all_lines));
+        text_back format supplied file all_lines table_plain first_told
+        (subst (λ fs. ReadsBack (outcome false supplied (nothing_seen (Some format)) fs) file) (sym same) (facts_back all_lines (weaves_itself format file all_lines)));
     among = λ text weaves. facts_back (lines_of text) weaves;
   }
 

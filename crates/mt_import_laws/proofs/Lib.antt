@@ -24,6 +24,7 @@ mod Whole
 mod TableLines
 mod Back
 mod PrintedBack
+mod AutoReads
 mod KeyLines
 mod InteltoolLines
 mod InteltoolTable

@@ -1,6 +1,7 @@
 -- What a shell prints that calls rdmsr for each register reads back.
 use Rattle.std.proofs.Common.{◌≡◌, ◌+◌, ◌^◌, ◌<◌, ℕ, true, false, List, [], ◌∷◌, ◌++◌, Some, refl, sym, ap, subst, inl, inr}
 use Rattle.std.specs.List.{AllByRecursion, list_all}
+use Rattle.std.specs.Fmt.{digits}
 use Rattle.mt_text.specs.declared.place.Place.{Place}
 use Rattle.mt_text.proofs.Plain.{is_plain}
 use Rattle.mt_regs.specs.RegisterFile.{IsRegisterFile, RegisterFile}
@@ -11,14 +12,16 @@ use Rattle.mt_import.specs.declared.reading.Context.{Context}
 use Rattle.mt_import.specs.declared.shape.Announced.{Announced}
 use Rattle.mt_import.specs.Pieces.{shown_as}
 use Rattle.mt_import.specs.Readings.{Fact, is_line, shown_facts, starts}
-use Rattle.mt_import.specs.Shown.{context_behind, facts_from, facts_of_line, shown}
+use Rattle.mt_import.specs.Shown.{context_behind, facts_from, facts_of_line, shown, tells}
 use Rattle.mt_import.specs.Slot.{all_bits}
 use Rattle.mt_import.specs.Supplied.{Supplied}
 use Rattle.mt_import.specs.Import.{log_told}
 use Rattle.mt_import_laws.specs.Origins.{IsAmong}
-use Rattle.mt_import_laws.specs.Printed.{Key, ReadsBack, number_at, value_in}
+use Rattle.mt_import_laws.specs.FirstLine.{LinesTellFirst}
+use Rattle.mt_import_laws.specs.Printed.{Key, TextReadsBack, number_at, value_in}
 use Rattle.mt_import_laws.specs.PrintedByRdmsr.{SuitsRdmsr, call_line, calls, hex_text, rdmsr_lines, rdmsr_text}
 use Rattle.mt_import_laws.proofs.Among.{join_among_first, join_among_second}
+use Rattle.mt_import_laws.proofs.AutoReads.{text_back}
 use Rattle.mt_import_laws.proofs.KeyLines.{all_keys, among_all, in_file, low}
 use Rattle.mt_import_laws.proofs.Keys.{IsKey, is_register_key}
 use Rattle.mt_import_laws.proofs.PrintedBack.{IsInFile, facts_back, fits, key_in_file, lines_back}
@@ -145,11 +148,18 @@ module _ (file : RegisterFile) (is_file : IsRegisterFile file) (words : HasWords
       let within = inside key (inl refl) in
       (call_plain (number_at key) (small_key key within), (value_plain (value_in file key) (fits file key is_file words within), calls_plain keys (λ k among. inside k (inr among))))
 
-pub own_text : (file : RegisterFile) (supplied : Supplied) → SuitsRdmsr file supplied → ReadsBack (log_told (Only Rdmsr) supplied (rdmsr_text file)) file
+-- the first call tells the format
+first_call : (file : RegisterFile) → LinesTellFirst Rdmsr 1 (rdmsr_lines file)
+unfolding tells digits
+first_call file = inl refl
+
+pub own_text : (file : RegisterFile) (supplied : Supplied) → SuitsRdmsr file supplied → TextReadsBack Rdmsr (rdmsr_text file) supplied file
 own_text file supplied suits =
     let inside : (key : Key) → IsAmong key (all_keys file) → IsInFile file key = λ key among. in_file file key suits.is_file among in
-    let lines = lines_back (rdmsr_lines file) (calls_plain file suits.is_file suits.has_words (all_keys file) inside) in
+    let plain = calls_plain file suits.is_file suits.has_words (all_keys file) inside in
+    let lines = lines_back (rdmsr_lines file) plain in
     let facts : shown (Some Rdmsr) (rdmsr_text file) ≡ facts_from (starts (Some Rdmsr)) 1 (rdmsr_lines file) = ap (facts_from (starts (Some Rdmsr)) 1) lines in
-    facts_back file any_bits Rdmsr supplied suits.is_file suits.has_words suits.agrees (shown (Some Rdmsr) (rdmsr_text file)) (inl suits.width)
+    text_back Rdmsr supplied file (rdmsr_lines file) plain (first_call file)
+    (facts_back file any_bits Rdmsr supplied suits.is_file suits.has_words suits.agrees (shown (Some Rdmsr) (rdmsr_text file)) (inl suits.width)
     (subst (AllByRecursion (IsSound file any_bits)) (sym facts) (calls_sound file suits.is_file suits.has_words (all_keys file) inside (starts (Some Rdmsr)) 1 refl))
-    (λ key within. inl (subst (HasReading key all_bits) (sym facts) (calls_have file suits.is_file suits.has_words (all_keys file) inside (starts (Some Rdmsr)) 1 key refl (among_all file key suits.is_file within))))
+    (λ key within. inl (subst (HasReading key all_bits) (sym facts) (calls_have file suits.is_file suits.has_words (all_keys file) inside (starts (Some Rdmsr)) 1 key refl (among_all file key suits.is_file within)))))

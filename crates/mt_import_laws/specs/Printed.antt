@@ -2,6 +2,7 @@
 --     HoldsTable format file table text      the lines of a log are those of a table, among lines that say no more of a dump than its width
 --     Agrees supplied file      words supply no other value than the file's
 --     ReadsBack told file      the outcome is the file's dump
+--     TextReadsBack format text supplied file      so it is of a text, by its format and by `auto`
 --     TableReadsBack format table supplied file      so it is of a table's lines, and of each log that holds them
 --     TableReadsInOrder format table supplied file      the same of each log that holds them in their order
 use Rattle.std.specs.Prelude.{ℕ, ◌≡◌, ◌⊎◌, ⊤, false, List, [], ◌∷◌, Option, None, Some, unwrap_or}
@@ -14,7 +15,7 @@ use Rattle.mt_regs.specs.RegisterFile.{RegisterFile}
 use Rattle.mt_regs.specs.Registers.{number_of, value_at, value_of}
 use Rattle.mt_dump.specs.Canon.{canon, ended}
 use Rattle.mt_dump.specs.Dumps.{dump_of}
-use Rattle.mt_import.specs.declared.format.Choice.TheVariants.{Only}
+use Rattle.mt_import.specs.declared.format.Choice.TheVariants.{Auto, Only}
 use Rattle.mt_import.specs.declared.format.Format.{Format}
 use Rattle.mt_import.specs.declared.reading.Said.TheVariants.{Nothing, Shows, Warns, Width}
 use Rattle.mt_import.specs.declared.reading.Said.{Said}
@@ -79,12 +80,17 @@ pub record ReadsBack (told : Told) (file : RegisterFile) : Type 0 where
   pub status : told.status ≡ Done
   pub dump : told.dump ≡ canon (dump_of file)
 
+-- A text gives the file by the name of its format, and by `auto`.
+pub record TextReadsBack (format : Format) (text : List ℕ) (supplied : Supplied) (file : RegisterFile) : Type 0 where
+  pub by_name : ReadsBack (log_told (Only format) supplied text) file
+  pub by_auto : ReadsBack (log_told Auto supplied text) file
+
 -- A table of lines gives the file: alone, and in any log that holds it.
 pub record TableReadsBack (format : Format) (table : List (List ℕ)) (supplied : Supplied) (file : RegisterFile) : Type 0 where
   pub alone : ReadsBack (log_told (Only format) supplied (ended table)) file
   pub among : (text : List ℕ) → HoldsTable format file table text → ReadsBack (log_told (Only format) supplied text) file
 
--- The same of a table whose lines stand in their order.
+-- A table of lines gives the file: alone, and in any log that holds its lines in their order.
 pub record TableReadsInOrder (format : Format) (table : List (List ℕ)) (supplied : Supplied) (file : RegisterFile) : Type 0 where
-  pub alone : ReadsBack (log_told (Only format) supplied (ended table)) file
+  pub alone : TextReadsBack format (ended table) supplied file
   pub among : (text : List ℕ) → Weaves format file table (lines_of text) → ReadsBack (log_told (Only format) supplied text) file

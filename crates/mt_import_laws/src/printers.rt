@@ -3,10 +3,9 @@ ghost use Rattle.mt_regs.specs.declared.registers.Register.TheVariants.{PhysBase
 ghost use Rattle.mt_regs.specs.RegisterFile.{RegisterFile, pair_at};
 ghost use Rattle.mt_import.specs.declared.format.Choice.TheVariants.{Only};
 ghost use Rattle.mt_import.specs.declared.format.Format.TheVariants.{Coreboot, Edk2, Inteltool, Linux, Rdmsr, X86info, Xen};
-ghost use Rattle.mt_import.specs.Import.{log_told};
 ghost use Rattle.mt_import.specs.Supplied.{Supplied, command_of};
 ghost use Rattle.mt_import_laws.specs.FirstLine.{LinesTellFirst};
-ghost use Rattle.mt_import_laws.specs.Printed.{ReadsBack, TableReadsBack, TableReadsInOrder};
+ghost use Rattle.mt_import_laws.specs.Printed.{TableReadsBack, TableReadsInOrder, TextReadsBack};
 ghost use Rattle.mt_import_laws.specs.PrintedByCoreboot.{SuitsCoreboot, Tails, coreboot_lines, line_of as coreboot_line};
 ghost use Rattle.mt_import_laws.specs.PrintedByEdk2.{SuitsEdk2, edk2_lines, pair_line};
 ghost use Rattle.mt_import_laws.specs.PrintedByInteltool.{Names, SuitsInteltool, inteltool_lines, line_of as inteltool_line};
@@ -17,8 +16,9 @@ ghost use Rattle.mt_import_laws.specs.PrintedByXen.{SuitsXen, xen_lines};
 ghost use Rattle.mt_import_laws.specs.WorkedPrinted.{early_log, linux_log, model_names, ordinary_pc, some_tails, width_36, width_and_pat, words_for_edk2, words_for_kernels, words_for_x86info, x86info_print, xen_log};
 
 /// What a shell prints under `set -x` that calls rdmsr for each register of a file reads back as the file, if words supply its width.
+/// So it does by `auto`.
 pub fn what_rdmsr_prints_reads_back()
-    ensures { (file : RegisterFile) (supplied : Supplied) → SuitsRdmsr file supplied → ReadsBack (log_told (Only Rdmsr) supplied (rdmsr_text file)) file }
+    ensures { (file : RegisterFile) (supplied : Supplied) → SuitsRdmsr file supplied → TextReadsBack Rdmsr (rdmsr_text file) supplied file }
 {}
 
 /// What inteltool prints of a register file reads back as the file, if words supply its width. So does any log that has each of
