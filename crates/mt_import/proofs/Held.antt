@@ -17,7 +17,7 @@ use Rattle.mt_import.specs.declared.shape.Slot.{Slot}
 use Rattle.mt_import.specs.declared.reading.Context.{Context}
 use Rattle.mt_text.specs.declared.place.Place.{Place}
 use Rattle.mt_import.specs.Readings.{is_line, is_register_value, is_warning, is_width}
-use Rattle.mt_import.specs.Outcome.{Seen, capabilities_after, last_after, nothing_seen, processors, seen_with, slot_shown, tally_warned, tally_with}
+use Rattle.mt_import.specs.Outcome.{Seen, capabilities_after, fixed_line_after, last_after, nothing_seen, processors, seen_with, slot_shown, tally_warned, tally_with}
 use Rattle.mt_import.specs.Slot.{blank_slot, slot_with}
 use Rattle.mt_import.specs.Reader.{HasTaken, IsFit, State, held_at, slot_of}
 
@@ -31,14 +31,16 @@ at_start processor None = refl
 at_start processor (Some slot) = none_at 4112 (257 * processor + slot)
 
 pub taken_new : (context : Context) (format : Option Format)
-    → HasTaken (record { context = context; slots = replicate 4112 blank_slot; capabilities = blank_slot; last = record { count = 0; line = 0 }; processors = 1; width = None; tally = record { format = format; lines = 0; matches = 0; warned = false } }) (nothing_seen format)
+    → HasTaken (record { context = context; slots = replicate 4112 blank_slot; capabilities = blank_slot; last = record { count = 0; line = 0 }; line_of_fixed = None; processors = 1; width = None; line_of_width = 0; tally = record { format = format; lines = 0; matches = 0; warned = false } }) (nothing_seen format)
 taken_new context format = record {
   size = length-replicate {A = Slot} 4112 blank_slot;
   slots_are = λ processor number. at_start processor (slot_of number);
   capabilities_is = refl;
   last_is = refl;
+  line_of_fixed_is = refl;
   processors_is = refl;
   width_is = refl;
+  line_of_width_is = refl;
   tally_is = refl;
   some = omega arith;
   few = omega arith;
@@ -149,7 +151,7 @@ module _ (state : State) (seen : Seen) (reading : Reading) (slot : ℕ) (next : 
   fits sound k false number_test apart same = rw apart (holds.pairs k)
 
   pub taken_more : (reading.number ≡ 0xfe → low_byte (bit_or (slot_shown seen.readings reading.processor 0xfe).value reading.value) ≤ 32)
-      → HasTaken (record { context = state.context; slots = slots; capabilities = capabilities_after reading state.capabilities; last = last_after reading state.last; processors = max (reading.processor + 1) state.processors; width = state.width; tally = state.tally })
+      → HasTaken (record { context = state.context; slots = slots; capabilities = capabilities_after reading state.capabilities; last = last_after reading state.last; line_of_fixed = fixed_line_after reading state.line_of_fixed; processors = max (reading.processor + 1) state.processors; width = state.width; line_of_width = state.line_of_width; tally = state.tally })
       (seen_with seen (is_register_value reading))
   taken_more sound =
       let bounds = most (reading.processor + 1) (processors seen.readings) (omega arith) (omega (arith, few)) holds.few in
@@ -158,8 +160,10 @@ module _ (state : State) (seen : Seen) (reading : Reading) (slot : ℕ) (next : 
         slots_are = λ k number. shown k number (reading.processor == k) (reading.number == number) refl refl;
         capabilities_is = ap (capabilities_after reading) holds.capabilities_is;
         last_is = ap (last_after reading) holds.last_is;
+        line_of_fixed_is = ap (fixed_line_after reading) holds.line_of_fixed_is;
         processors_is = ap (max (reading.processor + 1)) holds.processors_is;
         width_is = holds.width_is;
+        line_of_width_is = holds.line_of_width_is;
         tally_is = holds.tally_is;
         some = bounds.0;
         few = bounds.1;
@@ -168,14 +172,16 @@ module _ (state : State) (seen : Seen) (reading : Reading) (slot : ℕ) (next : 
       }
 
 pub taken_width : (state : State) (seen : Seen) (width : ℕ) (place : Place) → HasTaken state seen → IsFit width
-    → HasTaken (record { context = state.context; slots = state.slots; capabilities = state.capabilities; last = state.last; processors = state.processors; width = Some width; tally = state.tally }) (seen_with seen (is_width width place))
+    → HasTaken (record { context = state.context; slots = state.slots; capabilities = state.capabilities; last = state.last; line_of_fixed = state.line_of_fixed; processors = state.processors; width = Some width; line_of_width = place.line; tally = state.tally }) (seen_with seen (is_width width place))
 taken_width state seen width place holds fit = record {
   size = holds.size;
   slots_are = holds.slots_are;
   capabilities_is = holds.capabilities_is;
   last_is = holds.last_is;
+  line_of_fixed_is = holds.line_of_fixed_is;
   processors_is = holds.processors_is;
   width_is = refl;
+  line_of_width_is = refl;
   tally_is = holds.tally_is;
   some = holds.some;
   few = holds.few;
@@ -185,14 +191,16 @@ taken_width state seen width place holds fit = record {
 
 -- a line was counted
 pub taken_line : (state : State) (seen : Seen) (number : ℕ) (format : Option Format) (matched : Bool) → HasTaken state seen
-    → HasTaken (record { context = state.context; slots = state.slots; capabilities = state.capabilities; last = state.last; processors = state.processors; width = state.width; tally = tally_with state.tally number format matched }) (seen_with seen (is_line number format matched))
+    → HasTaken (record { context = state.context; slots = state.slots; capabilities = state.capabilities; last = state.last; line_of_fixed = state.line_of_fixed; processors = state.processors; width = state.width; line_of_width = state.line_of_width; tally = tally_with state.tally number format matched }) (seen_with seen (is_line number format matched))
 taken_line state seen number format matched holds = record {
   size = holds.size;
   slots_are = holds.slots_are;
   capabilities_is = holds.capabilities_is;
   last_is = holds.last_is;
+  line_of_fixed_is = holds.line_of_fixed_is;
   processors_is = holds.processors_is;
   width_is = holds.width_is;
+  line_of_width_is = holds.line_of_width_is;
   tally_is = ap (λ t. tally_with t number format matched) holds.tally_is;
   some = holds.some;
   few = holds.few;
@@ -202,14 +210,16 @@ taken_line state seen number format matched holds = record {
 
 -- the kernel warned
 pub taken_warning : (state : State) (seen : Seen) → HasTaken state seen
-    → HasTaken (record { context = state.context; slots = state.slots; capabilities = state.capabilities; last = state.last; processors = state.processors; width = state.width; tally = tally_warned state.tally }) (seen_with seen is_warning)
+    → HasTaken (record { context = state.context; slots = state.slots; capabilities = state.capabilities; last = state.last; line_of_fixed = state.line_of_fixed; processors = state.processors; width = state.width; line_of_width = state.line_of_width; tally = tally_warned state.tally }) (seen_with seen is_warning)
 taken_warning state seen holds = record {
   size = holds.size;
   slots_are = holds.slots_are;
   capabilities_is = holds.capabilities_is;
   last_is = holds.last_is;
+  line_of_fixed_is = holds.line_of_fixed_is;
   processors_is = holds.processors_is;
   width_is = holds.width_is;
+  line_of_width_is = holds.line_of_width_is;
   tally_is = ap tally_warned holds.tally_is;
   some = holds.some;
   few = holds.few;
@@ -219,14 +229,16 @@ taken_warning state seen holds = record {
 
 -- what a reader keeps doesn't speak of its context
 pub taken_in : (state : State) (seen : Seen) (context : Context) → HasTaken state seen
-    → HasTaken (record { context = context; slots = state.slots; capabilities = state.capabilities; last = state.last; processors = state.processors; width = state.width; tally = state.tally }) seen
+    → HasTaken (record { context = context; slots = state.slots; capabilities = state.capabilities; last = state.last; line_of_fixed = state.line_of_fixed; processors = state.processors; width = state.width; line_of_width = state.line_of_width; tally = state.tally }) seen
 taken_in state seen context holds = record {
   size = holds.size;
   slots_are = holds.slots_are;
   capabilities_is = holds.capabilities_is;
   last_is = holds.last_is;
+  line_of_fixed_is = holds.line_of_fixed_is;
   processors_is = holds.processors_is;
   width_is = holds.width_is;
+  line_of_width_is = holds.line_of_width_is;
   tally_is = holds.tally_is;
   some = holds.some;
   few = holds.few;

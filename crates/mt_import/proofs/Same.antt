@@ -8,7 +8,7 @@ use Rattle.mt_import.specs.declared.shape.Slot.{Slot}
 use Rattle.mt_import.specs.declared.shape.Tally.{Tally}
 use Rattle.mt_import.specs.declared.supplied.Assumed.{Assumed}
 use Rattle.mt_import.specs.Supplied.{IsSupplied, Supplied, all_assumed, supplied_value}
-use Rattle.mt_import.specs.Values.{Known, assumed_capabilities, assumed_of, assumed_pair, assumed_value, assumed_zero, base_of, disabled_value, firm_value, firm_width, has_pairs, is_unshown, mask_of, masks_in, only_if, or_supplied, pair_count, shown_pairs, shows_pairs, widest, width_by}
+use Rattle.mt_import.specs.Values.{Known, assumed_capabilities, assumed_of, assumed_pair, assumed_value, assumed_zero, base_of, disabled_value, firm_value, firm_width, has_pairs, is_unshown, mask_of, masks_in, only_if, or_supplied, pair_count, shown_pairs, shows_only_fix, shows_pairs, widest, width_by}
 use Rattle.mt_import.specs.Outcome.{Seen, Slots, Told, dump_told, ended, ended_by, ended_with, file_of, files_of, first_pairs, firm_of, fixed_of, hint_of, is_missing, known_by, known_of, missing_lines, missing_of, missing_width, needed, note_line, note_lines, noted, noted_of, notes_of, processors, refusal, remarks, slot_shown, value_or_zero, values_of, width_note}
 use Rattle.mt_import.specs.Reader.{HasTaken, IsFit, State, known_in, slots_of, values_in}
 
@@ -179,7 +179,7 @@ module _ (supplied : Supplied) (slots : ℕ → Slot) (known : Known) (few : low
 
   from_supplied : (given : Option ℕ) → supplied_value supplied 0xfe ≡ given → (value : ℕ) → or_supplied (or_supplied given None) (assumed_value supplied.assumed slots known 0xfe) ≡ Some value → low_byte value ≤ 32
   from_supplied (Some other) given value is = sound.pairs value (given ∙ is)
-  from_supplied None given value is = from_assumed (is_bit_set (slots 0xfe).value 8) supplied.assumed.capabilities value is
+  from_supplied None given value is = from_assumed (shows_only_fix (slots 0xfe)) supplied.assumed.capabilities value is
 
   from_shown : (whole : Bool) (value : ℕ) → or_supplied (or_supplied (if whole then Some (slots 0xfe).value else None) (or_supplied (supplied_value supplied 0xfe) None)) (assumed_value supplied.assumed slots known 0xfe) ≡ Some value → low_byte value ≤ 32
   from_shown true value is = let e : (slots 0xfe).value ≡ value = cc is in rw (← e) few

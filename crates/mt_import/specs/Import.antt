@@ -34,8 +34,12 @@ told_by None (Some command) bytes = log_told command.0 command.1 bytes
 abbrev pub told_of : List (List ℕ) → List ℕ → Told
 told_of words bytes = told_by (own_text words) (command_of words) bytes
 
+-- the dump behind its comments
+abbrev pub dump_text : Told → List ℕ
+dump_text texts = texts.notes ++ texts.dump
+
 abbrev pub one_text : Told → List ℕ
-one_text texts = if is_empty texts.dump then texts.reasons else texts.notes ++ texts.dump
+one_text texts = if is_empty texts.dump then texts.reasons else dump_text texts
 
 abbrev pub output_of : List (List ℕ) → List ℕ → List ℕ × Status
 output_of words bytes = (one_text (told_of words bytes), (told_of words bytes).status)
@@ -49,18 +53,18 @@ left_by None (Some command) bytes = []
 abbrev pub left_of : List (List ℕ) → List ℕ → List ℕ
 left_of words bytes = left_by (own_text words) (command_of words) bytes
 
--- a status with which a text is written
-abbrev pub IsWritten : Status → Type 0
-IsWritten Done = ⊤
-IsWritten Refused = ⊤
-IsWritten Usage = ⊤
-IsWritten BadText = ⊤
-IsWritten ReadFault = ⊥
-IsWritten WriteFault = ⊥
-IsWritten NoMemory = ⊥
-IsWritten TooLong = ⊥
-IsWritten TooFew = ⊥
-IsWritten Disabled = ⊥
+-- A status with which texts are written. The dump is empty unless the status is `Done`.
+abbrev pub IsWritten : Status → List ℕ → Type 0
+IsWritten Done dump = ⊤
+IsWritten Refused dump = dump ≡ []
+IsWritten Usage dump = dump ≡ []
+IsWritten BadText dump = dump ≡ []
+IsWritten ReadFault dump = ⊥
+IsWritten WriteFault dump = ⊥
+IsWritten NoMemory dump = ⊥
+IsWritten TooLong dump = ⊥
+IsWritten TooFew dump = ⊥
+IsWritten Disabled dump = ⊥
 
 -- the source failed, or gave too much
 abbrev pub IsUnread : List ℕ → Status → Type 0
@@ -78,11 +82,13 @@ pub record Taken : Type 0 where
   pub old : Option (List ℕ)
   pub new : Option (List ℕ)
 
--- Each sink took its text and the status is that of the texts, or one failed, and each took a front of its text.
+-- Reasons come first, and then the dump. Each sink took its text, and the status is that of the texts.
+-- Or the sink of the reasons failed, and the other took nothing. Or it took all reasons, and the other failed.
 abbrev pub WritesApart : Told → Taken → Taken → Status → Type 0
 WritesApart texts out errors result =
-    ((result ≡ texts.status) × Appends out.old out.new (texts.notes ++ texts.dump) × Appends errors.old errors.new texts.reasons)
-    ⊎ ((result ≡ WriteFault) × AppendsFront out.old out.new (texts.notes ++ texts.dump) × AppendsFront errors.old errors.new texts.reasons)
+    ((result ≡ texts.status) × Appends out.old out.new (dump_text texts) × Appends errors.old errors.new texts.reasons)
+    ⊎ ((result ≡ WriteFault) × (out.new ≡ out.old) × AppendsFront errors.old errors.new texts.reasons)
+    ⊎ ((result ≡ WriteFault) × AppendsFront out.old out.new (dump_text texts) × Appends errors.old errors.new texts.reasons)
 
 pub data ImportsApart (words : List (List ℕ)) (bytes : List ℕ) (left : Option (List ℕ)) (out errors : Taken) (result : Status) : Type 0 where
   told : left ≡ Some (left_of words bytes) → WritesApart (told_of words bytes) out errors result → ImportsApart words bytes left out errors result

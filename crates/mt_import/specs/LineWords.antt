@@ -1,5 +1,6 @@
 -- The words of a line behind what logs put in front of it (own).
 --     head_end words      the number of the first word behind a date, a host and the like, and a stamp in brackets
+--     kernel_end words      the same, or behind `(XEN)` and a stamp
 --     behind_stamp at words      the number of the first word behind a stamp that begins at the word of this number
 --     words_behind first line      the words of a line from the word of this number on
 use Rattle.std.specs.Prelude.{ℕ, ◌+◌, ◌-◌, ◌==◌, ◌&&◌, ◌||◌, Bool, false, not, codes, List, [], ◌∷◌, take, drop, length, slice_get, if◌then◌else◌, Option, Some, None}
@@ -60,6 +61,10 @@ behind_log words =
 
 abbrev pub head_end : List (ℕ × List ℕ) → ℕ
 head_end words = behind_stamp (behind_log words) words
+
+-- the same of a line that Xen's console may have
+abbrev pub kernel_end : List (ℕ × List ℕ) → ℕ
+kernel_end words = if is_text (codes "(XEN)") (text_of words 0) then behind_stamp 1 words else head_end words
 
 abbrev pub words_behind : ℕ → List ℕ → List (ℕ × List ℕ)
 words_behind first line = drop first (words_of line)

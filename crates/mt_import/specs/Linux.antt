@@ -197,15 +197,37 @@ cleanup_said number words =
 
 -- ---- `MTRR map: 5 entries (3 fixed + 2 variable; max 23), built from 10 variable MTRRs`
 
--- VCNT is bits 7:0 of the capability register: Intel SDM, volume 3A, section IA32_MTRRCAP MSR
-abbrev pub map_shown : Result ℕ NumberFault → Place → Said
-map_shown (Ok count) place = Shows (Some 0) (one_shown (shown_bits 0xfe 0xff count place))
-map_shown (Err fault) place = Nothing
-
 abbrev pub is_map : List (ℕ × List ℕ) → Bool
 is_map words =
-    length words == 16 && is_text (codes "map:") (text_of words 1) && is_text (codes "built") (text_of words 11) && is_text (codes "variable") (text_of words 14)
-    && is_text (codes "MTRRs") (text_of words 15)
+    length words == 16 && is_text (codes "map:") (text_of words 1) && is_text (codes "fixed") (text_of words 5) && is_text (codes "max") (text_of words 9)
+    && is_text (codes "built") (text_of words 11) && is_text (codes "variable") (text_of words 14) && is_text (codes "MTRRs") (text_of words 15)
+
+-- VCNT by the map's numbers: `most` is `fixed` and twice VCNT, and `count` is VCNT. AMD's TOM2, if it is in use, adds 1 to both.
+abbrev pub map_pairs : ℕ → ℕ → ℕ → Option ℕ
+map_pairs fixed most count =
+    if most == fixed + 2 * count then Some count
+    else if nat_lt 0 count && most + 1 == fixed + 2 * count then Some (count - 1)
+    else None
+
+abbrev pub map_count : Option ℕ → Option ℕ → Option ℕ → Option ℕ
+map_count None most count = None
+map_count (Some fixed) None count = None
+map_count (Some fixed) (Some most) None = None
+map_count (Some fixed) (Some most) (Some count) = map_pairs fixed most count
+
+abbrev pub entries_in : Option (List ℕ) → Option ℕ
+entries_in None = None
+entries_in (Some digits) = number_in (decimal_number digits 999)
+
+-- VCNT is bits 7:0 of the capability register: Intel SDM, volume 3A, section IA32_MTRRCAP MSR
+abbrev pub count_said : Option ℕ → Place → Said
+count_said None place = Nothing
+count_said (Some count) place = Shows (Some 0) (one_shown (shown_bits 0xfe 0xff count place))
+
+abbrev pub map_said : ℕ → List (ℕ × List ℕ) → Said
+map_said number words =
+    count_said (map_count (entries_in (behind (codes "(") (text_of words 4))) (entries_in (before (codes "),") (text_of words 10))) (number_in (decimal_number (text_of words 13) 255)))
+    (place_of number words 13)
 
 -- ---- all lines
 
@@ -215,7 +237,7 @@ linux_words_said number words =
     else if is_pat_name (text_of words 0) then pat_said number words
     else if is_text (codes "reg") (text_of words 0) then cleanup_said number words
     else if is_some (behind (codes "reg") (text_of words 0)) then region_said number words
-    else if is_map words then map_shown (decimal_number (text_of words 13) 255) (place_of number words 13)
+    else if is_map words then map_said number words
     else kernel_said false number words
 
 abbrev pub linux_said : ℕ → List ℕ → Said

@@ -14,7 +14,7 @@ use Rattle.mt_output.specs.Lines.{bad_text, line}
 use Rattle.mt_import.specs.declared.fault.ImportFault.{ImportFault}
 use Rattle.mt_import.specs.declared.fault.ImportFault.TheVariants.{LongLine, BadProcessor, TooManyPairs, BadWidth, Contradiction, WidthContradiction}
 use Rattle.mt_import.specs.declared.fault.Rival.{Rival}
-use Rattle.mt_import.specs.declared.fault.Rival.TheVariants.{Line, Word}
+use Rattle.mt_import.specs.declared.fault.Rival.TheVariants.{Line, Word, CapabilityLine, CapabilityWord, RegisterLine}
 use Rattle.mt_import.specs.declared.format.Format.{Format}
 use Rattle.mt_import.specs.declared.format.Format.TheVariants.{Rdmsr, X86info, Inteltool, Coreboot, Edk2, Linux, Xen}
 use Rattle.mt_import.specs.declared.shape.LastPair.{LastPair}
@@ -28,15 +28,16 @@ use Rattle.mt_import.specs.Values.{Known, assumed_value, firm_value, firm_width,
 
 -- ---- what facts show
 
--- the width that facts show, their readings, of which the last stands first, and the tally
+-- the width that facts show and the last line that shows it, their readings, of which the last stands first, and the tally
 pub record Seen : Type 0 where
   pub width : Option ℕ
+  pub line_of_width : ℕ
   pub readings : List Reading
   pub tally : Tally
 
 -- before all lines of a log, where the format may be known
 abbrev pub nothing_seen : Option Format → Seen
-nothing_seen format = record { width = None; readings = []; tally = record { format = format; lines = 0; matches = 0; warned = false } }
+nothing_seen format = record { width = None; line_of_width = 0; readings = []; tally = record { format = format; lines = 0; matches = 0; warned = false } }
 
 abbrev pub one_if : Bool → ℕ → ℕ
 one_if true count = one_more count
@@ -49,10 +50,10 @@ abbrev pub tally_warned : Tally → Tally
 tally_warned tally = record { format = tally.format; lines = tally.lines; matches = tally.matches; warned = true }
 
 abbrev pub seen_with : Seen → Fact → Seen
-seen_with seen (is_line number format matched) = record { width = seen.width; readings = seen.readings; tally = tally_with seen.tally number format matched }
-seen_with seen (is_register_value reading) = record { width = seen.width; readings = reading ∷ seen.readings; tally = seen.tally }
-seen_with seen (is_width width place) = record { width = Some width; readings = seen.readings; tally = seen.tally }
-seen_with seen is_warning = record { width = seen.width; readings = seen.readings; tally = tally_warned seen.tally }
+seen_with seen (is_line number format matched) = record seen { tally = tally_with seen.tally number format matched }
+seen_with seen (is_register_value reading) = record seen { readings = reading ∷ seen.readings }
+seen_with seen (is_width width place) = record seen { width = Some width; line_of_width = place.line }
+seen_with seen is_warning = record seen { tally = tally_warned seen.tally }
 seen_with seen (is_fault fault) = seen
 
 abbrev pub seen_after : Seen → List Fact → Seen
@@ -86,6 +87,18 @@ abbrev pub last_shown : List Reading → LastPair
 last_shown [] = record { count = 0; line = 0 }
 last_shown (reading ∷ before) = last_after reading (last_shown before)
 
+-- A reading that shows that a fixed-range register isn't 0. No other register's number is between theirs.
+abbrev pub shows_fixed : Reading → Bool
+shows_fixed reading = nat_lt 0x24f reading.number && nat_lt reading.number 0x270 && nat_lt 0 reading.value
+
+-- the line of the last such reading, behind one more
+abbrev pub fixed_line_after : Reading → Option ℕ → Option ℕ
+fixed_line_after reading before = if shows_fixed reading then Some reading.place.line else before
+
+abbrev pub last_fixed_line : List Reading → Option ℕ
+last_fixed_line [] = None
+last_fixed_line (reading ∷ before) = fixed_line_after reading (last_fixed_line before)
+
 -- how many processors there are: as many as are shown, and one at least
 abbrev pub processors : List Reading → ℕ
 processors [] = 1
@@ -110,21 +123,58 @@ counted capabilities = if capabilities.bits % 256 == 255 then Some capabilities.
 abbrev pub capability_rival : Slot → LastPair → Reading → Option Rival
 capability_rival capabilities last reading =
     if clashes capabilities reading then Some (Line capabilities.line)
-    else if counts_fewer (counted (slot_with capabilities reading)) last.count then Some (Line last.line)
+    else if counts_fewer (counted (slot_with capabilities reading)) last.count then Some (RegisterLine last.line)
     else None
 
 abbrev pub count_rival : Slot → LastPair → Reading → Option Rival
 count_rival capabilities last reading =
-    if counts_fewer (counted capabilities) (enabled_pair reading) then Some (Line capabilities.line)
+    if counts_fewer (counted capabilities) (enabled_pair reading) then Some (CapabilityLine capabilities.line)
     else if reading.number == 0xfe then capability_rival capabilities last reading
     else None
 
 -- A word or a line before it gives other bits, or a VCNT without an enabled pair. All processors have one capability register's value.
 abbrev pub rival : Supplied → List Reading → Reading → Option Rival
 rival supplied before reading =
-    if bits_differ (supplied_value supplied reading.number) reading.bits reading.value || counts_fewer (supplied_value supplied 0xfe) (enabled_pair reading) then Some Word
+    if bits_differ (supplied_value supplied reading.number) reading.bits reading.value then Some Word
+    else if counts_fewer (supplied_value supplied 0xfe) (enabled_pair reading) then Some CapabilityWord
     else if clashes (slot_shown before reading.processor reading.number) reading then Some (Line (slot_shown before reading.processor reading.number).line)
     else count_rival (capabilities_shown before) (last_shown before) reading
+
+-- without FIX, bit 8 of the capability register
+abbrev pub lacks_fix : Option ℕ → Bool
+lacks_fix None = false
+lacks_fix (Some capabilities) = not (is_bit_set capabilities 8)
+
+-- the capability register, where FIX is shown
+abbrev pub fix_shown : Slot → Option ℕ
+fix_shown capabilities = if is_bit_set capabilities.bits 8 then Some capabilities.value else None
+
+-- a word or lines before give a capability register without FIX
+abbrev pub fixless_rival : Option ℕ → Slot → Option Rival
+fixless_rival word capabilities =
+    if lacks_fix word then Some CapabilityWord
+    else if lacks_fix (fix_shown capabilities) then Some (CapabilityLine capabilities.line)
+    else None
+
+-- a reading that shows FIX as clear
+abbrev pub shows_no_fix : Reading → Bool
+shows_no_fix reading = reading.number == 0xfe && is_bit_set reading.bits 8 && not (is_bit_set reading.value 8)
+
+-- a fixed-range register that lines before show
+abbrev pub ranged_rival : Option ℕ → Option Rival
+ranged_rival None = None
+ranged_rival (Some line) = Some (RegisterLine line)
+
+-- Fixed ranges and a capability register without FIX contradict each other: a dump would lack them.
+abbrev pub fixed_rival : Option ℕ → List Reading → Reading → Option Rival
+fixed_rival word before reading =
+    if shows_fixed reading then fixless_rival word (capabilities_shown before)
+    else if shows_no_fix reading then ranged_rival (last_fixed_line before)
+    else None
+
+abbrev pub or_rival : Option Rival → Option Rival → Option Rival
+or_rival None other = other
+or_rival (Some found) other = Some found
 
 abbrev pub contradiction : Reading → Option Rival → Option ImportFault
 contradiction reading None = None
@@ -134,17 +184,27 @@ abbrev pub reading_fault : Supplied → List Reading → Reading → Option Impo
 reading_fault supplied before reading =
     if nat_lt 15 reading.processor then Some (BadProcessor reading.place)
     else if reading.number == 0xfe && nat_lt 32 (low_byte (bit_or (slot_shown before reading.processor 0xfe).value reading.value)) then Some (TooManyPairs reading.place)
-    else contradiction reading (rival supplied before reading)
+    else contradiction reading (or_rival (rival supplied before reading) (fixed_rival (supplied_value supplied 0xfe) before reading))
 
 -- a width that a dump may have
 abbrev pub is_fit_width : ℕ → Bool
 is_fit_width width = nat_lt 31 width && nat_lt width 53
 
+-- a word, or the width that lines before show and the last of these
+abbrev pub width_rival : Option ℕ → Option ℕ → ℕ → ℕ → Option Rival
+width_rival word shown line width =
+    if differs word width then Some Word
+    else if differs shown width then Some (Line line)
+    else None
+
+abbrev pub width_contradiction : Place → Option Rival → Option ImportFault
+width_contradiction place None = None
+width_contradiction place (Some other) = Some (WidthContradiction place other)
+
 abbrev pub width_fault : Supplied → Seen → ℕ → Place → Option ImportFault
 width_fault supplied seen width place =
     if not (is_fit_width width) then Some (BadWidth place)
-    else if differs supplied.width width || differs seen.width width then Some (WidthContradiction place)
-    else None
+    else width_contradiction place (width_rival supplied.width seen.width seen.line_of_width width)
 
 abbrev pub fact_fault : Supplied → Seen → Fact → Option ImportFault
 fact_fault supplied seen (is_line number format matched) = None
@@ -161,12 +221,15 @@ facts_fault supplied seen (fact ∷ facts) = or_fault (fact_fault supplied seen 
 abbrev pub rival_text : Rival → List ℕ
 rival_text (Line number) = codes ": line " ++ decimal number ++ codes " shows it otherwise"
 rival_text Word = codes ": a word supplies it otherwise"
+rival_text (CapabilityLine number) = codes ": line " ++ decimal number ++ codes " shows 0fe without it"
+rival_text CapabilityWord = codes ": a word supplies 0fe without it"
+rival_text (RegisterLine number) = codes ": line " ++ decimal number ++ codes " shows a register that it lacks"
 
 abbrev pub contradiction_line : Place → ℕ → Rival → List ℕ
 contradiction_line place number other = line (codes "contradiction " ++ decimal place.line ++ codes ":" ++ decimal place.column ++ codes " " ++ number_text number ++ rival_text other)
 
-abbrev pub width_line : Place → List ℕ
-width_line place = line (codes "contradiction " ++ decimal place.line ++ codes ":" ++ decimal place.column ++ codes " maxphyaddr")
+abbrev pub width_line : Place → Rival → List ℕ
+width_line place other = line (codes "contradiction " ++ decimal place.line ++ codes ":" ++ decimal place.column ++ codes " maxphyaddr" ++ rival_text other)
 
 abbrev pub fault_line : ImportFault → List ℕ
 fault_line (LongLine place) = bad_text place (codes "bad line")
@@ -174,7 +237,7 @@ fault_line (BadProcessor place) = bad_text place (codes "bad processor")
 fault_line (TooManyPairs place) = bad_text place (codes "too many pairs")
 fault_line (BadWidth place) = bad_text place (codes "bad width")
 fault_line (Contradiction place number other) = contradiction_line place number other
-fault_line (WidthContradiction place) = width_line place
+fault_line (WidthContradiction place other) = width_line place other
 
 -- ---- what is missing
 

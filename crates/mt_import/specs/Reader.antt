@@ -12,15 +12,17 @@ use Rattle.mt_import.specs.declared.shape.Tally.{Tally}
 use Rattle.mt_import.specs.Slot.{blank_slot}
 use Rattle.mt_import.specs.Supplied.{Supplied}
 use Rattle.mt_import.specs.Values.{Known}
-use Rattle.mt_import.specs.Outcome.{Seen, capabilities_shown, last_shown, processors, slot_shown, values_of}
+use Rattle.mt_import.specs.Outcome.{Seen, capabilities_shown, last_fixed_line, last_shown, processors, slot_shown, values_of}
 
 pub record State : Type 0 where
   pub context : Context
   pub slots : List Slot  -- 257 for each processor
   pub capabilities : Slot
   pub last : LastPair
+  pub line_of_fixed : Option ℕ
   pub processors : ℕ
   pub width : Option ℕ
+  pub line_of_width : ℕ
   pub tally : Tally
 
 -- where a register stands among those of a processor
@@ -53,8 +55,10 @@ pub record HasTaken (state : State) (seen : Seen) : Type 0 where
   pub slots_are : (processor number : ℕ) → slots_of state processor number ≡ slot_shown seen.readings processor number
   pub capabilities_is : state.capabilities ≡ capabilities_shown seen.readings
   pub last_is : state.last ≡ last_shown seen.readings
+  pub line_of_fixed_is : state.line_of_fixed ≡ last_fixed_line seen.readings
   pub processors_is : state.processors ≡ processors seen.readings
   pub width_is : state.width ≡ seen.width
+  pub line_of_width_is : state.line_of_width ≡ seen.line_of_width
   pub tally_is : state.tally ≡ seen.tally
   pub some : 1 ≤ processors seen.readings
   pub few : processors seen.readings ≤ 16
@@ -68,4 +72,4 @@ IsShort (BadProcessor place) = ⊤
 IsShort (TooManyPairs place) = ⊤
 IsShort (BadWidth place) = ⊤
 IsShort (Contradiction place number rival) = HasThreeDigits number
-IsShort (WidthContradiction place) = ⊤
+IsShort (WidthContradiction place rival) = ⊤

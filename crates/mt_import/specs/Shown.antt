@@ -16,6 +16,7 @@ use Rattle.mt_import.specs.Inteltool.{inteltool_said}
 use Rattle.mt_import.specs.Rdmsr.{rdmsr_said}
 use Rattle.mt_import.specs.X86info.{sizes_said, x86info_said}
 use Rattle.mt_import.specs.Edk2.{edk2_said}
+use Rattle.mt_import.specs.Kernel.{is_warning_line}
 use Rattle.mt_import.specs.Linux.{linux_said}
 use Rattle.mt_import.specs.Xen.{xen_said}
 use Rattle.mt_import.specs.Readings.{Fact, context_after, line_facts, starts}
@@ -29,9 +30,12 @@ said_by_line Edk2 number line = edk2_said number line
 said_by_line Linux number line = linux_said number line
 said_by_line Xen number line = xen_said number line
 
--- Lines on the sizes of addresses are read in each format.
+-- what a line says in each format: that a kernel warns, or the width by the sizes of addresses
+abbrev pub said_in_each : ℕ → List ℕ → Said
+said_in_each number line = if is_warning_line line then Warns else sizes_said number line
+
 abbrev pub said_or_sizes : Said → ℕ → List ℕ → Said
-said_or_sizes Nothing number line = sizes_said number line
+said_or_sizes Nothing number line = said_in_each number line
 said_or_sizes (Announces processor register) number line = Announces processor register
 said_or_sizes (Value value place) number line = Value value place
 said_or_sizes (Turns processor) number line = Turns processor
@@ -87,7 +91,7 @@ chosen None number line = format_told number line
 -- what a line says in a format, where one is known
 abbrev pub said_in : Option Format → ℕ → List ℕ → Said
 said_in (Some format) number line = said_of format number line
-said_in None number line = if is_too_long line then Long (past_limit number) else sizes_said number line
+said_in None number line = if is_too_long line then Long (past_limit number) else said_in_each number line
 
 -- ---- all lines
 

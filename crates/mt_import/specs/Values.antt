@@ -1,7 +1,7 @@
 -- The registers of a dump, by what lines have shown of them, what words supply, and what words allow to be assumed (own).
 --     value_by supplied slots known k number      the value of a register of processor k
 --     width_by supplied slots width      the address width, where lines show this one
-use Rattle.std.specs.Prelude.{ℕ, zero, suc, ◌+◌, ◌-◌, ◌*◌, ◌/◌, ◌%◌, ◌^◌, ◌==◌, ◌&&◌, ◌||◌, nat_lt, bit_or, Bool, true, false, List, [], ◌∷◌, position, if◌then◌else◌, Option, Some, None, unwrap_or}
+use Rattle.std.specs.Prelude.{ℕ, zero, suc, ◌+◌, ◌-◌, ◌*◌, ◌/◌, ◌%◌, ◌^◌, ◌==◌, ◌&&◌, ◌||◌, nat_lt, not, bit_or, Bool, true, false, List, [], ◌∷◌, position, if◌then◌else◌, Option, Some, None, unwrap_or}
 use Rattle.mt_kinds.specs.Bits.{is_bit_set}
 use Rattle.mt_regs.specs.RegisterFile.{low_byte}
 use Rattle.mt_import.specs.declared.format.Format.{Format}
@@ -71,9 +71,13 @@ shown_pairs slots (suc n) = if is_bit_set (slots (0x201 + 2 * n)).bits 11 then s
 abbrev pub pair_count : (ℕ → Slot) → ℕ
 pair_count slots = if (slots 0xfe).bits % 256 == 255 then low_byte (slots 0xfe).value else shown_pairs slots 32
 
--- assume=capabilities: behind a kernel's table with fixed ranges, the capability register with VCNT, FIX and WC
+-- Lines show FIX of the capability register, but not all of it.
+abbrev pub shows_only_fix : Slot → Bool
+shows_only_fix capabilities = is_bit_set capabilities.value 8 && not (is_whole capabilities)
+
+-- assume=capabilities: behind a kernel's line on fixed ranges, the capability register with VCNT, FIX and WC
 abbrev pub assumed_capabilities : (ℕ → Slot) → Option ℕ
-assumed_capabilities slots = if is_bit_set (slots 0xfe).value 8 then Some (pair_count slots + 0x500) else None
+assumed_capabilities slots = if shows_only_fix (slots 0xfe) then Some (pair_count slots + 0x500) else None
 
 -- assume=masks: a mask with ones from the size that a line shows up to the width. Such a line shows the bits up to that of the size.
 abbrev pub size_in : Slot → ℕ
@@ -151,7 +155,7 @@ abbrev pub width_at : Option ℕ → Option ℕ
 width_at None = None
 width_at (Some k) = if nat_lt k 21 then Some (32 + k) else None
 
--- assume=width: the least width that has all bits of the masks, where one has bit 31 or more
+-- assume=width: the least width that has all bits of the masks, where one has bit 31 or more, and none a bit past 51
 abbrev pub widest : ℕ → Option ℕ
 widest masks = if nat_lt masks 0x80000000 then None else width_at (position (is_past masks) width_limits)
 

@@ -5,7 +5,7 @@ ghost use Rattle.mt_regs.specs.RegisterFile.{low_byte};
 ghost use Rattle.mt_import.specs.Outcome.{dump_in, dump_told, ended_with, file_of, files_of, first_pairs, fixed_of, is_empty, notes_of, refusal, remarks, value_or_zero, version_of};
 ghost use Rattle.mt_import.specs.Reader.{IsFit, known_in, slots_of, values_in};
 ghost use Rattle.mt_import.specs.Values.{width_by};
-ghost use Rattle.mt_import.specs.Import.{IsWritten};
+ghost use Rattle.mt_import.specs.Import.{IsWritten, dump_text};
 
 use crate::shape::Tally;
 use crate::text::{Imported, count_line, is_empty, warning_text};
@@ -155,7 +155,7 @@ impl LogReader {
         ensures told { result ≡ dump_told (refusal self.now.tally missing.now) (values_in supplied.now self.now) self.now.processors
             (notes_of supplied.now (slots_of self.now) self.now.processors (known_in self.now)) (remarks is_auto self.now.tally)
             (width_by supplied.now (slots_of self.now) self.now.width) (values_in supplied.now self.now 0 0xfe) }
-        ensures written { IsWritten result.status }
+        ensures written { IsWritten result.status (dump_text result) }
     {
         let tally = self.tally();
         let Some(width) = self.width(supplied) else {
@@ -179,7 +179,7 @@ impl LogReader {
         requires pairs { (value : ℕ) → values_in supplied.now self.now 0 0xfe ≡ Some value → low_byte value ≤ 32 }
         requires fit { IfSome self.now.width IsFit }
         ensures told { result ≡ ended_with is_auto supplied.now (slots_of self.now) self.now.processors (known_in self.now) self.now.tally }
-        ensures written { IsWritten result.status }
+        ensures written { IsWritten result.status (dump_text result) }
     {
         let missing = self.missing(supplied);
         let text = missing.as_slice();
@@ -207,7 +207,7 @@ fn remarks(is_auto: bool, tally: &Tally) -> TextBuffer
 fn refusal(tally: &Tally, missing: &[u8]) -> Imported
     requires { length missing.now ≤ 0x7000 }
     ensures told { result ≡ refusal tally.now missing.now }
-    ensures written { IsWritten result.status }
+    ensures written { IsWritten result.status (dump_text result) }
 {
     let mut reasons = ArrayVec::new();
     append_text(&mut reasons, count_line(tally).as_slice());

@@ -1,12 +1,18 @@
 use mt_text::Place;
 
-/// What else gives another value.
+/// What contradicts a line.
 #[derive(Clone, Copy, Debug, PartialEq, Eq)]
 pub enum Rival {
     /// The line of this number.
     Line(u64),
     /// A word of the command line.
     Word,
+    /// The 0FEH that the line of this number shows: it doesn't have the register.
+    CapabilityLine(u64),
+    /// The 0FEH that a word supplies: it doesn't have the register.
+    CapabilityWord,
+    /// The line of this number shows a register that this 0FEH doesn't have.
+    RegisterLine(u64),
 }
 
 /// Why a log shows no dump, and where.
@@ -20,8 +26,8 @@ pub enum ImportFault {
     TooManyPairs(Place),
     /// The address width is less than 32 bits or more than 52.
     BadWidth(Place),
-    /// The register has another value elsewhere.
+    /// The register has another value elsewhere, or 0FEH doesn't have it.
     Contradiction(Place, u32, Rival),
     /// The address width is another elsewhere.
-    WidthContradiction(Place),
+    WidthContradiction(Place, Rival),
 }

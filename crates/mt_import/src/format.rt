@@ -1,10 +1,11 @@
 ghost use Rattle.std.specs.Prelude.{◌≡◌};
-ghost use Rattle.mt_import.specs.Shown.{chosen, format_of, format_told, is_auto, is_telling, said_by_line, said_in, said_of, said_or_sizes, tells};
+ghost use Rattle.mt_import.specs.Shown.{chosen, format_of, format_told, is_auto, is_telling, said_by_line, said_in, said_in_each, said_of, said_or_sizes, tells};
 
 use crate::Said;
 use crate::coreboot::coreboot_said;
 use crate::edk2::edk2_said;
 use crate::inteltool::inteltool_said;
+use crate::kernel::is_warning_line;
 use crate::linux::linux_said;
 use crate::rdmsr::rdmsr_said;
 use crate::x86info::{sizes_said, x86info_said};
@@ -91,11 +92,22 @@ impl Format {
     }
 }
 
+// What a line says in each format.
+fn said_in_each(line: &Line<'_>) -> Said
+    ensures { result ≡ said_in_each line.now.number line.now.bytes.now }
+{
+    if is_warning_line(line) {
+        Said::Warns
+    } else {
+        sizes_said(line)
+    }
+}
+
 fn said_or_sizes(said: Said, line: &Line<'_>) -> Said
     ensures { result ≡ said_or_sizes said line.now.number line.now.bytes.now }
 {
     match said {
-        Said::Nothing => sizes_said(line),
+        Said::Nothing => said_in_each(line),
         said => said,
     }
 }
@@ -155,6 +167,6 @@ pub(crate) fn said_in(format: Option<Format>, line: &Line<'_>) -> Said
     match format {
         Some(format) => format.said_of(line),
         None if line.too_long() => Said::Long(line.past_limit()),
-        None => sizes_said(line),
+        None => said_in_each(line),
     }
 }

@@ -1,13 +1,13 @@
 ghost use Rattle.std.specs.Prelude.{◌≡◌, ◌≤◌, ◌<◌, ◌+◌, IfSome};
-ghost use Rattle.mt_import.specs.Kernel.{addresses_said, all_fixed_shown, base_value, default_shown, disabled_said, enabled_by, fixed_by, fixed_said, fixed_shown, head_said, in_run, is_warning_line, kernel_said, mask_value, pair_said, range_at, range_from, run_bytes, run_said, type_named, types_said, variable_said};
+ghost use Rattle.mt_import.specs.Kernel.{addresses_said, all_fixed_shown, base_value, default_shown, disabled_said, enabled_by, fixed_by, fixed_said, fixed_shown, head_said, in_run, is_warning_line, is_warning_text, kernel_said, mask_value, pair_said, range_at, range_from, run_bytes, run_said, type_named, types_said, variable_said};
 
-use crate::line_words::LineWords;
+use crate::line_words::{LineWords, kernel_end};
 use crate::pieces::{is_text, number_in, shown_bits, value_at};
 use crate::reading::{one_shown, two_shown};
 use crate::{Said, Shown, Shows};
 use mt_kinds::PAGE_BYTES;
 use mt_regs::{DEFAULT_TYPE, FIRST_PAIR};
-use mt_text::{Place, decimal, hex64};
+use mt_text::{Line, Place, decimal, hex64};
 
 // V of PhysMask.
 const VALID: u64 = 0x800;
@@ -278,12 +278,19 @@ fn disabled_said(pair: Option<u64>, place: Place) -> Said
     }
 }
 
-fn is_warning_line(words: &LineWords<'_>) -> bool
-    ensures { result ≡ is_warning_line words.now.words }
+fn is_warning_text(words: &LineWords<'_>) -> bool
+    ensures { result ≡ is_warning_text words.now.words }
 {
     is_text(b"mtrr:", words.text(0))
         && is_text(b"CPUs", words.text(2))
         && is_text(b"inconsistent", words.text(4))
+}
+
+/// Whether Linux or Xen warns on this line that the processors' MTRRs differ.
+pub(crate) fn is_warning_line(line: &Line<'_>) -> bool
+    ensures { result ≡ is_warning_line line.now.bytes.now }
+{
+    is_warning_text(&LineWords::behind(kernel_end(line), line))
 }
 
 /// What a line of these words says. `alone` tells whether the line on fixed ranges shows FE also
@@ -292,9 +299,7 @@ pub(crate) fn kernel_said(alone: bool, words: &LineWords<'_>) -> Said
     ensures { result ≡ kernel_said alone words.now.number words.now.words }
 {
     let count = words.count();
-    if is_warning_line(words) {
-        Said::Warns
-    } else if count == 4 && is_text(b"MTRR", words.text(0)) {
+    if count == 4 && is_text(b"MTRR", words.text(0)) {
         head_said(alone, words)
     } else if count == 2 && is_text(b"disabled", words.text(1)) {
         disabled_said(number_in(decimal(words.text(0), 31)), words.place(1))

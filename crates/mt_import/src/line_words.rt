@@ -1,7 +1,7 @@
 ghost use Rattle.std.specs.Prelude.{◌≡◌, ◌≤◌, ◌-◌, drop, length, take};
 ghost use Rattle.mt_text.specs.Text.{words_of};
 ghost use Rattle.mt_text.specs.Words.{place_of, text_of};
-ghost use Rattle.mt_import.specs.LineWords.{behind_facility, behind_log, behind_stamp, head_end, is_bracket, is_closed, is_iso, is_level, is_opened, words_behind};
+ghost use Rattle.mt_import.specs.LineWords.{behind_facility, behind_log, behind_stamp, head_end, is_bracket, is_closed, is_iso, is_level, is_opened, kernel_end, words_behind};
 
 use crate::pieces::{is_text, word_place, word_text};
 use mt_text::{Line, Place};
@@ -136,6 +136,17 @@ pub(crate) fn head_end(line: &Line<'_>) -> u8
     ensures { result ≡ head_end (words_of line.now.bytes.now) }
 {
     behind_stamp(behind_log(line), line)
+}
+
+/// The number of the first word behind what Linux's log or Xen's console puts in front of a line.
+pub(crate) fn kernel_end(line: &Line<'_>) -> u8
+    ensures { result ≡ kernel_end (words_of line.now.bytes.now) }
+{
+    if is_text(b"(XEN)", word_text(line, 0)) {
+        behind_stamp(1, line)
+    } else {
+        head_end(line)
+    }
 }
 
 impl<'a> LineWords<'a> {

@@ -1,8 +1,6 @@
 ghost use Rattle.std.specs.Prelude.{◌≡◌, ◌≤◌, ◌<◌, ◌^◌, codes, length, IfSome};
-ghost use Rattle.mt_text.specs.Number.{decimal_number};
-ghost use Rattle.mt_text.specs.Words.{place_of, text_of};
-ghost use Rattle.mt_import.specs.Pieces.{before};
-ghost use Rattle.mt_import.specs.Linux.{amount_by, amount_in, amount_text, amount_word, bytes_value, cleanup_said, cleanup_type, cut_before, entries_from, entry_named, is_cleanup, is_configuration, is_count, is_map, is_pat_change, is_pat_name, is_size, linux_said, linux_words_said, map_shown, number_behind, pair_before, pair_by, pair_numbered, pair_shown, pat_changed, pat_from, pat_said, pat_told, pat_word, region_by, region_said, size_shown, size_word, type_in, unit_named};
+ghost use Rattle.mt_import.specs.Pieces.{before, behind};
+ghost use Rattle.mt_import.specs.Linux.{amount_by, amount_in, amount_text, amount_word, bytes_value, cleanup_said, cleanup_type, count_said, cut_before, entries_from, entries_in, entry_named, is_cleanup, is_configuration, is_count, is_map, is_pat_change, is_pat_name, is_size, linux_said, linux_words_said, map_count, map_pairs, map_said, number_behind, pair_before, pair_by, pair_numbered, pair_shown, pat_changed, pat_from, pat_said, pat_told, pat_word, region_by, region_said, size_shown, size_word, type_in, unit_named};
 
 use crate::kernel::{base_value, kernel_said, type_named};
 use crate::line_words::{LineWords, head_end};
@@ -16,6 +14,9 @@ use mt_text::{Line, Place, decimal, hex64};
 
 // V of PhysMask.
 const VALID: u64 = 0x800;
+
+// A map has fewer entries: 88 fixed ranges, and two for each of 255 pairs and TOM2.
+const MOST_ENTRIES: u64 = 999;
 
 fn entry_named(word: &[u8]) -> Option<u8>
     ensures { result ≡ entry_named word.now }
@@ -405,22 +406,83 @@ fn is_map(words: &LineWords<'_>) -> bool
 {
     words.count() == 16
         && is_text(b"map:", words.text(1))
+        && is_text(b"fixed", words.text(5))
+        && is_text(b"max", words.text(9))
         && is_text(b"built", words.text(11))
         && is_text(b"variable", words.text(14))
         && is_text(b"MTRRs", words.text(15))
 }
 
-// The count of pairs, behind `built from`.
-fn map_shown(words: &LineWords<'_>) -> Said
-    ensures { result ≡ map_shown (decimal_number (text_of words.now.words 13) 255) (place_of words.now.number words.now.words 13) }
+// VCNT by the map's numbers, in both of which AMD's TOM2 may count.
+fn map_pairs(fixed: u64, most: u64, count: u64) -> Option<u64>
+    requires fixed { fixed ≤ 999 }
+    requires most { most ≤ 999 }
+    requires count { count ≤ 255 }
+    ensures { result ≡ map_pairs fixed most count }
 {
-    match decimal(words.text(13), 255) {
-        Ok(count) => Said::Shows(
-            Some(0),
-            one_shown(shown_bits(CAPABILITIES, 0xff, count, words.place(13))),
-        ),
-        Err(_) => Said::Nothing,
+    if most == fixed + 2 * count {
+        Some(count)
+    } else if 0 < count && most + 1 == fixed + 2 * count {
+        Some(count - 1)
+    } else {
+        None
     }
+}
+
+fn map_count(fixed: Option<u64>, most: Option<u64>, count: Option<u64>) -> Option<u64>
+    requires fixed { IfSome fixed (λ n. n ≤ 999) }
+    requires most { IfSome most (λ n. n ≤ 999) }
+    requires count { IfSome count (λ n. n ≤ 255) }
+    ensures { result ≡ map_count fixed most count }
+{
+    match (fixed, most, count) {
+        (Some(fixed), Some(most), Some(count)) => map_pairs(fixed, most, count),
+        _ => None,
+    }
+}
+
+// `(3`
+fn entries_behind(word: &[u8]) -> Option<u64>
+    ensures entries { result ≡ entries_in (behind (codes "(") word.now) }
+    ensures few { IfSome result (λ n. n ≤ 999) }
+{
+    match behind(b"(", word) {
+        Some(digits) => number_in(decimal(digits, MOST_ENTRIES)),
+        None => None,
+    }
+}
+
+// `23),`
+fn entries_before(word: &[u8]) -> Option<u64>
+    ensures entries { result ≡ entries_in (before (codes "),") word.now) }
+    ensures few { IfSome result (λ n. n ≤ 999) }
+{
+    match before(b"),", word) {
+        Some(digits) => number_in(decimal(digits, MOST_ENTRIES)),
+        None => None,
+    }
+}
+
+fn count_said(count: Option<u64>, place: Place) -> Said
+    ensures { result ≡ count_said count place }
+{
+    match count {
+        Some(count) => Said::Shows(
+            Some(0),
+            one_shown(shown_bits(CAPABILITIES, 0xff, count, place)),
+        ),
+        None => Said::Nothing,
+    }
+}
+
+// `MTRR map: 5 entries (3 fixed + 2 variable; max 23), built from 10 variable MTRRs`
+fn map_said(words: &LineWords<'_>) -> Said
+    ensures { result ≡ map_said words.now.number words.now.words }
+{
+    let fixed = entries_behind(words.text(4));
+    let most = entries_before(words.text(10));
+    let count = number_in(decimal(words.text(13), 255));
+    count_said(map_count(fixed, most, count), words.place(13))
 }
 
 fn linux_words_said(words: &LineWords<'_>) -> Said
@@ -436,7 +498,7 @@ fn linux_words_said(words: &LineWords<'_>) -> Said
     } else if behind(b"reg", word).is_some() {
         region_said(words)
     } else if is_map(words) {
-        map_shown(words)
+        map_said(words)
     } else {
         kernel_said(false, words)
     }

@@ -1,4 +1,4 @@
-ghost use Rattle.std.specs.Prelude.{◌≡◌, ◌↔◌, ℕ, List, Some, IfErr};
+ghost use Rattle.std.specs.Prelude.{◌≡◌, ◌≢◌, ◌↔◌, ℕ, List, Some, IfErr};
 ghost use Rattle.std.specs.IoError.{error_kind};
 ghost use Rattle.std.specs.Process.{exit_status};
 ghost use Rattle.mt_ports.specs.Causes.{StatusHasCause};
@@ -26,6 +26,7 @@ fn run<R: AllocGlobal, S: Source, K: Sink, E: Sink>(
     ensures runs { (bytes : List ℕ) → S.left source.old ≡ Some bytes →
         Runs (words_of args) bytes (S.left source.new)
         (record { old = K.taken sink.old; new = K.taken sink.new }) (record { old = E.taken errors.old; new = E.taken errors.new }) result }
+    ensures alone { result ≢ Status.Done → result ≢ Status.WriteFault → sink.new ≡ sink.old }
     ensures read_fault { StatusHasCause Status.ReadFault (S.faults source.old) (S.faults source.new) result }
     ensures write_fault { HaveCause (K.faults sink.old, K.faults sink.new) (E.faults errors.old, E.faults errors.new) result }
     ensures too_long { (result ≡ Status.TooLong) ↔ GaveTooMuch (S.given source.old) (S.given source.new) }
@@ -53,6 +54,7 @@ pub fn program_status<R: AllocGlobal, S: Source, K: Sink, E: Sink>(
     ensures runs { (bytes : List ℕ) → S.left source.old ≡ Some bytes →
         Exits result (Runs (words_of args) bytes (S.left source.new)
         (record { old = K.taken sink.old; new = K.taken sink.new }) (record { old = E.taken errors.old; new = E.taken errors.new })) }
+    ensures alone { Exits result (λ status. status ≢ Status.Done → status ≢ Status.WriteFault → sink.new ≡ sink.old) }
     ensures read_fault { Exits result (StatusHasCause Status.ReadFault (S.faults source.old) (S.faults source.new)) }
     ensures write_fault { Exits result (HaveCause (K.faults sink.old, K.faults sink.new) (E.faults errors.old, E.faults errors.new)) }
     ensures too_long { Exits result (λ status. (status ≡ Status.TooLong) ↔ GaveTooMuch (S.given source.old) (S.given source.new)) }

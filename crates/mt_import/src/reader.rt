@@ -9,9 +9,9 @@ ghost use Rattle.mt_regs.specs.RegisterFile.{low_byte};
 ghost use Rattle.mt_import.specs.Readings.{Fact, fixed_facts, fixed_line, is_fixed_clash, is_line, is_register, is_register_value, is_warning, is_width, reading_facts, said_facts, shown_facts, shows_facts, starts, unlike, value_facts};
 ghost use Rattle.mt_import.specs.Shown.{context_behind, facts_of_line};
 ghost use Rattle.mt_import.specs.Slot.{slot_with};
-ghost use Rattle.mt_import.specs.Outcome.{Seen, capabilities_after, capability_rival, contradiction, count_rival, counted, counts_fewer, enabled_pair, facts_fault, is_fit_width, last_after, nothing_seen, one_if, reading_fault, rival, seen_after, seen_with, slot_shown, tally_warned, tally_with, width_fault};
+ghost use Rattle.mt_import.specs.Outcome.{Seen, capabilities_after, capability_rival, contradiction, count_rival, counted, counts_fewer, enabled_pair, facts_fault, fix_shown, fixed_line_after, fixed_rival, fixless_rival, is_fit_width, lacks_fix, last_after, nothing_seen, one_if, or_rival, ranged_rival, reading_fault, rival, seen_after, seen_with, shows_fixed, shows_no_fix, slot_shown, tally_warned, tally_with, width_fault, width_rival};
 ghost use Rattle.mt_import.specs.Supplied.{bits_differ, differs};
-ghost use Rattle.mt_import.specs.Import.{IsWritten, log_told};
+ghost use Rattle.mt_import.specs.Import.{IsWritten, dump_text, log_told};
 ghost use Rattle.mt_import.specs.Reader.{HasTaken, IsFit, IsShort, held_at, slot_of, slots_of};
 
 use crate::format::{chosen, said_in};
@@ -37,6 +37,15 @@ const LAST_REGISTER: u32 = 0x2ff;
 // V of PhysMask.
 const VALID: u8 = 11;
 
+// FIX of IA32_MTRRCAP.
+const FIX: u8 = 8;
+
+// The fixed-range registers have numbers from here.
+const FIRST_FIXED: u32 = 0x250;
+
+// Up to here no other register has one.
+const LAST_FIXED: u32 = 0x26f;
+
 /// Gathers the registers that the lines of a log show.
 #[derive(Drop)]
 pub struct LogReader {
@@ -48,10 +57,13 @@ pub struct LogReader {
     capabilities: Slot,
     // the last pair of which a line shows that it is enabled
     last: LastPair,
+    // the last line that shows that a fixed-range register isn't 0
+    line_of_fixed: Option<u64>,
     // as many as are shown, and one at least
     processors: u32,
-    // the address width, where a line shows it
+    // the address width, where a line shows it, and the last such line
     width: Option<u8>,
+    line_of_width: u64,
     tally: Tally,
 }
 
@@ -60,7 +72,7 @@ impl Model for LogReader {
 
     ghost Value = { State };
 
-    ghost view = { λ r. record { context = r.context; slots = r.slots; capabilities = r.capabilities; last = r.last; processors = r.processors; width = r.width; tally = r.tally } };
+    ghost view = { λ r. record { context = r.context; slots = r.slots; capabilities = r.capabilities; last = r.last; line_of_fixed = r.line_of_fixed; processors = r.processors; width = r.width; line_of_width = r.line_of_width; tally = r.tally } };
 }
 
 fn slot_of(number: u32) -> Option<usize>
@@ -141,6 +153,24 @@ fn last_after(reading: &Reading, before: LastPair) -> LastPair
     }
 }
 
+// Whether a reading shows that a fixed-range register isn't 0.
+fn shows_fixed(reading: &Reading) -> bool
+    ensures { result ≡ shows_fixed reading.now }
+{
+    FIRST_FIXED <= reading.number && reading.number <= LAST_FIXED && 0 < reading.value
+}
+
+// The last line that shows so, behind one more reading.
+fn fixed_line_after(reading: &Reading, before: Option<u64>) -> Option<u64>
+    ensures { result ≡ fixed_line_after reading.now before }
+{
+    if shows_fixed(reading) {
+        Some(reading.place.line)
+    } else {
+        before
+    }
+}
+
 // Whether VCNT is less than this.
 fn counts_fewer(capabilities: Option<u64>, pairs: u64) -> bool
     ensures { result ≡ counts_fewer capabilities pairs }
@@ -171,7 +201,7 @@ fn capability_rival(capabilities: &Slot, last: &LastPair, reading: &Reading) -> 
     }
     let capabilities = capabilities.with(reading);
     if counts_fewer(counted(&capabilities), last.count) {
-        Some(Rival::Line(last.line))
+        Some(Rival::RegisterLine(last.line))
     } else {
         None
     }
@@ -181,9 +211,81 @@ fn count_rival(capabilities: &Slot, last: &LastPair, reading: &Reading) -> Optio
     ensures { result ≡ count_rival capabilities.now last.now reading.now }
 {
     if counts_fewer(counted(capabilities), enabled_pair(reading)) {
-        Some(Rival::Line(capabilities.line))
+        Some(Rival::CapabilityLine(capabilities.line))
     } else if reading.number == CAPABILITIES {
         capability_rival(capabilities, last, reading)
+    } else {
+        None
+    }
+}
+
+fn lacks_fix(capabilities: Option<u64>) -> bool
+    ensures { result ≡ lacks_fix capabilities }
+{
+    match capabilities {
+        Some(capabilities) => !is_bit_set(capabilities, FIX),
+        None => false,
+    }
+}
+
+// The capability register, if FIX is shown.
+fn fix_shown(capabilities: &Slot) -> Option<u64>
+    ensures { result ≡ fix_shown capabilities.now }
+{
+    if is_bit_set(capabilities.bits, FIX) {
+        Some(capabilities.value)
+    } else {
+        None
+    }
+}
+
+// What gives a capability register without FIX.
+fn fixless_rival(word: Option<u64>, capabilities: &Slot) -> Option<Rival>
+    ensures { result ≡ fixless_rival word capabilities.now }
+{
+    if lacks_fix(word) {
+        Some(Rival::CapabilityWord)
+    } else if lacks_fix(fix_shown(capabilities)) {
+        Some(Rival::CapabilityLine(capabilities.line))
+    } else {
+        None
+    }
+}
+
+fn shows_no_fix(reading: &Reading) -> bool
+    ensures { result ≡ shows_no_fix reading.now }
+{
+    reading.number == CAPABILITIES
+        && is_bit_set(reading.bits, FIX)
+        && !is_bit_set(reading.value, FIX)
+}
+
+fn ranged_rival(line: Option<u64>) -> Option<Rival>
+    ensures { result ≡ ranged_rival line }
+{
+    match line {
+        Some(line) => Some(Rival::RegisterLine(line)),
+        None => None,
+    }
+}
+
+fn or_rival(found: Option<Rival>, other: Option<Rival>) -> Option<Rival>
+    ensures { result ≡ or_rival found other }
+{
+    match found {
+        Some(found) => Some(found),
+        None => other,
+    }
+}
+
+// What gives another width: a word, or the last line that shows one.
+fn width_rival(word: Option<u8>, shown: Option<u8>, line: u64, width: u64) -> Option<Rival>
+    ensures { result ≡ width_rival word shown line width }
+{
+    if differs_in_width(word, width) {
+        Some(Rival::Word)
+    } else if differs_in_width(shown, width) {
+        Some(Rival::Line(line))
     } else {
         None
     }
@@ -254,8 +356,10 @@ impl LogReader {
             slots: [blank; 4112],
             capabilities: blank,
             last: LastPair { count: 0, line: 0 },
+            line_of_fixed: None,
             processors: 1,
             width: None,
+            line_of_width: 0,
             tally: Tally {
                 format,
                 lines: 0,
@@ -309,16 +413,30 @@ impl LogReader {
         requires { reading.now.processor < 16 }
         ensures { (seen : Seen) → HasTaken self.now seen → result ≡ rival supplied.now seen.readings reading.now }
     {
-        if bits_differ(supplied.value(reading.number), reading.bits, reading.value)
-            || counts_fewer(supplied.value(CAPABILITIES), enabled_pair(reading))
-        {
+        if bits_differ(supplied.value(reading.number), reading.bits, reading.value) {
             return Some(Rival::Word);
+        }
+        if counts_fewer(supplied.value(CAPABILITIES), enabled_pair(reading)) {
+            return Some(Rival::CapabilityWord);
         }
         let slot = self.slot(reading.processor, reading.number);
         if slot.clashes(reading) {
             Some(Rival::Line(slot.line))
         } else {
             count_rival(&self.capabilities, &self.last, reading)
+        }
+    }
+
+    // What else shows that a dump has no fixed ranges, or that it has them.
+    fn fixed_rival(&self, word: Option<u64>, reading: &Reading) -> Option<Rival>
+        ensures { (seen : Seen) → HasTaken self.now seen → result ≡ fixed_rival word seen.readings reading.now }
+    {
+        if shows_fixed(reading) {
+            fixless_rival(word, &self.capabilities)
+        } else if shows_no_fix(reading) {
+            ranged_rival(self.line_of_fixed)
+        } else {
+            None
         }
     }
 
@@ -342,7 +460,9 @@ impl LogReader {
         } else if reading.number == CAPABILITIES && self.pairs_after(reading) > MAX_PAIRS as u64 {
             Some(ImportFault::TooManyPairs(reading.place))
         } else {
-            contradiction(reading, self.rival(supplied, reading))
+            let rival = self.rival(supplied, reading);
+            let fixed_rival = self.fixed_rival(supplied.value(CAPABILITIES), reading);
+            contradiction(reading, or_rival(rival, fixed_rival))
         }
     }
 
@@ -362,6 +482,7 @@ impl LogReader {
         self.slots[SLOTS * reading.processor as usize + slot] = next;
         self.capabilities = capabilities_after(reading, self.capabilities);
         self.last = last_after(reading, self.last);
+        self.line_of_fixed = fixed_line_after(reading, self.line_of_fixed);
         self.processors = greater(reading.processor + 1, self.processors);
     }
 
@@ -468,11 +589,14 @@ impl LogReader {
         if !is_fit_width(width) {
             return Err(ImportFault::BadWidth(place));
         }
-        if differs_in_width(supplied.width, width) || differs_in_width(self.width, width) {
-            return Err(ImportFault::WidthContradiction(place));
+        match width_rival(supplied.width, self.width, self.line_of_width, width) {
+            Some(rival) => Err(ImportFault::WidthContradiction(place, rival)),
+            None => {
+                self.width = Some(width as u8);
+                self.line_of_width = place.line;
+                Ok(())
+            }
         }
-        self.width = Some(width as u8);
-        Ok(())
     }
 
     // Takes a value alone, where a register was announced.
@@ -598,7 +722,7 @@ fn read_lines<S: Source>(
 ) -> Result<Imported, FeedFault>
     requires { feed.old ≡ at_start }
     ensures answer { (bytes : List ℕ) → S.left source.old ≡ Some bytes → IfOk result (λ answer. answer ≡ log_told choice supplied.now bytes) }
-    ensures written { IfOk result (λ answer. IsWritten answer.status) }
+    ensures written { IfOk result (λ answer. IsWritten answer.status (dump_text answer)) }
     ensures end { IfOk result (λ _. IsAtEnd (S.left source.new)) }
     ensures fault { MatchResult result (λ _. feed.new.fault ≡ None) (λ fault. feed.new.fault ≡ Some fault) }
     ensures consumed { (taken_now : List ℕ) × Consumes (S.left source.old) (S.left source.new) taken_now × (taken feed.new ≡ length taken_now) }
@@ -626,7 +750,7 @@ pub fn read_log<S: Source>(
     source: &mut S,
 ) -> Result<Imported, FeedFault>
     ensures answer { (bytes : List ℕ) → S.left source.old ≡ Some bytes → IfOk result (λ answer. answer ≡ log_told choice supplied.now bytes) }
-    ensures written { IfOk result (λ answer. IsWritten answer.status) }
+    ensures written { IfOk result (λ answer. IsWritten answer.status (dump_text answer)) }
     ensures end { (bytes : List ℕ) → S.left source.old ≡ Some bytes → IfOk result (λ _. S.left source.new ≡ Some []) }
     ensures too_long { IsErrOf result FeedFault.TooLong ↔ GaveTooMuch (S.given source.old) (S.given source.new) }
     ensures long { (bytes : List ℕ) → S.left source.old ≡ Some bytes → IsErrOf result FeedFault.TooLong → longest_input < length bytes }

@@ -1,11 +1,11 @@
-ghost use Rattle.std.specs.Prelude.{◌≡◌, ◌≤◌, ◌↔◌, ℕ, ◌<◌, List, Some, None, IfOk, IsErrOf, IsSome, length, map, string_bytes};
+ghost use Rattle.std.specs.Prelude.{◌≡◌, ◌≢◌, ◌≤◌, ◌↔◌, ℕ, ◌<◌, List, Some, None, IfOk, IsErrOf, IsSome, length, map, string_bytes};
 ghost use Rattle.mt_text.specs.Text.{longest_input};
 ghost use Rattle.mt_text.specs.declared.fault.FeedFault.{FeedFault};
 ghost use Rattle.mt_ports.specs.Causes.{Rose, StatusHasCause};
 ghost use Rattle.mt_text.specs.Feed.{GaveTooMuch};
 ghost use Rattle.mt_import.specs.Help.{own_text};
 ghost use Rattle.mt_import.specs.Supplied.{command_of};
-ghost use Rattle.mt_import.specs.Import.{HaveCause, Imports, ImportsApart, IsWritten, left_of, own_told, told_of, usage_told};
+ghost use Rattle.mt_import.specs.Import.{HaveCause, Imports, ImportsApart, IsWritten, dump_text, left_of, own_told, told_of, usage_told};
 
 use crate::help::own_text;
 use crate::text::Imported;
@@ -47,7 +47,7 @@ fn usage_told() -> Imported
 fn imported<S: Source>(words: &[String], source: &mut S) -> Result<Imported, FeedFault>
     ensures answer { (bytes : List ℕ) → S.left source.old ≡ Some bytes → IfOk result (λ answer. answer ≡ told_of (map string_bytes words.now) bytes) }
     ensures end { (bytes : List ℕ) → S.left source.old ≡ Some bytes → IfOk result (λ _. S.left source.new ≡ Some (left_of (map string_bytes words.now) bytes)) }
-    ensures written { IfOk result (λ answer. IsWritten answer.status) }
+    ensures written { IfOk result (λ answer. IsWritten answer.status (dump_text answer)) }
     ensures unread { command_of (map string_bytes words.now) ≡ None → source.new ≡ source.old }
     ensures own { IsSome (own_text (map string_bytes words.now)) → source.new ≡ source.old }
     ensures too_long { IsErrOf result FeedFault.TooLong ↔ GaveTooMuch (S.given source.old) (S.given source.new) }
@@ -96,8 +96,7 @@ pub fn import<S: Source, K: Sink>(words: &[String], source: &mut S, sink: &mut K
     }
 }
 
-/// The same over two sinks: one takes the dump, the other, as standard error, takes the reasons. At the statuses 1, 2 and 3
-/// nothing is written to the first.
+/// The same over two sinks. One takes the dump. The other, as standard error, takes the reasons, and takes them first.
 pub fn import_apart<S: Source, K: Sink, E: Sink>(
     words: &[String],
     source: &mut S,
@@ -109,6 +108,9 @@ pub fn import_apart<S: Source, K: Sink, E: Sink>(
         (record { old = K.taken sink.old; new = K.taken sink.new }) (record { old = E.taken errors.old; new = E.taken errors.new }) result }
     ensures unread { command_of (map string_bytes words.now) ≡ None → source.new ≡ source.old }
     ensures own { IsSome (own_text (map string_bytes words.now)) → source.new ≡ source.old }
+
+    // At statuses such as 1, 2 and 3 nothing is written to the sink of the dump.
+    ensures alone { result ≢ Status.Done → result ≢ Status.WriteFault → sink.new ≡ sink.old }
     ensures read_fault { StatusHasCause Status.ReadFault (S.faults source.old) (S.faults source.new) result }
     ensures write_fault { HaveCause (K.faults sink.old, K.faults sink.new) (E.faults errors.old, E.faults errors.new) result }
     ensures too_long { (result ≡ Status.TooLong) ↔ GaveTooMuch (S.given source.old) (S.given source.new) }

@@ -1,7 +1,7 @@
-ghost use Rattle.std.specs.Prelude.{◌≡◌, ◌≤◌, ◌<◌, ◌+◌, ◌++◌, length, Some, None};
+ghost use Rattle.std.specs.Prelude.{◌≡◌, ◌≤◌, ◌<◌, ◌+◌, ◌++◌, codes, decimal, length, Some, None};
 ghost use Rattle.arrayvec.specs.ArrayVec.{array_vec_len};
 ghost use Rattle.mt_import.specs.Outcome.{Told, assumption_text, contradiction_line, count_line, fault_line, format_name, hint_text, is_empty, missing_line, note_by, number_if, rival_text, unless, warning_text, width_hint, width_line, width_note};
-ghost use Rattle.mt_import.specs.Import.{IsWritten};
+ghost use Rattle.mt_import.specs.Import.{IsWritten, dump_text};
 ghost use Rattle.mt_import.specs.Reader.{IsShort};
 ghost use Rattle.mt_regs.specs.Registers.{HasThreeDigits};
 
@@ -32,18 +32,31 @@ impl Model for Imported {
     ghost view = { λ i. record { notes = i.notes.items; dump = i.dump.items; reasons = i.reasons.items; status = i.status } };
 }
 
+// `: line 7`, and what it does.
+fn append_line(line: &mut LineBuffer, number: u64, text: &[u8])
+    requires room { array_vec_len line.old ≤ 80 }
+    requires short { length text.now ≤ 31 }
+    ensures text { line.new.items ≡ line.old.items ++ (codes ": line " ++ decimal number ++ text.now) }
+    ensures short { array_vec_len line.new ≤ array_vec_len line.old + 58 }
+{
+    append(line, b": line ");
+    append_decimal(line, number);
+    append(line, text);
+}
+
 fn append_rival(line: &mut LineBuffer, rival: Rival)
     requires { array_vec_len line.old ≤ 80 }
     ensures text { line.new.items ≡ line.old.items ++ rival_text rival }
-    ensures short { array_vec_len line.new ≤ array_vec_len line.old + 46 }
+    ensures short { array_vec_len line.new ≤ array_vec_len line.old + 58 }
 {
     match rival {
-        Rival::Line(number) => {
-            append(line, b": line ");
-            append_decimal(line, number);
-            append(line, b" shows it otherwise");
-        }
+        Rival::Line(number) => append_line(line, number, b" shows it otherwise"),
         Rival::Word => append(line, b": a word supplies it otherwise"),
+        Rival::CapabilityLine(number) => append_line(line, number, b" shows 0fe without it"),
+        Rival::CapabilityWord => append(line, b": a word supplies 0fe without it"),
+        Rival::RegisterLine(number) => {
+            append_line(line, number, b" shows a register that it lacks");
+        }
     }
 }
 
@@ -63,15 +76,17 @@ fn contradiction_line(place: Place, number: u32, rival: Rival) -> LineBuffer
     line
 }
 
-fn width_line(place: Place) -> LineBuffer
-    ensures { result.items ≡ width_line place }
+fn width_line(place: Place, rival: Rival) -> LineBuffer
+    ensures { result.items ≡ width_line place rival }
 {
     let mut line = ArrayVec::new();
     append(&mut line, b"contradiction ");
     append_decimal(&mut line, place.line);
     append(&mut line, b":");
     append_decimal(&mut line, place.column);
-    append(&mut line, b" maxphyaddr\n");
+    append(&mut line, b" maxphyaddr");
+    append_rival(&mut line, rival);
+    append(&mut line, b"\n");
     line
 }
 
@@ -87,7 +102,7 @@ fn fault_line(fault: &ImportFault) -> LineBuffer
         ImportFault::Contradiction(place, number, rival) => {
             contradiction_line(*place, *number, *rival)
         }
-        ImportFault::WidthContradiction(place) => width_line(*place),
+        ImportFault::WidthContradiction(place, rival) => width_line(*place, *rival),
     }
 }
 
@@ -95,7 +110,7 @@ fn fault_line(fault: &ImportFault) -> LineBuffer
 pub(crate) fn faulted(fault: &ImportFault) -> Imported
     requires { IsShort fault.now }
     ensures told { (told : Told) → result ≡ unless (Some fault.now) told }
-    ensures written { IsWritten result.status }
+    ensures written { IsWritten result.status (dump_text result) }
 {
     let mut reasons = ArrayVec::new();
     append_text(&mut reasons, fault_line(fault).as_slice());

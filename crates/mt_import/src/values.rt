@@ -1,7 +1,7 @@
 ghost use Rattle.std.specs.Prelude.{◌≡◌, ◌≤◌, ◌<◌, ◌^◌, IfSome, Some, position};
 ghost use Rattle.mt_import.specs.Reader.{IsFit, known_in, slots_of, values_in};
 ghost use Rattle.mt_import.specs.Outcome.{firm_of, hint_of};
-ghost use Rattle.mt_import.specs.Values.{assumed_capabilities, assumed_mask, assumed_of, assumed_pair, assumed_pat, assumed_value, assumed_zero, base_of, disabled_value, firm_value, firm_width, has_pairs, is_of_table, is_pair_number, is_past, is_unshown, mask_of, mask_of_size, masks_in, only_if, or_supplied, pair_count, shown_pairs, shows_pairs, size_in, widest, width_at, width_by, width_limits};
+ghost use Rattle.mt_import.specs.Values.{assumed_capabilities, assumed_mask, assumed_of, assumed_pair, assumed_pat, assumed_value, assumed_zero, base_of, disabled_value, firm_value, firm_width, has_pairs, is_of_table, is_pair_number, is_past, is_unshown, mask_of, mask_of_size, masks_in, only_if, or_supplied, pair_count, shown_pairs, shows_only_fix, shows_pairs, size_in, widest, width_at, width_by, width_limits};
 
 use crate::shape::Slot;
 use crate::supplied::Assumed;
@@ -160,7 +160,7 @@ fn width_at(at: Option<usize>) -> Option<u8>
     }
 }
 
-// The least width that has all bits of the masks.
+// The least width that has all bits of the masks, if one has bit 31 or more, and none a bit past 51.
 pub(crate) fn widest(masks: u64) -> Option<u8>
     ensures width { result ≡ widest masks }
     ensures fit { IfSome result IsFit }
@@ -195,6 +195,13 @@ fn assumed_of(k: u32, assumed: Assumed) -> Assumed
             ..assumed
         }
     }
+}
+
+// Whether lines show FIX of a capability register, but not all of it.
+fn shows_only_fix(slot: &Slot) -> bool
+    ensures { result ≡ shows_only_fix slot.now }
+{
+    is_bit_set(slot.value, FIXED_RANGES) && !slot.is_whole()
 }
 
 fn is_of_table(slot: &Slot) -> bool
@@ -258,7 +265,7 @@ impl LogReader {
         requires { k < 16 }
         ensures { result ≡ assumed_capabilities (slots_of self.now k) }
     {
-        if is_bit_set(self.slot(k, CAPABILITIES).value, FIXED_RANGES) {
+        if shows_only_fix(&self.slot(k, CAPABILITIES)) {
             Some(self.pair_count(k) + FIXED_AND_COMBINING)
         } else {
             None

@@ -1,8 +1,8 @@
-ghost use Rattle.std.specs.Prelude.{◌≡◌, ◌++◌};
+ghost use Rattle.std.specs.Prelude.{◌≡◌, ◌≢◌, ◌++◌};
 ghost use Rattle.mt_ports.specs.Causes.{HasCause, StatusHasCause};
 ghost use Rattle.mt_ports.specs.Puts.{Puts};
 ghost use Rattle.mt_output.specs.Written.{Writes};
-ghost use Rattle.mt_import.specs.Import.{HaveCause, IsWritten, WritesApart, one_text};
+ghost use Rattle.mt_import.specs.Import.{HaveCause, IsWritten, WritesApart, dump_text, one_text};
 
 use crate::text::Imported;
 use mt_output::written;
@@ -20,7 +20,7 @@ fn put_both<K: Sink>(sink: &mut K, first: &[u8], second: &[u8]) -> Result<(), Fa
 }
 
 fn written_both<K: Sink>(sink: &mut K, first: &[u8], second: &[u8], status: Status) -> Status
-    requires { IsWritten status }
+    requires { IsWritten status (first.now ++ second.now) }
     ensures bytes { Writes (first.now ++ second.now) status (K.taken sink.old) (K.taken sink.new) result }
     ensures cause { StatusHasCause Status.WriteFault (K.faults sink.old) (K.faults sink.new) result }
 {
@@ -32,7 +32,7 @@ fn written_both<K: Sink>(sink: &mut K, first: &[u8], second: &[u8], status: Stat
 
 /// Writes the dump with its comments, or else the reasons, and returns the status unless the sink fails.
 pub(crate) fn written_in_one<K: Sink>(sink: &mut K, imported: &Imported) -> Status
-    requires { IsWritten imported.now.status }
+    requires { IsWritten imported.now.status (dump_text imported.now) }
     ensures bytes { Writes (one_text imported.now) imported.now.status (K.taken sink.old) (K.taken sink.new) result }
     ensures cause { StatusHasCause Status.WriteFault (K.faults sink.old) (K.faults sink.new) result }
 {
@@ -48,22 +48,26 @@ pub(crate) fn written_in_one<K: Sink>(sink: &mut K, imported: &Imported) -> Stat
     }
 }
 
-/// Writes the reasons to one sink and the dump with its comments to the other, and returns the status unless a sink fails.
+/// Writes the reasons to one sink, and then the dump with its comments to the other. Returns the status unless a sink fails.
 pub(crate) fn written_apart<K: Sink, E: Sink>(
     sink: &mut K,
     errors: &mut E,
     imported: &Imported,
 ) -> Status
-    requires { IsWritten imported.now.status }
+    requires { IsWritten imported.now.status (dump_text imported.now) }
     ensures bytes { WritesApart imported.now
         (record { old = K.taken sink.old; new = K.taken sink.new }) (record { old = E.taken errors.old; new = E.taken errors.new }) result }
+    ensures alone { result ≢ Status.Done → result ≢ Status.WriteFault → sink.new ≡ sink.old }
     ensures cause { HaveCause (K.faults sink.old, K.faults sink.new) (E.faults errors.old, E.faults errors.new) result }
 {
     if put(errors, imported.reasons.as_slice()).is_err() {
         return Status::WriteFault;
     }
+    if imported.status != Status::Done {
+        return imported.status;
+    }
     match put_both(sink, imported.notes.as_slice(), imported.dump.as_slice()) {
-        Ok(()) => imported.status,
+        Ok(()) => Status::Done,
         Err(_) => Status::WriteFault,
     }
 }

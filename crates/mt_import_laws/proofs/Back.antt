@@ -1,7 +1,8 @@
 -- A file that comes out of readings of its registers.
-use Rattle.std.proofs.Common.{◌≡◌, ◌∙◌, ◌<◌, ◌≤◌, ℕ, zero, suc, Bool, true, false, List, [], ◌∷◌, ◌++◌, length, map, take, Option, Some, None, refl, sym, ap, arith, inl, inr}
-use Rattle.std.specs.Prelude.{if◌then◌else◌, unwrap_or}
+use Rattle.std.proofs.Common.{◌≡◌, ◌∙◌, ◌<◌, ◌≤◌, ◌==◌, ◌^◌, ℕ, zero, suc, Bool, true, false, List, [], ◌∷◌, ◌++◌, length, map, take, Option, Some, None, refl, sym, ap, subst, arith, inl, inr}
+use Rattle.std.specs.Prelude.{◌⊎◌, if◌then◌else◌, unwrap_or}
 use Rattle.std.specs.List.{AllByRecursion}
+use Rattle.std.proofs.lemmas.Bool.{eqb-true}
 use Rattle.std.proofs.lemmas.List.{ext_get_or, get_or-map, take_all}
 use Rattle.mt_regs.specs.declared.registers.Register.{Register}
 use Rattle.mt_regs.specs.declared.registers.Register.TheVariants.{PhysBase, PhysMask, FixedRange, Pat, DefaultType}
@@ -9,14 +10,18 @@ use Rattle.mt_regs.specs.RegisterFile.{IsRegisterFile, RegisterFile, has_fixed, 
 use Rattle.mt_regs.specs.Registers.{IsWithin, fixed_numbers, number_of, value_of, writable}
 use Rattle.mt_dump.specs.Canon.{canon}
 use Rattle.mt_dump.specs.Dumps.{dump_of}
+use Rattle.mt_text.specs.declared.place.Place.{Place}
 use Rattle.mt_import.specs.declared.shape.Tally.{Tally}
 use Rattle.mt_import.specs.Supplied.{Supplied, supplied_value}
-use Rattle.mt_import.specs.Values.{assumed_width, or_supplied, width_by}
-use Rattle.mt_import.specs.Outcome.{Seen, Slots, dump_told, ended, file_of, first_pairs, fixed_of, hint_of, is_empty, is_missing, known_of, missing_lines, missing_of, needed, notes_of, processors, refusal, remarks, slot_shown, value_or_zero, values_of}
+use Rattle.mt_import.specs.Readings.{Fact, is_fault, is_line, is_register_value, is_warning, is_width}
+use Rattle.mt_import.specs.Slot.{all_bits}
+use Rattle.mt_import.specs.Values.{assumed_of, assumed_value, assumed_width, disabled_value, or_supplied, width_by}
+use Rattle.mt_import.specs.Outcome.{Seen, Slots, dump_told, ended, file_of, first_pairs, fixed_of, hint_of, is_empty, is_missing, known_by, known_of, missing_lines, missing_of, needed, notes_of, processors, refusal, remarks, seen_after, seen_with, slot_shown, value_or_zero, values_of}
 use Rattle.mt_import.proofs.Same.{value_is}
-use Rattle.mt_import_laws.specs.Printed.{Key, ReadsBack}
+use Rattle.mt_import_laws.specs.Origins.{IsAmong}
+use Rattle.mt_import_laws.specs.Printed.{ReadsBack}
 use Rattle.mt_import_laws.proofs.Keys.{all_within}
-use Rattle.mt_import_laws.proofs.Whole.{Holds, IsKnown, IsWidth}
+use Rattle.mt_import_laws.proofs.Whole.{Holds, IsKnown, IsSound, IsWidth, Prints, whole_slot}
 
 -- ---- the file
 
@@ -79,8 +84,8 @@ module _ (hints : ℕ → Option ℕ) (values : ℕ → ℕ → Option ℕ) (fil
 module _ (auto : Bool) (tally : Tally) (values : ℕ → ℕ → Option ℕ) (file : RegisterFile) (is : file_of (values 0) file.width file.capabilities ≡ file) where
   by_parts : (missing notes : List ℕ) (count : ℕ) (width capabilities : Option ℕ) → missing ≡ [] → count ≡ 1 → width ≡ Some file.width → capabilities ≡ Some file.capabilities
       → ReadsBack (if is_empty missing then dump_told (refusal tally missing) values count notes (remarks auto tally) width capabilities else refusal tally missing) file
-  by_parts missing notes count width capabilities none one is_width is_capabilities =
-      rw (none, one, is_width, is_capabilities) (record { status = refl; dump = ap (λ f. canon (dump_of f)) is })
+  by_parts missing notes count width capabilities none one own_width own_capabilities =
+      rw (none, one, own_width, own_capabilities) (record { status = refl; dump = ap (λ f. canon (dump_of f)) is })
 
 -- What a file's registers were read as comes out as the file.
 pub ended_back : (auto : Bool) (supplied : Supplied) (seen : Seen) (file : RegisterFile) → IsRegisterFile file → processors seen.readings ≡ 1 → width_by supplied (slot_shown seen.readings) seen.width ≡ Some file.width
@@ -104,13 +109,49 @@ module _ (supplied : Supplied) (seen : Seen) where
   pub by_lines : (number value : ℕ) → Holds (slot_shown seen.readings 0 number) value → values_of supplied (slot_shown seen.readings) (known_of seen) 0 number ≡ Some value
   by_lines number value holds = value_is supplied (slot_shown seen.readings) (known_of seen) 0 number ∙ rw (holds.fresh, holds.shows) refl
 
-  -- a word gives the register, and lines show no other value
-  pub by_word : (number value : ℕ) → IsKnown (slot_shown seen.readings 0 number) value → supplied_value supplied number ≡ Some value → values_of supplied (slot_shown seen.readings) (known_of seen) 0 number ≡ Some value
-  by_word number value (inr holds) given = by_lines number value holds
-  by_word number value (inl blank) given = value_is supplied (slot_shown seen.readings) (known_of seen) 0 number ∙ rw (blank, given) refl
+  -- a word gives the register, and lines show no other bits
+  pub by_word : (number value : ℕ) → IsKnown (slot_shown seen.readings 0 number) value → value < 2 ^ 64 → supplied_value supplied number ≡ Some value
+      → values_of supplied (slot_shown seen.readings) (known_of seen) 0 number ≡ Some value
+  by_word number value known fits given =
+      value_is supplied (slot_shown seen.readings) (known_of seen) 0 number
+      ∙ by ((slot_shown seen.readings 0 number).fresh == all_bits) refl
+    where
+      by : (test : Bool) → ((slot_shown seen.readings 0 number).fresh == all_bits) ≡ test
+          → or_supplied (or_supplied (if test then Some (slot_shown seen.readings 0 number).value else None) (or_supplied (supplied_value supplied number) (disabled_value (slot_shown seen.readings 0) number)))
+          (assumed_value (assumed_of 0 supplied.assumed) (slot_shown seen.readings 0) (known_by supplied (slot_shown seen.readings) (known_of seen)) number)
+          ≡ Some value
+      by true whole = ap Some (whole_slot (slot_shown seen.readings 0 number) value known fits (eqb-true (slot_shown seen.readings 0 number).fresh all_bits whole)).shows
+      by false part = rw given refl
 
 -- ---- the width
 
-pub width_back : (file : RegisterFile) (prints : Key → Bool) (supplied : Supplied) (slots : Slots) (shown : Option ℕ) → supplied.width ≡ Some file.width → IsWidth file prints shown → width_by supplied slots shown ≡ Some file.width
-width_back file prints supplied slots None given same = ap (λ width. or_supplied width (assumed_width supplied.assumed (slots 0))) given
-width_back file prints supplied slots (Some width) given same = ap Some same
+-- a word gives the width, and lines show no other
+pub width_by_word : (file : RegisterFile) (prints : Prints) (supplied : Supplied) (slots : Slots) (shown : Option ℕ) → supplied.width ≡ Some file.width → IsWidth file prints shown → width_by supplied slots shown ≡ Some file.width
+width_by_word file prints supplied slots None given same = ap (λ width. or_supplied width (assumed_width supplied.assumed (slots 0))) given
+width_by_word file prints supplied slots (Some width) given same = ap Some same
+
+-- a line shows it
+width_gathers : (file : RegisterFile) (prints : Prints) (facts : List Fact) (seen : Seen) (place : Place) → AllByRecursion (IsSound file prints) facts
+    → IsAmong (is_width file.width place) facts ⊎ (seen.width ≡ Some file.width) → (seen_after seen facts).width ≡ Some file.width
+width_gathers file prints [] seen place sound (inl fact) = absurd fact
+width_gathers file prints [] seen place sound (inr before) = before
+width_gathers file prints (fact ∷ facts) seen place sound (inl (inr later)) = width_gathers file prints facts (seen_with seen fact) place sound.1 (inl later)
+width_gathers file prints (fact ∷ facts) seen place sound (inl (inl same)) =
+    width_gathers file prints facts (seen_with seen fact) place sound.1 (inr (subst (λ (f : Fact). (seen_with seen f).width ≡ Some file.width) (sym same) refl))
+width_gathers file prints (fact ∷ facts) seen place sound (inr before) = width_gathers file prints facts (seen_with seen fact) place sound.1 (inr (by fact sound.0))
+  where
+    by : (f : Fact) → IsSound file prints f → (seen_with seen f).width ≡ Some file.width
+    by (is_line number format matched) true_one = before
+    by (is_register_value reading) true_one = before
+    by (is_width width at) true_one = ap Some true_one
+    by is_warning true_one = before
+    by (is_fault fault) true_one = absurd true_one
+
+-- words or facts give the width
+abbrev pub HasWidth : RegisterFile → Supplied → List Fact → Type 0
+HasWidth file supplied facts = (supplied.width ≡ Some file.width) ⊎ ((place : Place) × IsAmong (is_width file.width place) facts)
+
+pub width_back : (file : RegisterFile) (prints : Prints) (supplied : Supplied) (slots : Slots) (facts : List Fact) (seen : Seen) → AllByRecursion (IsSound file prints) facts → IsWidth file prints (seen_after seen facts).width
+    → HasWidth file supplied facts → width_by supplied slots (seen_after seen facts).width ≡ Some file.width
+width_back file prints supplied slots facts seen sound is (inl given) = width_by_word file prints supplied slots (seen_after seen facts).width given is
+width_back file prints supplied slots facts seen sound is (inr shown) = ap (width_by supplied slots) (width_gathers file prints facts seen shown.0 sound (inl shown.1))

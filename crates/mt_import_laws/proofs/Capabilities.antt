@@ -5,7 +5,7 @@ use Rattle.std.specs.Int.{bit_at}
 use Rattle.std.proofs.lemmas.Bool.{eqb-true}
 use Rattle.mt_ports.specs.declared.status.Status.TheVariants.{BadText}
 use Rattle.mt_import.specs.declared.fault.Rival.{Rival}
-use Rattle.mt_import.specs.declared.fault.Rival.TheVariants.{Line}
+use Rattle.mt_import.specs.declared.fault.Rival.TheVariants.{Line, CapabilityLine, RegisterLine}
 use Rattle.mt_import.specs.declared.format.Choice.{Choice}
 use Rattle.mt_import.specs.declared.shape.LastPair.{LastPair}
 use Rattle.mt_import.specs.declared.shape.Reading.{Reading}
@@ -20,11 +20,11 @@ use Rattle.mt_import_laws.proofs.Bits.{bit_first, bit_second, value_kept, value_
 use Rattle.mt_import_laws.proofs.Faults.{fault_of, faulty, fine_of}
 use Rattle.mt_import_laws.proofs.Fine.{HasBit, IsFine, same_number, tests_of_rival}
 
-no_clash : (clash fewer : Bool) (line other : ℕ) → (if clash then Some (Line line) else if fewer then Some (Line other) else None) ≡ None → clash ≡ false
+no_clash : (clash fewer : Bool) (line other : ℕ) → (if clash then Some (Line line) else if fewer then Some (RegisterLine other) else None) ≡ None → clash ≡ false
 no_clash true fewer line other is = cc is
 no_clash false fewer line other is = refl
 
-no_count : (fewer : Bool) (line : ℕ) (others : Option Rival) → (if fewer then Some (Line line) else others) ≡ None → others ≡ None
+no_count : (fewer : Bool) (line : ℕ) (others : Option Rival) → (if fewer then Some (CapabilityLine line) else others) ≡ None → others ≡ None
 no_count true line others is = cc is
 no_count false line others is = is
 
@@ -44,7 +44,7 @@ kept slot other reading i fit has false apart = has
 here : (slot : Slot) (reading : Reading) (i : ℕ) → reading.number ≡ 0xfe → clashes slot reading ≡ false → bit_at reading.bits i ≡ 1 → HasBit (capabilities_after reading slot) reading i
 here slot reading i number fit one = rw (same_number reading.number 0xfe number) (record { shown = bit_second slot.bits reading.bits i one; value = value_new slot reading i fit one })
 
-agreed : (supplied : Supplied) (readings : List Reading) (reading : Reading) (i : ℕ) → IsFine supplied readings → IsAmong reading readings → reading.number ≡ 0xfe → bit_at reading.bits i ≡ 1
+pub agreed : (supplied : Supplied) (readings : List Reading) (reading : Reading) (i : ℕ) → IsFine supplied readings → IsAmong reading readings → reading.number ≡ 0xfe → bit_at reading.bits i ≡ 1
     → HasBit (capabilities_shown readings) reading i
 agreed supplied [] reading i fine among number one = absurd among
 agreed supplied (other ∷ before) reading i fine (inl same) number one =

@@ -1,8 +1,8 @@
 -- What a line of coreboot's display is read as.
-use Rattle.std.proofs.Common.{◌≡◌, ◌∙◌, ◌+◌, ◌-◌, ◌*◌, ◌^◌, ◌<◌, ◌≤◌, ◌==◌, ◌&&◌, not, nat_lt, ℕ, zero, suc, Bool, true, false, List, [], ◌∷◌, ◌++◌, length, Option, Some, None, refl, ap, subst, arith, lit≤, length-append, codes, decimal, inl, inr}
+use Rattle.std.proofs.Common.{◌≡◌, ◌∙◌, ◌+◌, ◌-◌, ◌*◌, ◌^◌, ◌<◌, ◌≤◌, ◌==◌, ◌&&◌, not, nat_lt, ℕ, zero, suc, Bool, true, false, List, [], ◌∷◌, ◌++◌, length, Some, None, refl, ap, arith, lit≤, length-append, codes, decimal}
 use Rattle.std.specs.Fmt.{digits}
 use Rattle.std.specs.List.{list_all}
-use Rattle.std.proofs.lemmas.Bool.{and_parts, cases_lt, eqb-true}
+use Rattle.std.proofs.lemmas.Bool.{and_parts}
 use Rattle.std.proofs.lemmas.Bool.Decides.{nat_tests}
 use Rattle.std.proofs.Math.Seq.{drop-append_seam, take-append_seam}
 use Rattle.hex.specs.Hex.{lower_digits}
@@ -23,6 +23,7 @@ use Rattle.mt_import_laws.specs.Printed.{Key, number_at}
 use Rattle.mt_import_laws.specs.PrintedByCoreboot.{colon_if, display_line, is_tail_byte, name_of, number_word}
 use Rattle.mt_import_laws.proofs.PrintedDigits.{sixteen_all, sixteen_long, sixteen_read}
 use Rattle.mt_import_laws.proofs.LineWords.{AreWords, IsWord, all_append, digits_are_word, length_of_pieces, pieces_plain, placed, word_append, words_of_pieces}
+use Rattle.mt_import_laws.proofs.Below.{is_value, passes, some_value}
 use Rattle.mt_import_laws.proofs.Keys.{IsKey}
 
 -- ---- the value
@@ -43,28 +44,6 @@ number_read : (value : ℕ) → value < 2 ^ 64 → colon_number (number_word val
 number_read value fits = rw (before_colon (48 ∷ 120 ∷ value_text value), sixteen_read lower_digits IsDigits-lower_digits value fits) refl
 
 -- ---- the name
-
--- each number below one passes a test
-abbrev all_below : (ℕ → Bool) → ℕ → Bool
-all_below test zero = true
-all_below test (suc n) = test n && all_below test n
-
-passes : (test : ℕ → Bool) (n k : ℕ) → all_below test n ≡ true → k < n → test k ≡ true
-passes test zero k all less = absurd (omega (arith, less))
-passes test (suc n) k all less =
-    let parts = and_parts (test n) (all_below test n) all in
-    elim (cases_lt k n) [
-      | inl below ↦ passes test n k parts.1 below
-      | inr top ↦ let e : n ≡ k = omega (arith, less, top) in subst (λ j. test j ≡ true) e parts.0
-    ]
-
-abbrev is_value : Option ℕ → ℕ → Bool
-is_value None value = false
-is_value (Some other) value = other == value
-
-some_value : (o : Option ℕ) (value : ℕ) → is_value o value ≡ true → o ≡ Some value
-some_value None value is = cc is
-some_value (Some other) value is = ap Some (eqb-true other value is)
 
 -- a pair's number, with and without a `:` behind it
 abbrev is_read : ℕ → ℕ → List ℕ → Bool

@@ -1,5 +1,5 @@
 -- What coreboot displays reads back.
-use Rattle.std.proofs.Common.{◌≡◌, Bool, true, List, ◌++◌, filter, Some, None, refl, sym, subst, inl, inr}
+use Rattle.std.proofs.Common.{◌≡◌, ◌^◌, ◌<◌, Bool, true, List, ◌++◌, filter, Some, None, refl, sym, subst, inl, inr}
 use Rattle.std.specs.Prelude.{◌⊎◌}
 use Rattle.std.specs.List.{AllByRecursion, list_all}
 use Rattle.mt_text.proofs.Plain.{is_plain}
@@ -14,12 +14,11 @@ use Rattle.mt_import_laws.specs.Origins.{IsAmong}
 use Rattle.mt_import_laws.specs.Printed.{Key, TableReadsBack, value_in}
 use Rattle.mt_import_laws.specs.PrintedByCoreboot.{SuitsCoreboot, Tails, coreboot_lines, displayed, is_fixed, is_of_pair, line_of, name_of}
 use Rattle.mt_import_laws.proofs.Among.{all_map, among_at, among_filter, among_join, among_map, each_among, filter_among, join_among_first, join_among_second, map_among}
-use Rattle.mt_import_laws.proofs.Back.{by_word}
 use Rattle.mt_import_laws.proofs.CorebootLines.{IsNamed, is_displayed, line_plain, named, place, register_said}
-use Rattle.mt_import_laws.proofs.KeyLines.{ShowsAlone, fits, has_line, lines_true}
+use Rattle.mt_import_laws.proofs.KeyLines.{ShowsAlone, has_line, lines_true}
 use Rattle.mt_import_laws.proofs.Keys.{IsKey, all_within}
-use Rattle.mt_import_laws.proofs.PrintedBack.{HasLine, IsGiven, IsInFile, key_in_file, table_back}
-use Rattle.mt_import_laws.proofs.Whole.{known}
+use Rattle.mt_import_laws.proofs.PrintedBack.{HasLine, IsGiven, IsInFile, fits, key_in_file, table_back, word_gives}
+use Rattle.mt_import_laws.proofs.Whole.{any_bits}
 
 shown_fixed : (register : Register) → is_fixed register ≡ true → is_displayed (Some register) ≡ true
 shown_fixed (PhysBase n) is = refl
@@ -76,6 +75,9 @@ module _ (leveled : Bool) (tails : Tails) (file : RegisterFile) (supplied : Supp
   are_keys : (key : Key) → IsAmong key (displayed file) → IsKey key
   are_keys key among = key_in_file file key suits.is_file (of_key key among).0
 
+  all_fit : (key : Key) → IsAmong key (displayed file) → value_in file key < 2 ^ 64
+  all_fit key among = fits file key suits.is_file suits.has_words (of_key key among).0
+
   shows : (key : Key) → IsAmong key (displayed file) → ShowsAlone file Coreboot key (line_of leveled tails file key)
   shows key among =
       let of = of_key key among in
@@ -85,21 +87,18 @@ module _ (leveled : Bool) (tails : Tails) (file : RegisterFile) (supplied : Supp
         processor = None;
         own = refl;
         place = place key (value_in file key) (name_of file key) (tails key) name tail.0 tail.1 tail.2 leveled;
-        said = λ number. register_said key (value_in file key) (name_of file key) (tails key) name tail.0 tail.1 tail.2 leveled number (fits file key suits.is_file suits.has_words of.0);
+        said = λ number. register_said key (value_in file key) (name_of file key) (tails key) name tail.0 tail.1 tail.2 leveled number (all_fit key among);
       }
 
   line_at : (key : Key) → IsAmong key (displayed file) → HasLine Coreboot (coreboot_lines leveled tails file) key
-  line_at = has_line file Coreboot is_displayed (line_of leveled tails file) (displayed file) are_keys (λ key among. (of_key key among).1) shows
+  line_at = has_line file Coreboot (line_of leveled tails file) (displayed file) are_keys all_fit shows
 
-  pat_given : IsGiven file is_displayed supplied (Some Pat)
-  pat_given seen is_seen = by_word supplied seen 0x277 file.pat (known file is_displayed seen.readings (Some Pat) is_seen.readings tt) suits.pat
-
-  each_key : (key : Key) → IsInFile file key → HasLine Coreboot (coreboot_lines leveled tails file) key ⊎ IsGiven file is_displayed supplied key
+  each_key : (key : Key) → IsInFile file key → HasLine Coreboot (coreboot_lines leveled tails file) key ⊎ IsGiven file any_bits supplied key
   each_key None within = inl (line_at None (inl refl))
   each_key (Some (PhysBase n)) within = inl (line_at (Some (PhysBase n)) (is_of_pairs (PhysBase n) within refl))
   each_key (Some (PhysMask n)) within = inl (line_at (Some (PhysMask n)) (is_of_pairs (PhysMask n) within refl))
   each_key (Some (FixedRange place)) within = inl (line_at (Some (FixedRange place)) (is_of_fixed (FixedRange place) within refl))
-  each_key (Some Pat) within = inr pat_given
+  each_key (Some Pat) within = inr (word_gives file any_bits supplied (Some Pat) suits.is_file suits.has_words tt suits.pat)
   each_key (Some DefaultType) within = inl (line_at (Some DefaultType) (inr (inl refl)))
 
   table_plain : AllByRecursion (λ line. list_all is_plain line ≡ true) (coreboot_lines leveled tails file)
@@ -111,8 +110,8 @@ module _ (leveled : Bool) (tails : Tails) (file : RegisterFile) (supplied : Supp
 
   pub reads : TableReadsBack Coreboot (coreboot_lines leveled tails file) supplied file
   reads =
-      table_back file is_displayed Coreboot (coreboot_lines leveled tails file) supplied suits.is_file suits.has_words suits.agrees suits.width
+      table_back file any_bits Coreboot (coreboot_lines leveled tails file) supplied suits.is_file suits.has_words suits.agrees (inl suits.width)
       (record {
-        each = lines_true file Coreboot is_displayed (line_of leveled tails file) (displayed file) are_keys (λ key among. (of_key key among).1) shows;
+        each = lines_true file Coreboot (line_of leveled tails file) (displayed file) are_keys all_fit shows;
         all = each_key;
       }) table_plain

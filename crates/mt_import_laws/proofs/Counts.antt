@@ -6,7 +6,7 @@ use Rattle.std.proofs.lemmas.Bool.Decides.{nat_tests}
 use Rattle.mt_ports.specs.declared.status.Status.TheVariants.{Done}
 use Rattle.mt_import.specs.declared.fault.ImportFault.{ImportFault}
 use Rattle.mt_import.specs.declared.fault.Rival.{Rival}
-use Rattle.mt_import.specs.declared.fault.Rival.TheVariants.{Line}
+use Rattle.mt_import.specs.declared.fault.Rival.TheVariants.{Line, CapabilityLine, RegisterLine}
 use Rattle.mt_import.specs.declared.format.Choice.{Choice}
 use Rattle.mt_import.specs.declared.shape.LastPair.{LastPair}
 use Rattle.mt_import.specs.declared.shape.Reading.{Reading}
@@ -38,9 +38,9 @@ last_is capabilities reading last new old = by (nat_lt last.count (enabled_pair 
 
 -- ---- what follows where there is no rival
 
-first_none : (fewer : Bool) (line : ℕ) (others : Option Rival) → (if fewer then Some (Line line) else others) ≡ None → (fewer ≡ false) × (others ≡ None)
-first_none true line others is = cc is
-first_none false line others is = (refl, is)
+first_none : (fewer : Bool) (found : Rival) (others : Option Rival) → (if fewer then Some found else others) ≡ None → (fewer ≡ false) × (others ≡ None)
+first_none true found others is = cc is
+first_none false found others is = (refl, is)
 
 no_pair : (reading : Reading) → reading.number ≡ 0xfe → enabled_pair reading ≡ 0
 no_pair reading number = rw number refl
@@ -49,14 +49,14 @@ module _ (capabilities : Slot) (last : LastPair) (reading : Reading) (none : cou
   step : (test : Bool) → (reading.number == 0xfe) ≡ test → counts_fewer (counted (if test then slot_with capabilities reading else capabilities)) (last_after reading last).count ≡ false
   step true same =
       let number = eqb-true reading.number 0xfe same in
-      let rest = (first_none (counts_fewer (counted capabilities) (enabled_pair reading)) capabilities.line (if reading.number == 0xfe then capability_rival capabilities last reading else None) none).1 in
+      let rest = (first_none (counts_fewer (counted capabilities) (enabled_pair reading)) (CapabilityLine capabilities.line) (if reading.number == 0xfe then capability_rival capabilities last reading else None) none).1 in
       let found : capability_rival capabilities last reading ≡ None = rw same at rest in
-      let inner = (first_none (clashes capabilities reading) capabilities.line (if counts_fewer (counted (slot_with capabilities reading)) last.count then Some (Line last.line) else None) found).1 in
-      let kept = (first_none (counts_fewer (counted (slot_with capabilities reading)) last.count) last.line None inner).0 in
+      let inner = (first_none (clashes capabilities reading) (Line capabilities.line) (if counts_fewer (counted (slot_with capabilities reading)) last.count then Some (RegisterLine last.line) else None) found).1 in
+      let kept = (first_none (counts_fewer (counted (slot_with capabilities reading)) last.count) (RegisterLine last.line) None inner).0 in
       last_is (counted (slot_with capabilities reading)) reading last (rw (no_pair reading number) (none_below (counted (slot_with capabilities reading)))) kept
   step false apart =
       last_is (counted capabilities) reading last
-      (first_none (counts_fewer (counted capabilities) (enabled_pair reading)) capabilities.line (if reading.number == 0xfe then capability_rival capabilities last reading else None) none).0 old
+      (first_none (counts_fewer (counted capabilities) (enabled_pair reading)) (CapabilityLine capabilities.line) (if reading.number == 0xfe then capability_rival capabilities last reading else None) none).0 old
 
 counts_all : (supplied : Supplied) (readings : List Reading) → IsFine supplied readings
     → (counts_fewer (counted (capabilities_shown readings)) (last_shown readings).count ≡ false) × (counts_fewer (supplied_value supplied 0xfe) (last_shown readings).count ≡ false)

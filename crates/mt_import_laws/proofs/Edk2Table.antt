@@ -1,8 +1,7 @@
 -- What EDK2 prints reads back.
-use Rattle.std.proofs.Common.{◌≡◌, ◌∙◌, ◌+◌, ◌*◌, ◌^◌, ◌<◌, ◌≤◌, ◌==◌, ℕ, zero, suc, Bool, true, false, List, [], ◌∷◌, ◌++◌, length, map, replicate, slice_index, Some, None, refl, sym, ap, subst, arith, inl, inr, lit<}
+use Rattle.std.proofs.Common.{◌≡◌, ◌∙◌, ◌+◌, ◌*◌, ◌^◌, ◌<◌, ℕ, zero, suc, Bool, true, false, List, [], ◌∷◌, ◌++◌, length, map, replicate, slice_index, Some, None, refl, sym, ap, subst, arith, inl, inr, lit<}
 use Rattle.std.specs.Prelude.{◌⊎◌, if◌then◌else◌}
 use Rattle.std.specs.List.{AllByRecursion, list_all}
-use Rattle.std.proofs.lemmas.Bool.Decides.{nat_tests}
 use Rattle.mt_text.proofs.Plain.{is_plain}
 use Rattle.mt_regs.specs.declared.registers.Register.TheVariants.{PhysBase, PhysMask, FixedRange, Pat, DefaultType}
 use Rattle.mt_regs.specs.RegisterFile.{RegisterFile, has_fixed, pair_at}
@@ -12,32 +11,17 @@ use Rattle.mt_import.specs.declared.reading.Said.TheVariants.{Shows}
 use Rattle.mt_import.specs.Pieces.{shown_as}
 use Rattle.mt_import.specs.Readings.{two_shown}
 use Rattle.mt_import.specs.Shown.{said_of}
-use Rattle.mt_import.specs.declared.shape.Slot.{Slot}
-use Rattle.mt_import.specs.Slot.{blank_slot}
-use Rattle.mt_import.specs.Supplied.{Supplied, supplied_value}
-use Rattle.mt_import.specs.Values.{base_of, is_pair_number}
-use Rattle.mt_import.specs.Outcome.{Seen, slot_shown, values_of}
+use Rattle.mt_import.specs.Supplied.{Supplied}
 use Rattle.mt_import_laws.specs.Origins.{IsAmong}
-use Rattle.mt_import_laws.specs.Printed.{Key, TableReadsBack, number_at, value_in}
+use Rattle.mt_import_laws.specs.Printed.{Key, TableReadsBack, value_in}
 use Rattle.mt_import_laws.specs.PrintedByEdk2.{SuitsEdk2, edk2_lines, is_valid, no_pair_line, or_none, own_line, pair_line, pair_lines, valid_from}
 use Rattle.mt_import_laws.proofs.Among.{all_map, among_join, among_map, each_among, join_among_first, join_among_second, map_among}
-use Rattle.mt_import_laws.proofs.Back.{by_word, width_back}
 use Rattle.mt_import_laws.proofs.Edk2Lines.{base_place, default_place, default_plain, default_said, fixed_place, fixed_plain, fixed_said, mask_place, pair_plain, pair_said}
-use Rattle.mt_import_laws.proofs.KeyLines.{ShowsAlone, fits, has_line, lines_true}
-use Rattle.mt_import_laws.proofs.Keys.{IsKey, value_at_key}
-use Rattle.mt_import_laws.proofs.PrintedBack.{HasLine, IsGiven, IsInFile, key_in_file, table_back}
-use Rattle.mt_import_laws.proofs.TableLines.{IsTrueSaid, all_join}
-use Rattle.mt_import_laws.proofs.Whole.{IsSeen, blank, known}
-
--- ---- which registers are printed
-
-abbrev is_printed : RegisterFile → Key → Bool
-is_printed file None = false
-is_printed file (Some (PhysBase n)) = is_valid (pair_at file.pairs n)
-is_printed file (Some (PhysMask n)) = is_valid (pair_at file.pairs n)
-is_printed file (Some (FixedRange place)) = true
-is_printed file (Some Pat) = false
-is_printed file (Some DefaultType) = true
+use Rattle.mt_import_laws.proofs.KeyLines.{ShowsAlone, has_line, lines_true}
+use Rattle.mt_import_laws.proofs.Keys.{IsKey}
+use Rattle.mt_import_laws.proofs.PrintedBack.{HasLine, IsGiven, IsInFile, fits, key_in_file, table_back, word_gives}
+use Rattle.mt_import_laws.proofs.TableLines.{IsTrueSaid, all_join, tells_whole}
+use Rattle.mt_import_laws.proofs.Whole.{any_bits}
 
 -- ---- the pairs whose V is set
 
@@ -133,9 +117,6 @@ small_zero (suc count) zero = lit< tt
 small_zero (suc count) (suc place) = small_zero count place
 
 module _ (file : RegisterFile) (supplied : Supplied) (suits : SuitsEdk2 file supplied) where
-  abbrev prints : Key → Bool
-  prints = is_printed file
-
   abbrev keys : List Key
   keys = Some DefaultType ∷ map Some fixed_registers
 
@@ -147,14 +128,14 @@ module _ (file : RegisterFile) (supplied : Supplied) (suits : SuitsEdk2 file sup
 
   record OwnLine (key : Key) : Type 0 where
     is_key : IsKey key
-    printed : prints key ≡ true
+    fit : value_in file key < 2 ^ 64
     shows : ShowsAlone file Edk2 key (own_line file key)
     plain : list_all is_plain (own_line file key) ≡ true
 
   default_own : OwnLine (Some DefaultType)
   default_own = record {
     is_key = tt;
-    printed = refl;
+    fit = fits file (Some DefaultType) suits.is_file suits.has_words tt;
     shows = record {
       processor = Some 0;
       own = refl;
@@ -167,7 +148,7 @@ module _ (file : RegisterFile) (supplied : Supplied) (suits : SuitsEdk2 file sup
   fixed_own : (place : ℕ) → place < 11 → OwnLine (Some (FixedRange place))
   fixed_own place few = record {
     is_key = (few, refl);
-    printed = refl;
+    fit = fixed_fits place few (has_fixed file) refl;
     shows = record {
       processor = Some 0;
       own = refl;
@@ -210,15 +191,17 @@ module _ (file : RegisterFile) (supplied : Supplied) (suits : SuitsEdk2 file sup
       pair_said n (pair_at file.pairs n) (few_pairs n within) number
       (fits file (Some (PhysBase n)) suits.is_file suits.has_words within) (fits file (Some (PhysMask n)) suits.is_file suits.has_words within)
 
-  pair_true : (n : ℕ) → IsPrintedPair n → (number : ℕ) → IsTrueSaid file prints (said_of Edk2 number (pair_of n))
+  pair_true : (n : ℕ) → IsPrintedPair n → (number : ℕ) → IsTrueSaid file any_bits (said_of Edk2 number (pair_of n))
   pair_true n is number =
       let within = is.within in
       rw (said_pair n within number) (
         refl,
         (
-          record { key = Some (PhysBase n); is_key = key_in_file file (Some (PhysBase n)) suits.is_file within; is_printed = is.valid; number = refl; bits = refl; value = refl },
+          inl (tells_whole file any_bits (Some (PhysBase n)) (base_place n (pair_at file.pairs n) (few_pairs n within) number) (key_in_file file (Some (PhysBase n)) suits.is_file within) refl
+              (fits file (Some (PhysBase n)) suits.is_file suits.has_words within)),
           (
-            record { key = Some (PhysMask n); is_key = key_in_file file (Some (PhysMask n)) suits.is_file within; is_printed = is.valid; number = refl; bits = refl; value = refl },
+            inl (tells_whole file any_bits (Some (PhysMask n)) (mask_place n (pair_at file.pairs n) (few_pairs n within) number) (key_in_file file (Some (PhysMask n)) suits.is_file within) refl
+                (fits file (Some (PhysMask n)) suits.is_file suits.has_words within)),
             (tt, (tt, (tt, (tt, (tt, (tt, (tt, (tt, (tt, tt))))))))),
           ),
         ),
@@ -234,54 +217,52 @@ module _ (file : RegisterFile) (supplied : Supplied) (suits : SuitsEdk2 file sup
   base_line n is = record {
     line = pair_of n;
     among = pair_among n is;
-    shows = λ number. record { processor = Some 0; shows = _; shown = _; said_is = said_pair n is.within number; among = inl refl; number = refl };
+    shows = λ number. record { processor = Some 0; shows = _; shown = _; said_is = said_pair n is.within number; among = inl refl; number = refl; bits = refl };
   }
 
   mask_line : (n : ℕ) → IsPrintedPair n → HasLine Edk2 (edk2_lines file) (Some (PhysMask n))
   mask_line n is = record {
     line = pair_of n;
     among = pair_among n is;
-    shows = λ number. record { processor = Some 0; shows = _; shown = _; said_is = said_pair n is.within number; among = inr (inl refl); number = refl };
+    shows = λ number. record { processor = Some 0; shows = _; shown = _; said_is = said_pair n is.within number; among = inr (inl refl); number = refl; bits = refl };
   }
 
   -- ---- the table
 
   own_has : (key : Key) → IsAmong key keys → HasLine Edk2 (edk2_lines file) key
   own_has key among =
-      let has = has_line file Edk2 prints (own_line file) keys (λ k at. (own k at).is_key) (λ k at. (own k at).printed) (λ k at. (own k at).shows) key among in
+      let has = has_line file Edk2 (own_line file) keys (λ k at. (own k at).is_key) (λ k at. (own k at).fit) (λ k at. (own k at).shows) key among in
       record { line = has.line; among = inr (inr (join_among_first (map (own_line file) keys) (or_none (pair_lines file)) has.line has.among)); shows = has.shows }
 
-  base_by : (n : ℕ) → n < length file.pairs → (test : Bool) → is_valid (pair_at file.pairs n) ≡ test → HasLine Edk2 (edk2_lines file) (Some (PhysBase n)) ⊎ IsGiven file prints supplied (Some (PhysBase n))
+  base_by : (n : ℕ) → n < length file.pairs → (test : Bool) → is_valid (pair_at file.pairs n) ≡ test → HasLine Edk2 (edk2_lines file) (Some (PhysBase n)) ⊎ IsGiven file any_bits supplied (Some (PhysBase n))
   base_by n within true valid = inl (base_line n (record { within = within; valid = valid }))
-  base_by n within false hidden = inr (λ seen is_seen.
-      by_word supplied seen (0x200 + 2 * n) (pair_at file.pairs n).0 (known file prints seen.readings (Some (PhysBase n)) is_seen.readings (key_in_file file (Some (PhysBase n)) suits.is_file within)) (suits.bases n within hidden))
+  base_by n within false hidden = inr (word_gives file any_bits supplied (Some (PhysBase n)) suits.is_file suits.has_words within (suits.bases n within hidden))
 
-  mask_by : (n : ℕ) → n < length file.pairs → (test : Bool) → is_valid (pair_at file.pairs n) ≡ test → HasLine Edk2 (edk2_lines file) (Some (PhysMask n)) ⊎ IsGiven file prints supplied (Some (PhysMask n))
+  mask_by : (n : ℕ) → n < length file.pairs → (test : Bool) → is_valid (pair_at file.pairs n) ≡ test → HasLine Edk2 (edk2_lines file) (Some (PhysMask n)) ⊎ IsGiven file any_bits supplied (Some (PhysMask n))
   mask_by n within true valid = inl (mask_line n (record { within = within; valid = valid }))
-  mask_by n within false hidden = inr (λ seen is_seen.
-      by_word supplied seen (0x201 + 2 * n) (pair_at file.pairs n).1 (known file prints seen.readings (Some (PhysMask n)) is_seen.readings (key_in_file file (Some (PhysMask n)) suits.is_file within)) (suits.masks n within hidden))
+  mask_by n within false hidden = inr (word_gives file any_bits supplied (Some (PhysMask n)) suits.is_file suits.has_words within (suits.masks n within hidden))
 
-  each_key : (key : Key) → IsInFile file key → HasLine Edk2 (edk2_lines file) key ⊎ IsGiven file prints supplied key
-  each_key None within = inr (λ seen is_seen. by_word supplied seen 0xfe file.capabilities (known file prints seen.readings None is_seen.readings tt) suits.capabilities)
+  each_key : (key : Key) → IsInFile file key → HasLine Edk2 (edk2_lines file) key ⊎ IsGiven file any_bits supplied key
+  each_key None within = inr (word_gives file any_bits supplied None suits.is_file suits.has_words tt suits.capabilities)
   each_key (Some (PhysBase n)) within = base_by n within (is_valid (pair_at file.pairs n)) refl
   each_key (Some (PhysMask n)) within = mask_by n within (is_valid (pair_at file.pairs n)) refl
   each_key (Some (FixedRange place)) within = inl (own_has (Some (FixedRange place)) (inr (map_among Some fixed_registers (FixedRange place) (eleven place within.0))))
-  each_key (Some Pat) within = inr (λ seen is_seen. by_word supplied seen 0x277 file.pat (known file prints seen.readings (Some Pat) is_seen.readings tt) suits.pat)
+  each_key (Some Pat) within = inr (word_gives file any_bits supplied (Some Pat) suits.is_file suits.has_words tt suits.pat)
   each_key (Some DefaultType) within = inl (own_has (Some DefaultType) (inl refl))
 
-  parts_true : (line : List ℕ) → IsAmong line (map (own_line file) keys ++ or_none (pair_lines file)) → (number : ℕ) → IsTrueSaid file prints (said_of Edk2 number line)
+  parts_true : (line : List ℕ) → IsAmong line (map (own_line file) keys ++ or_none (pair_lines file)) → (number : ℕ) → IsTrueSaid file any_bits (said_of Edk2 number line)
   parts_true line among number = elim (among_join (map (own_line file) keys) (or_none (pair_lines file)) line among) [
-    | inl first ↦ lines_true file Edk2 prints (own_line file) keys (λ k at. (own k at).is_key) (λ k at. (own k at).printed) (λ k at. (own k at).shows) line first number
+    | inl first ↦ lines_true file Edk2 (own_line file) keys (λ k at. (own k at).is_key) (λ k at. (own k at).fit) (λ k at. (own k at).shows) line first number
     | inr second ↦ by (none_or (pair_lines file) line second)
   ]
     where
-      by : IsAmong line (pair_lines file) ⊎ (no_pair_line ≡ line) → IsTrueSaid file prints (said_of Edk2 number line)
+      by : IsAmong line (pair_lines file) ⊎ (no_pair_line ≡ line) → IsTrueSaid file any_bits (said_of Edk2 number line)
       by (inl pair) = let found = among_map pair_of (valid_from 0 file.pairs) line pair in rw found.2 (pair_true found.0 (printed_pair found.0 found.1) number)
-      by (inr none) = subst (λ l. IsTrueSaid file prints (said_of Edk2 number l)) none tt
+      by (inr none) = subst (λ l. IsTrueSaid file any_bits (said_of Edk2 number l)) none tt
 
-  table_true : (line : List ℕ) → IsAmong line (edk2_lines file) → (number : ℕ) → IsTrueSaid file prints (said_of Edk2 number line)
-  table_true line (inl same) number = subst (λ l. IsTrueSaid file prints (said_of Edk2 number l)) same tt
-  table_true line (inr (inl same)) number = subst (λ l. IsTrueSaid file prints (said_of Edk2 number l)) same tt
+  table_true : (line : List ℕ) → IsAmong line (edk2_lines file) → (number : ℕ) → IsTrueSaid file any_bits (said_of Edk2 number line)
+  table_true line (inl same) number = subst (λ l. IsTrueSaid file any_bits (said_of Edk2 number l)) same tt
+  table_true line (inr (inl same)) number = subst (λ l. IsTrueSaid file any_bits (said_of Edk2 number l)) same tt
   table_true line (inr (inr later)) number = parts_true line later number
 
   abbrev IsPlainLine : List ℕ → Type 0
@@ -302,5 +283,5 @@ module _ (file : RegisterFile) (supplied : Supplied) (suits : SuitsEdk2 file sup
 
   pub reads : TableReadsBack Edk2 (edk2_lines file) supplied file
   reads =
-      table_back file prints Edk2 (edk2_lines file) supplied suits.is_file suits.has_words suits.agrees suits.width
+      table_back file any_bits Edk2 (edk2_lines file) supplied suits.is_file suits.has_words suits.agrees (inl suits.width)
       (record { each = table_true; all = each_key }) table_plain

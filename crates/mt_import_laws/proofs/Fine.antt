@@ -1,5 +1,5 @@
 -- Readings none of which has a rival.
-use Rattle.std.proofs.Common.{◌≡◌, ◌<◌, ℕ, Bool, true, false, ◌==◌, ◌&&◌, ◌||◌, nat_lt, List, [], ◌∷◌, Option, Some, None, refl, sym, ◌∙◌, ap, subst, bit_and, bit_or, inl, inr, arith}
+use Rattle.std.proofs.Common.{◌≡◌, ◌<◌, ℕ, Bool, true, false, ◌==◌, ◌&&◌, nat_lt, List, [], ◌∷◌, Option, Some, None, refl, sym, ◌∙◌, ap, subst, bit_and, bit_or, inl, inr, arith}
 use Rattle.std.specs.Prelude.{⊤, min, if◌then◌else◌}
 use Rattle.std.specs.Int.{bit_at}
 use Rattle.std.proofs.lemmas.Bool.{eqb-true}
@@ -9,19 +9,24 @@ use Rattle.mt_regs.specs.RegisterFile.{low_byte}
 use Rattle.mt_import.specs.declared.fault.ImportFault.{ImportFault}
 use Rattle.mt_import.specs.declared.fault.ImportFault.TheVariants.{BadProcessor, TooManyPairs}
 use Rattle.mt_import.specs.declared.fault.Rival.{Rival}
-use Rattle.mt_import.specs.declared.fault.Rival.TheVariants.{Line, Word}
+use Rattle.mt_import.specs.declared.fault.Rival.TheVariants.{Line, Word, CapabilityWord}
 use Rattle.mt_import.specs.declared.shape.Reading.{Reading}
 use Rattle.mt_import.specs.declared.shape.Slot.{Slot}
 use Rattle.mt_import.specs.Readings.{Fact, is_fault, is_line, is_register_value, is_warning, is_width}
 use Rattle.mt_import.specs.Slot.{clashes}
 use Rattle.mt_import.specs.Supplied.{Supplied, bits_differ, supplied_value}
-use Rattle.mt_import.specs.Outcome.{Seen, capabilities_shown, contradiction, count_rival, counts_fewer, enabled_pair, fact_fault, last_shown, facts_fault, or_fault, reading_fault, rival, seen_after, seen_with, slot_shown}
+use Rattle.mt_import.specs.Outcome.{Seen, capabilities_shown, contradiction, count_rival, counts_fewer, enabled_pair, fact_fault, last_shown, facts_fault, fixed_rival, or_fault, or_rival, reading_fault, rival, seen_after, seen_with, slot_shown}
 use Rattle.mt_import_laws.specs.Origins.{IsAmong}
 use Rattle.mt_import_laws.proofs.Bits.{bit_first, bit_second, not_false, value_kept, value_new}
 
+-- neither on bits and VCNT nor on FIX
+pub record HasNoRival (supplied : Supplied) (before : List Reading) (reading : Reading) : Type 0 where
+  pub rival_is : rival supplied before reading ≡ None
+  pub fixed_is : fixed_rival (supplied_value supplied 0xfe) before reading ≡ None
+
 abbrev pub IsFine : Supplied → List Reading → Type 0
 IsFine supplied [] = ⊤
-IsFine supplied (reading ∷ before) = (rival supplied before reading ≡ None) × IsFine supplied before
+IsFine supplied (reading ∷ before) = HasNoRival supplied before reading × IsFine supplied before
 
 -- ---- facts without a fault
 
@@ -33,14 +38,22 @@ no_contradiction : (reading : Reading) (found : Option Rival) → contradiction 
 no_contradiction reading None is = refl
 no_contradiction reading (Some other) is = cc is
 
-no_rival : (supplied : Supplied) (before : List Reading) (reading : Reading) → reading_fault supplied before reading ≡ None → rival supplied before reading ≡ None
+neither : (supplied : Supplied) (before : List Reading) (reading : Reading) (found other : Option Rival) → rival supplied before reading ≡ found → fixed_rival (supplied_value supplied 0xfe) before reading ≡ other
+    → or_rival found other ≡ None → HasNoRival supplied before reading
+neither supplied before reading None other one two is = record { rival_is = one; fixed_is = two ∙ is }
+neither supplied before reading (Some found) other one two is = cc is
+
+no_rival : (supplied : Supplied) (before : List Reading) (reading : Reading) → reading_fault supplied before reading ≡ None → HasNoRival supplied before reading
 no_rival supplied before reading is =
     by (nat_lt 15 reading.processor) (reading.number == 0xfe && nat_lt 32 (low_byte (bit_or (slot_shown before reading.processor 0xfe).value reading.value))) is
   where
-    by : (far many : Bool) → (if far then Some (BadProcessor reading.place) else if many then Some (TooManyPairs reading.place) else contradiction reading (rival supplied before reading)) ≡ None → rival supplied before reading ≡ None
+    by : (far many : Bool) → (if far then Some (BadProcessor reading.place) else if many then Some (TooManyPairs reading.place) else contradiction reading (or_rival (rival supplied before reading) (fixed_rival (supplied_value supplied 0xfe) before reading))) ≡ None
+        → HasNoRival supplied before reading
     by true many is = cc is
     by false true is = cc is
-    by false false is = no_contradiction reading (rival supplied before reading) is
+    by false false is =
+        neither supplied before reading (rival supplied before reading) (fixed_rival (supplied_value supplied 0xfe) before reading) refl refl
+        (no_contradiction reading (or_rival (rival supplied before reading) (fixed_rival (supplied_value supplied 0xfe) before reading)) is)
 
 pub fine_after : (supplied : Supplied) (facts : List Fact) (seen : Seen) → facts_fault supplied seen facts ≡ None → IsFine supplied seen.readings → IsFine supplied (seen_after seen facts).readings
 fine_after supplied [] seen none fine = fine
@@ -57,18 +70,18 @@ fine_after supplied (fact ∷ facts) seen none fine =
 
 -- ---- a reading among others
 
-rival_by : (word count clash : Bool) (line : ℕ) (others : Option Rival) → (if word || count then Some Word else if clash then Some (Line line) else others) ≡ None → (word ≡ false) × (clash ≡ false) × (others ≡ None) × (count ≡ false)
+rival_by : (word count clash : Bool) (line : ℕ) (others : Option Rival) → (if word then Some Word else if count then Some CapabilityWord else if clash then Some (Line line) else others) ≡ None → (word ≡ false) × (clash ≡ false) × (others ≡ None) × (count ≡ false)
 rival_by true count clash line others is = cc is
 rival_by false true clash line others is = cc is
 rival_by false false true line others is = cc is
 rival_by false false false line others is = (refl, refl, is, refl)
 
-pub tests_of_rival : (supplied : Supplied) (before : List Reading) (reading : Reading) → rival supplied before reading ≡ None
+pub tests_of_rival : (supplied : Supplied) (before : List Reading) (reading : Reading) → HasNoRival supplied before reading
     → (bits_differ (supplied_value supplied reading.number) reading.bits reading.value ≡ false) × (clashes (slot_shown before reading.processor reading.number) reading ≡ false)
     × (count_rival (capabilities_shown before) (last_shown before) reading ≡ None) × (counts_fewer (supplied_value supplied 0xfe) (enabled_pair reading) ≡ false)
 tests_of_rival supplied before reading is =
     rival_by (bits_differ (supplied_value supplied reading.number) reading.bits reading.value) (counts_fewer (supplied_value supplied 0xfe) (enabled_pair reading))
-    (clashes (slot_shown before reading.processor reading.number) reading) (slot_shown before reading.processor reading.number).line (count_rival (capabilities_shown before) (last_shown before) reading) is
+    (clashes (slot_shown before reading.processor reading.number) reading) (slot_shown before reading.processor reading.number).line (count_rival (capabilities_shown before) (last_shown before) reading) is.rival_is
 
 -- no word gives another bit
 word_differs : (given : Option ℕ) (word bits value i : ℕ) → given ≡ Some word → bits_differ given bits value ≡ false → bit_at bits i ≡ 1 → bit_at word i ≡ bit_at value i

@@ -1,10 +1,9 @@
 -- Tables with a line for each of some registers.
-use Rattle.std.proofs.Common.{◌≡◌, ◌^◌, ◌<◌, ℕ, Bool, true, List, ◌∷◌, map, replicate, Option, Some, None, refl, sym, subst, inl, inr, arith, lit<, unwrap_or}
+use Rattle.std.proofs.Common.{◌≡◌, ◌^◌, ◌<◌, ℕ, List, ◌∷◌, map, replicate, Option, Some, None, refl, sym, subst, inl, inr, arith, lit<, unwrap_or}
 use Rattle.mt_text.specs.declared.place.Place.{Place}
 use Rattle.mt_regs.specs.RegisterFile.{IsRegisterFile, RegisterFile}
-use Rattle.mt_regs.specs.Registers.{IsWithin, number_of, value_of, writable}
-use Rattle.mt_regs.specs.Words.{HasWords}
-use Rattle.mt_regs.proofs.ByNumber.{place_in_writable, value_at-number_of}
+use Rattle.mt_regs.specs.Registers.{IsWithin, writable}
+use Rattle.mt_regs.proofs.ByNumber.{place_in_writable}
 use Rattle.mt_import.specs.declared.format.Format.{Format}
 use Rattle.mt_import.specs.declared.reading.Said.TheVariants.{Shows}
 use Rattle.mt_import.specs.Shown.{said_of}
@@ -14,13 +13,10 @@ use Rattle.mt_import_laws.specs.Printed.{Key, number_at, value_in}
 use Rattle.mt_import_laws.proofs.Among.{among_at, among_map, each_among, map_among}
 use Rattle.mt_import_laws.proofs.Keys.{IsKey, all_within, range_of}
 use Rattle.mt_import_laws.proofs.PrintedBack.{HasLine, IsInFile}
-use Rattle.mt_import_laws.proofs.TableLines.{IsTrueSaid}
+use Rattle.mt_import_laws.proofs.TableLines.{IsTrueSaid, ShowsKey, tells_whole}
+use Rattle.mt_import_laws.proofs.Whole.{any_bits}
 
 -- ---- the registers of a file
-
-pub fits : (file : RegisterFile) (key : Key) → IsRegisterFile file → HasWords file → IsInFile file key → value_in file key < 2 ^ 64
-fits file None is words within = words 0xfe file.capabilities refl
-fits file (Some register) is words within = words (number_of register) (value_of file register) (value_at-number_of file register is within)
 
 pub low : (key : Key) → IsKey key → number_at key < 0x1000
 low None is = lit< tt
@@ -51,29 +47,33 @@ pub record ShowsAlone (file : RegisterFile) (format : Format) (key : Key) (line 
   pub place : ℕ → Place
   pub said : (number : ℕ) → said_of format number line ≡ Shows processor (Some (record { number = number_at key; bits = all_bits; value = value_in file key; place = place number }) ∷ replicate 10 None)
 
-module _ (file : RegisterFile) (format : Format) (prints : Key → Bool) (line_of : Key → List ℕ) (keys : List Key)
-    (are_keys : (key : Key) → IsAmong key keys → IsKey key) (printed : (key : Key) → IsAmong key keys → prints key ≡ true)
-    (shows : (key : Key) → IsAmong key keys → ShowsAlone file format key (line_of key)) where
-  line_true : (key : Key) → IsAmong key keys → (number : ℕ) → IsTrueSaid file prints (said_of format number (line_of key))
-  line_true key among number =
-      rw ((shows key among).said number)
-      ((shows key among).own, (record { key = key; is_key = are_keys key among; is_printed = printed key among; number = refl; bits = refl; value = refl }, (tt, (tt, (tt, (tt, (tt, (tt, (tt, (tt, (tt, (tt, tt))))))))))))
+-- such a line tells of the file
+pub alone_true : (file : RegisterFile) (format : Format) (key : Key) (line : List ℕ) (number : ℕ) → IsKey key → value_in file key < 2 ^ 64 → ShowsAlone file format key line → IsTrueSaid file any_bits (said_of format number line)
+alone_true file format key line number is fits shows =
+    rw (shows.said number) (shows.own, (inl (tells_whole file any_bits key (shows.place number) is refl fits), (tt, (tt, (tt, (tt, (tt, (tt, (tt, (tt, (tt, (tt, tt))))))))))))
 
-  pub lines_true : (line : List ℕ) → IsAmong line (map line_of keys) → (number : ℕ) → IsTrueSaid file prints (said_of format number line)
+pub alone_shows : (file : RegisterFile) (format : Format) (key : Key) (line : List ℕ) (number : ℕ) → ShowsAlone file format key line → ShowsKey key all_bits (said_of format number line)
+alone_shows file format key line number shows = record {
+  processor = shows.processor;
+  shows = Some (record { number = number_at key; bits = all_bits; value = value_in file key; place = shows.place number }) ∷ replicate 10 None;
+  shown = record { number = number_at key; bits = all_bits; value = value_in file key; place = shows.place number };
+  said_is = shows.said number;
+  among = inl refl;
+  number = refl;
+  bits = refl;
+}
+
+module _ (file : RegisterFile) (format : Format) (line_of : Key → List ℕ) (keys : List Key)
+    (are_keys : (key : Key) → IsAmong key keys → IsKey key) (fit : (key : Key) → IsAmong key keys → value_in file key < 2 ^ 64)
+    (shows : (key : Key) → IsAmong key keys → ShowsAlone file format key (line_of key)) where
+  pub lines_true : (line : List ℕ) → IsAmong line (map line_of keys) → (number : ℕ) → IsTrueSaid file any_bits (said_of format number line)
   lines_true line among number =
       let found = among_map line_of keys line among in
-      rw found.2 (line_true found.0 found.1 number)
+      rw found.2 (alone_true file format found.0 (line_of found.0) number (are_keys found.0 found.1) (fit found.0 found.1) (shows found.0 found.1))
 
   pub has_line : (key : Key) → IsAmong key keys → HasLine format (map line_of keys) key
   has_line key among = record {
     line = line_of key;
     among = map_among line_of keys key among;
-    shows = λ number. record {
-      processor = (shows key among).processor;
-      shows = Some (record { number = number_at key; bits = all_bits; value = value_in file key; place = (shows key among).place number }) ∷ replicate 10 None;
-      shown = record { number = number_at key; bits = all_bits; value = value_in file key; place = (shows key among).place number };
-      said_is = (shows key among).said number;
-      among = inl refl;
-      number = refl;
-    };
+    shows = λ number. alone_shows file format key (line_of key) number (shows key among);
   }

@@ -1,6 +1,7 @@
 -- What a shell prints that calls rdmsr for each register reads back.
-use Rattle.std.proofs.Common.{◌≡◌, ◌+◌, ◌^◌, ◌<◌, ℕ, Bool, true, false, List, [], ◌∷◌, ◌++◌, Some, refl, sym, ap, subst, inl, inr}
+use Rattle.std.proofs.Common.{◌≡◌, ◌+◌, ◌^◌, ◌<◌, ℕ, true, false, List, [], ◌∷◌, ◌++◌, Some, refl, sym, ap, subst, inl, inr}
 use Rattle.std.specs.List.{AllByRecursion, list_all}
+use Rattle.std.specs.Fmt.{digits}
 use Rattle.mt_text.specs.declared.place.Place.{Place}
 use Rattle.mt_text.proofs.Plain.{is_plain}
 use Rattle.mt_regs.specs.RegisterFile.{IsRegisterFile, RegisterFile}
@@ -11,24 +12,22 @@ use Rattle.mt_import.specs.declared.reading.Context.{Context}
 use Rattle.mt_import.specs.declared.shape.Announced.{Announced}
 use Rattle.mt_import.specs.Pieces.{shown_as}
 use Rattle.mt_import.specs.Readings.{Fact, is_line, shown_facts, starts}
-use Rattle.mt_import.specs.Shown.{context_behind, facts_from, facts_of_line, shown}
+use Rattle.mt_import.specs.Shown.{context_behind, facts_from, facts_of_line, shown, tells}
 use Rattle.mt_import.specs.Slot.{all_bits}
 use Rattle.mt_import.specs.Supplied.{Supplied}
 use Rattle.mt_import.specs.Import.{log_told}
 use Rattle.mt_import_laws.specs.Origins.{IsAmong}
-use Rattle.mt_import_laws.specs.Printed.{Key, ReadsBack, number_at, value_in}
+use Rattle.mt_import_laws.specs.FirstLine.{LinesTellFirst}
+use Rattle.mt_import_laws.specs.Printed.{Key, TextReadsBack, number_at, value_in}
 use Rattle.mt_import_laws.specs.PrintedByRdmsr.{SuitsRdmsr, call_line, calls, hex_text, rdmsr_lines, rdmsr_text}
 use Rattle.mt_import_laws.proofs.Among.{join_among_first, join_among_second}
-use Rattle.mt_import_laws.proofs.KeyLines.{all_keys, among_all, fits, in_file, low}
+use Rattle.mt_import_laws.proofs.AutoReads.{text_back}
+use Rattle.mt_import_laws.proofs.KeyLines.{all_keys, among_all, in_file, low}
 use Rattle.mt_import_laws.proofs.Keys.{IsKey, is_register_key}
-use Rattle.mt_import_laws.proofs.PrintedBack.{IsInFile, facts_back, key_in_file, lines_back}
+use Rattle.mt_import_laws.proofs.PrintedBack.{IsInFile, facts_back, fits, key_in_file, lines_back}
 use Rattle.mt_import_laws.proofs.RdmsrLines.{call_plain, call_said, value_place, value_plain, value_said}
-use Rattle.mt_import_laws.proofs.TableLines.{HasReading, all_join, shown_true}
-use Rattle.mt_import_laws.proofs.Whole.{IsSound}
-
--- each register that the file has is read
-abbrev all_read : Key → Bool
-all_read key = true
+use Rattle.mt_import_laws.proofs.TableLines.{HasReading, all_join, shown_true, tells_whole}
+use Rattle.mt_import_laws.proofs.Whole.{IsSound, any_bits}
 
 abbrev announces : ℕ → Announced
 announces number = record { processor = 0; number = number; goes_on = false }
@@ -61,8 +60,8 @@ module _ (register value : ℕ) (small : register < 0x1000) (fits : value < 2 ^ 
   pub value_facts : facts_of_line next (number + 1) (hex_text value) ≡ is_line (number + 1) (Some Rdmsr) true ∷ shown_facts 0 next.table (shown_as register value (value_place value fits (number + 1)))
   value_facts = by_announced next (number + 1) next_format next_announced
 
-widen : (fact : Fact) (facts : List Fact) (key : Key) → HasReading key facts → HasReading key (fact ∷ facts)
-widen fact facts key has = record { reading = has.reading; among = inr has.among; number = has.number }
+widen : (fact : Fact) (facts : List Fact) (key : Key) → HasReading key all_bits facts → HasReading key all_bits (fact ∷ facts)
+widen fact facts key has = record { reading = has.reading; among = inr has.among; number = has.number; bits = has.bits }
 
 module _ (file : RegisterFile) (is_file : IsRegisterFile file) (words : HasWords file) where
   small_key : (key : Key) → IsInFile file key → number_at key < 0x1000
@@ -73,21 +72,21 @@ module _ (file : RegisterFile) (is_file : IsRegisterFile file) (words : HasWords
   behind key within context number = context_behind (context_behind context number (call_line (number_at key))) (number + 1) (hex_text (value_in file key))
 
   block_sound : (key : Key) (within : IsInFile file key) (context : Context) (number : ℕ) → context.format ≡ Some Rdmsr
-      → AllByRecursion (IsSound file all_read) (facts_of_line context number (call_line (number_at key)))
-      × AllByRecursion (IsSound file all_read) (facts_of_line (context_behind context number (call_line (number_at key))) (number + 1) (hex_text (value_in file key)))
+      → AllByRecursion (IsSound file any_bits) (facts_of_line context number (call_line (number_at key)))
+      × AllByRecursion (IsSound file any_bits) (facts_of_line (context_behind context number (call_line (number_at key))) (number + 1) (hex_text (value_in file key)))
   block_sound key within context number is =
       let small = small_key key within in
       let whole = fits file key is_file words within in (
-        subst (AllByRecursion (IsSound file all_read)) (sym (call_facts (number_at key) (value_in file key) small whole context number is)) (tt, tt),
-        subst (AllByRecursion (IsSound file all_read)) (sym (value_facts (number_at key) (value_in file key) small whole context number is)) (
+        subst (AllByRecursion (IsSound file any_bits)) (sym (call_facts (number_at key) (value_in file key) small whole context number is)) (tt, tt),
+        subst (AllByRecursion (IsSound file any_bits)) (sym (value_facts (number_at key) (value_in file key) small whole context number is)) (
           tt,
-          shown_true file all_read 0 _ (shown_as (number_at key) (value_in file key) (value_place (value_in file key) whole (number + 1))) refl
-              (record { key = key; is_key = key_in_file file key is_file within; is_printed = refl; number = refl; bits = refl; value = refl }),
+          shown_true file any_bits 0 _ (shown_as (number_at key) (value_in file key) (value_place (value_in file key) whole (number + 1))) refl
+              (inl (tells_whole file any_bits key (value_place (value_in file key) whole (number + 1)) (key_in_file file key is_file within) refl whole)),
         ),
       )
 
   calls_sound : (keys : List Key) → ((key : Key) → IsAmong key keys → IsInFile file key) → (context : Context) (number : ℕ) → context.format ≡ Some Rdmsr
-      → AllByRecursion (IsSound file all_read) (facts_from context number (calls file keys))
+      → AllByRecursion (IsSound file any_bits) (facts_from context number (calls file keys))
   calls_sound [] inside context number is = tt
   calls_sound (key ∷ keys) inside context number is =
       let within = inside key (inl refl) in
@@ -96,20 +95,21 @@ module _ (file : RegisterFile) (is_file : IsRegisterFile file) (words : HasWords
       let last : Context = behind key within context number in
       let later = calls_sound keys (λ k among. inside k (inr among)) last (number + 1 + 1)
       (last_format (number_at key) (value_in file key) (small_key key within) (fits file key is_file words within) context number is) in
-      all_join (IsSound file all_read) (facts_of_line context number (call_line (number_at key)))
+      all_join (IsSound file any_bits) (facts_of_line context number (call_line (number_at key)))
       (facts_of_line next (number + 1) (hex_text (value_in file key)) ++ facts_from last (number + 1 + 1) (calls file keys)) block.0
-      (all_join (IsSound file all_read) (facts_of_line next (number + 1) (hex_text (value_in file key))) (facts_from last (number + 1 + 1) (calls file keys)) block.1 later)
+      (all_join (IsSound file any_bits) (facts_of_line next (number + 1) (hex_text (value_in file key))) (facts_from last (number + 1 + 1) (calls file keys)) block.1 later)
 
   -- the register is among the facts of its value
-  shown_here : (key : Key) → IsKey key → (table : ℕ) (at : Place) → HasReading key (shown_facts 0 table (shown_as (number_at key) (value_in file key) at))
+  shown_here : (key : Key) → IsKey key → (table : ℕ) (at : Place) → HasReading key all_bits (shown_facts 0 table (shown_as (number_at key) (value_in file key) at))
   shown_here key is_key table at = record {
     reading = record { processor = 0; table = table; number = number_at key; bits = all_bits; value = value_in file key; place = at };
     among = rw (is_register_key key is_key) (inl refl);
     number = refl;
+    bits = refl;
   }
 
   calls_have : (keys : List Key) → ((key : Key) → IsAmong key keys → IsInFile file key) → (context : Context) (number : ℕ) (key : Key) → context.format ≡ Some Rdmsr → IsAmong key keys
-      → HasReading key (facts_from context number (calls file keys))
+      → HasReading key all_bits (facts_from context number (calls file keys))
   calls_have [] inside context number key is among = absurd among
   calls_have (first ∷ keys) inside context number key is among =
       let within = inside first (inl refl) in
@@ -120,15 +120,16 @@ module _ (file : RegisterFile) (is_file : IsRegisterFile file) (words : HasWords
       let rest : List Fact = facts_from last (number + 1 + 1) (calls file keys) in
       elim among [
         | inl same ↦
-            let facts : HasReading first (facts_of_line next (number + 1) (hex_text (value_in file first))) =
-            subst (HasReading first) (sym (value_facts (number_at first) (value_in file first) small whole context number is))
+            let facts : HasReading first all_bits (facts_of_line next (number + 1) (hex_text (value_in file first))) =
+            subst (HasReading first all_bits) (sym (value_facts (number_at first) (value_in file first) small whole context number is))
             (widen _ _ first (shown_here first (key_in_file file first is_file within) next.table (value_place (value_in file first) whole (number + 1)))) in
-            subst (λ k. HasReading k (facts_from context number (calls file (first ∷ keys)))) same
+            subst (λ k. HasReading k all_bits (facts_from context number (calls file (first ∷ keys)))) same
             (record {
               reading = facts.reading;
               among = join_among_second (facts_of_line context number (call_line (number_at first))) (facts_of_line next (number + 1) (hex_text (value_in file first)) ++ rest) _
                   (join_among_first (facts_of_line next (number + 1) (hex_text (value_in file first))) rest _ facts.among);
               number = facts.number;
+              bits = facts.bits;
             })
         | inr later ↦
             let has = calls_have keys (λ k at. inside k (inr at)) last (number + 1 + 1) key (last_format (number_at first) (value_in file first) small whole context number is) later in
@@ -137,6 +138,7 @@ module _ (file : RegisterFile) (is_file : IsRegisterFile file) (words : HasWords
               among = join_among_second (facts_of_line context number (call_line (number_at first))) (facts_of_line next (number + 1) (hex_text (value_in file first)) ++ rest) _
                   (join_among_second (facts_of_line next (number + 1) (hex_text (value_in file first))) rest _ has.among);
               number = has.number;
+              bits = has.bits;
             }
       ]
 
@@ -146,11 +148,18 @@ module _ (file : RegisterFile) (is_file : IsRegisterFile file) (words : HasWords
       let within = inside key (inl refl) in
       (call_plain (number_at key) (small_key key within), (value_plain (value_in file key) (fits file key is_file words within), calls_plain keys (λ k among. inside k (inr among))))
 
-pub own_text : (file : RegisterFile) (supplied : Supplied) → SuitsRdmsr file supplied → ReadsBack (log_told (Only Rdmsr) supplied (rdmsr_text file)) file
+-- the first call tells the format
+first_call : (file : RegisterFile) → LinesTellFirst Rdmsr 1 (rdmsr_lines file)
+unfolding tells digits
+first_call file = inl refl
+
+pub own_text : (file : RegisterFile) (supplied : Supplied) → SuitsRdmsr file supplied → TextReadsBack Rdmsr (rdmsr_text file) supplied file
 own_text file supplied suits =
     let inside : (key : Key) → IsAmong key (all_keys file) → IsInFile file key = λ key among. in_file file key suits.is_file among in
-    let lines = lines_back (rdmsr_lines file) (calls_plain file suits.is_file suits.has_words (all_keys file) inside) in
+    let plain = calls_plain file suits.is_file suits.has_words (all_keys file) inside in
+    let lines = lines_back (rdmsr_lines file) plain in
     let facts : shown (Some Rdmsr) (rdmsr_text file) ≡ facts_from (starts (Some Rdmsr)) 1 (rdmsr_lines file) = ap (facts_from (starts (Some Rdmsr)) 1) lines in
-    facts_back file all_read Rdmsr supplied suits.is_file suits.has_words suits.agrees suits.width (shown (Some Rdmsr) (rdmsr_text file))
-    (subst (AllByRecursion (IsSound file all_read)) (sym facts) (calls_sound file suits.is_file suits.has_words (all_keys file) inside (starts (Some Rdmsr)) 1 refl))
-    (λ key within. inl (subst (HasReading key) (sym facts) (calls_have file suits.is_file suits.has_words (all_keys file) inside (starts (Some Rdmsr)) 1 key refl (among_all file key suits.is_file within))))
+    text_back Rdmsr supplied file (rdmsr_lines file) plain (first_call file)
+    (facts_back file any_bits Rdmsr supplied suits.is_file suits.has_words suits.agrees (shown (Some Rdmsr) (rdmsr_text file)) (inl suits.width)
+    (subst (AllByRecursion (IsSound file any_bits)) (sym facts) (calls_sound file suits.is_file suits.has_words (all_keys file) inside (starts (Some Rdmsr)) 1 refl))
+    (λ key within. inl (subst (HasReading key all_bits) (sym facts) (calls_have file suits.is_file suits.has_words (all_keys file) inside (starts (Some Rdmsr)) 1 key refl (among_all file key suits.is_file within)))))

@@ -1,8 +1,9 @@
 -- Logs each of whose lines tells of one file, or says nothing: the readings that they come to.
-use Rattle.std.proofs.Common.{◌≡◌, ◌+◌, ℕ, Bool, true, false, List, [], ◌∷◌, ◌++◌, Option, Some, None, refl, sym, subst, inl, inr, unwrap_or}
+use Rattle.std.proofs.Common.{◌≡◌, ◌∙◌, ◌+◌, ◌^◌, ◌<◌, ℕ, Bool, true, false, List, [], ◌∷◌, ◌++◌, Option, Some, None, refl, sym, ap, subst, inl, inr, lit<, bit_and, unwrap_or}
 use Rattle.std.specs.Prelude.{◌⊎◌, ⊤, if◌then◌else◌}
 use Rattle.std.specs.List.{AllByRecursion}
 use Rattle.mt_regs.specs.RegisterFile.{RegisterFile}
+use Rattle.mt_text.specs.declared.place.Place.{Place}
 use Rattle.mt_import.specs.declared.format.Format.{Format}
 use Rattle.mt_import.specs.declared.reading.Context.{Context}
 use Rattle.mt_import.specs.declared.reading.Said.{Said}
@@ -14,10 +15,11 @@ use Rattle.mt_import.specs.Shown.{context_behind, facts_from, facts_of_line, sai
 use Rattle.mt_import.specs.Slot.{all_bits}
 use Rattle.mt_import.specs.Outcome.{Seen, seen_after, seen_with}
 use Rattle.mt_import_laws.specs.Origins.{IsAmong}
-use Rattle.mt_import_laws.specs.Printed.{Key, number_at, value_in}
+use Rattle.mt_import_laws.specs.Printed.{IsOther, Key, SaysNoMore, no_match, number_at, only_others, only_warns, only_width, value_in}
 use Rattle.mt_import_laws.proofs.Among.{join_among_first, join_among_second}
 use Rattle.mt_import_laws.proofs.Keys.{IsKey, is_register_key}
-use Rattle.mt_import_laws.proofs.Whole.{IsSound}
+use Rattle.mt_import_laws.proofs.PartBits.{whole_part}
+use Rattle.mt_import_laws.proofs.Whole.{IsSound, Prints}
 
 -- ---- facts and readings
 
@@ -40,37 +42,44 @@ gathers (fact ∷ facts) seen reading (inr before) = gathers facts (seen_with se
     by is_warning = before
     by (is_fault fault) = before
 
--- ---- a register that a line shows
+-- ---- bits of a register that a line shows
 
-pub record ShowsKey (key : Key) (said : Said) : Type 0 where
+pub record ShowsKey (key : Key) (part : ℕ) (said : Said) : Type 0 where
   pub processor : Option ℕ
   pub shows : List (Option Shown)
   pub shown : Shown
   pub said_is : said ≡ Shows processor shows
   pub among : IsAmong (Some shown) shows
   pub number : shown.number ≡ number_at key
+  pub bits : shown.bits ≡ part
 
--- a fact of the register
-pub record HasReading (key : Key) (facts : List Fact) : Type 0 where
+-- a fact of these bits of the register
+pub record HasReading (key : Key) (part : ℕ) (facts : List Fact) : Type 0 where
   pub reading : Reading
   pub among : IsAmong (is_register_value reading) facts
   pub number : reading.number ≡ number_at key
+  pub bits : reading.bits ≡ part
 
-module _ (file : RegisterFile) (prints : Key → Bool) where
+module _ (file : RegisterFile) (prints : Prints) where
   -- ---- what a line says
 
-  -- it shows all of a register that is printed
+  -- it shows such bits of a register as the file has them
   pub record TellsOf (shown : Shown) : Type 0 where
     pub key : Key
     pub is_key : IsKey key
-    pub is_printed : prints key ≡ true
+    pub is_printed : prints key shown.bits ≡ true
     pub number : shown.number ≡ number_at key
-    pub bits : shown.bits ≡ all_bits
-    pub value : shown.value ≡ value_in file key
+    pub small : shown.bits < 2 ^ 64
+    pub value : shown.value ≡ bit_and (value_in file key) shown.bits
+
+  -- all of a register
+  pub tells_whole : (key : Key) (place : Place) → IsKey key → prints key all_bits ≡ true → value_in file key < 2 ^ 64
+      → TellsOf (record { number = number_at key; bits = all_bits; value = value_in file key; place = place })
+  tells_whole key place is printed fits = record { key = key; is_key = is; is_printed = printed; number = refl; small = lit< tt; value = sym (whole_part (value_in file key) fits) }
 
   abbrev pub IsTrueShown : Option Shown → Type 0
   IsTrueShown None = ⊤
-  IsTrueShown (Some shown) = TellsOf shown
+  IsTrueShown (Some shown) = TellsOf shown ⊎ (is_register shown.number ≡ false)
 
   -- It tells of processor 0 and of this file alone.
   abbrev pub IsTrueSaid : Said → Type 0
@@ -94,14 +103,27 @@ module _ (file : RegisterFile) (prints : Key → Bool) where
       by : (test : Bool) → AllByRecursion (IsSound file prints) (if test
           then is_register_value (record { processor = processor; table = table; number = shown.number; bits = shown.bits; value = shown.value; place = shown.place }) ∷ []
           else [])
-      by true = (record { key = tells.key; is_key = tells.is_key; is_printed = tells.is_printed; number = tells.number; processor = zero; bits = tells.bits; value = tells.value }, tt)
+      by true = (record { key = tells.key; is_key = tells.is_key; is_printed = tells.is_printed; number = tells.number; processor = zero; small = tells.small; value = tells.value }, tt)
       by false = tt
 
   pub shown_true : (processor table : ℕ) (shown : Option Shown) → processor ≡ 0 → IsTrueShown shown → AllByRecursion (IsSound file prints) (shown_facts processor table shown)
   shown_true processor table None zero tells = tt
-  shown_true processor table (Some shown) zero tells = reading_true processor table shown zero tells
+  shown_true processor table (Some shown) zero (inl tells) = reading_true processor table shown zero tells
+  shown_true processor table (Some shown) zero (inr other) = rw other tt
 
-  shows_true : (processor table : ℕ) (shows : List (Option Shown)) → processor ≡ 0 → AllByRecursion IsTrueShown shows → AllByRecursion (IsSound file prints) (shows_facts processor table shows)
+  -- what says no more of a dump is true of it
+  pub no_more_true : (said : Said) → SaysNoMore file said → IsTrueSaid said
+  no_more_true said (no_match is) = rw is tt
+  no_more_true said (only_width place is) = rw is refl
+  no_more_true said (only_warns is) = rw is tt
+  no_more_true said (only_others processor shows is own others) = rw is (own, all_others shows others)
+    where
+      all_others : (some : List (Option Shown)) → AllByRecursion IsOther some → AllByRecursion IsTrueShown some
+      all_others [] all = tt
+      all_others (None ∷ some) all = (tt, all_others some all.1)
+      all_others (Some shown ∷ some) all = (inr all.0, all_others some all.1)
+
+  pub shows_true : (processor table : ℕ) (shows : List (Option Shown)) → processor ≡ 0 → AllByRecursion IsTrueShown shows → AllByRecursion (IsSound file prints) (shows_facts processor table shows)
   shows_true processor table [] zero tells = tt
   shows_true processor table (shown ∷ shows) zero tells =
       all_join (IsSound file prints) (shown_facts processor table shown) (shows_facts processor table shows) (shown_true processor table shown zero tells.0) (shows_true processor table shows zero tells.1)
@@ -111,7 +133,7 @@ module _ (file : RegisterFile) (prints : Key → Bool) where
   own None current zero now = now
   own (Some processor) current zero now = zero
 
-  said_true : (context : Context) (said : Said) → context.processor ≡ 0 → IsTrueSaid said → AllByRecursion (IsSound file prints) (said_facts context said)
+  pub said_true : (context : Context) (said : Said) → context.processor ≡ 0 → IsTrueSaid said → AllByRecursion (IsSound file prints) (said_facts context said)
   said_true context Nothing zero tells = tt
   said_true context (Announces processor number) zero tells = absurd tells
   said_true context (Value value place) zero tells = absurd tells
@@ -147,20 +169,21 @@ module _ (file : RegisterFile) (prints : Key → Bool) where
   shown_among processor table (first ∷ shows) shown register (inr later) =
       join_among_second (shown_facts processor table first) (shows_facts processor table shows) _ (shown_among processor table shows shown register later)
 
-  said_has : (context : Context) (said : Said) (key : Key) → IsKey key → ShowsKey key said → HasReading key (said_facts context said)
-  said_has context said key is shows =
+  said_has : (context : Context) (said : Said) (key : Key) (bits : ℕ) → IsKey key → ShowsKey key bits said → HasReading key bits (said_facts context said)
+  said_has context said key bits is shows =
       let register : is_register shows.shown.number ≡ true = rw shows.number (is_register_key key is) in
       record {
         reading = record { processor = unwrap_or shows.processor context.processor; table = context.table; number = shows.shown.number; bits = shows.shown.bits; value = shows.shown.value; place = shows.shown.place };
         among = rw shows.said_is (shown_among (unwrap_or shows.processor context.processor) context.table shows.shows shows.shown register shows.among);
         number = shows.number;
+        bits = shows.bits;
       }
 
   -- ---- the facts of lines
 
   module _ (format : Format) where
     -- what a line comes to where the format is known
-    of_line : (context : Context) (number : ℕ) (line : List ℕ) → context.format ≡ Some format
+    pub of_line : (context : Context) (number : ℕ) (line : List ℕ) → context.format ≡ Some format
         → facts_of_line context number line ≡ is_line number (Some format) (is_match (said_of format number line)) ∷ said_facts context (said_of format number line)
     of_line context number line is = rw is refl
 
@@ -182,15 +205,28 @@ module _ (file : RegisterFile) (prints : Key → Bool) where
         all_join (IsSound file prints) (facts_of_line context number line) (facts_from (context_behind context number line) (number + 1) lines) facts
         (lines_true lines (context_behind context number line) (number + 1) (next_format context number line is) (next_processor context number line is zero here) (λ other among. tells other (inr among)))
 
-    pub lines_have : (lines : List (List ℕ)) (context : Context) (number : ℕ) (key : Key) (line : List ℕ) → context.format ≡ Some format → IsKey key → IsAmong line lines
-        → ((at : ℕ) → ShowsKey key (said_of format at line)) → HasReading key (facts_from context number lines)
-    lines_have [] context number key line is is_key among shows = absurd among
-    lines_have (first ∷ lines) context number key line is is_key (inl same) shows =
-        let here : ShowsKey key (said_of format number first) = subst (λ l. ShowsKey key (said_of format number l)) (sym same) (shows number) in
-        let has = said_has context (said_of format number first) key is_key here in
+    pub lines_have : (lines : List (List ℕ)) (context : Context) (number : ℕ) (key : Key) (bits : ℕ) (line : List ℕ) → context.format ≡ Some format → IsKey key → IsAmong line lines
+        → ((at : ℕ) → ShowsKey key bits (said_of format at line)) → HasReading key bits (facts_from context number lines)
+    lines_have [] context number key bits line is is_key among shows = absurd among
+    lines_have (first ∷ lines) context number key bits line is is_key (inl same) shows =
+        let here : ShowsKey key bits (said_of format number first) = subst (λ l. ShowsKey key bits (said_of format number l)) (sym same) (shows number) in
+        let has = said_has context (said_of format number first) key bits is_key here in
         let facts : IsAmong (is_register_value has.reading) (facts_of_line context number first) =
         subst (IsAmong (is_register_value has.reading)) (sym (of_line context number first is)) (inr has.among) in
-        record { reading = has.reading; among = join_among_first (facts_of_line context number first) (facts_from (context_behind context number first) (number + 1) lines) _ facts; number = has.number }
-    lines_have (first ∷ lines) context number key line is is_key (inr later) shows =
-        let has = lines_have lines (context_behind context number first) (number + 1) key line (next_format context number first is) is_key later shows in
-        record { reading = has.reading; among = join_among_second (facts_of_line context number first) (facts_from (context_behind context number first) (number + 1) lines) _ has.among; number = has.number }
+        record { reading = has.reading; among = join_among_first (facts_of_line context number first) (facts_from (context_behind context number first) (number + 1) lines) _ facts; number = has.number; bits = has.bits }
+    lines_have (first ∷ lines) context number key bits line is is_key (inr later) shows =
+        let has = lines_have lines (context_behind context number first) (number + 1) key bits line (next_format context number first is) is_key later shows in
+        record { reading = has.reading; among = join_among_second (facts_of_line context number first) (facts_from (context_behind context number first) (number + 1) lines) _ has.among; number = has.number; bits = has.bits }
+
+    -- the width that a line shows is among the facts
+    pub lines_show_width : (lines : List (List ℕ)) (context : Context) (number : ℕ) (line : List ℕ) (width : ℕ) (place : ℕ → Place) → context.format ≡ Some format → IsAmong line lines
+        → ((at : ℕ) → said_of format at line ≡ Width width (place at)) → (at : Place) × IsAmong (is_width width at) (facts_from context number lines)
+    lines_show_width [] context number line width place is among shows = absurd among
+    lines_show_width (first ∷ lines) context number line width place is (inl same) shows =
+        let here : said_of format number first ≡ Width width (place number) = ap (said_of format number) same ∙ shows number in
+        let facts : IsAmong (is_width width (place number)) (facts_of_line context number first) =
+        subst (IsAmong (is_width width (place number))) (sym (of_line context number first is)) (inr (rw here (inl refl))) in
+        (place number, join_among_first (facts_of_line context number first) (facts_from (context_behind context number first) (number + 1) lines) (is_width width (place number)) facts)
+    lines_show_width (first ∷ lines) context number line width place is (inr later) shows =
+        let has = lines_show_width lines (context_behind context number first) (number + 1) line width place (next_format context number first is) later shows in
+        (has.0, join_among_second (facts_of_line context number first) (facts_from (context_behind context number first) (number + 1) lines) (is_width width has.0) has.1)

@@ -1,16 +1,17 @@
 -- Where the width comes from, and widths that differ.
-use Rattle.std.proofs.Common.{◌≡◌, ◌≢◌, ℕ, Bool, true, false, ◌==◌, ◌||◌, not, List, [], ◌∷◌, Option, Some, None, refl, sym, ◌∙◌, ap, inl, inr}
+use Rattle.std.proofs.Common.{◌≡◌, ◌≢◌, ℕ, Bool, true, false, ◌==◌, not, List, [], ◌∷◌, Option, Some, None, refl, sym, ◌∙◌, ap, inl, inr}
 use Rattle.std.specs.Prelude.{◌⊎◌, if◌then◌else◌}
 use Rattle.std.proofs.lemmas.Bool.{eqb-true}
 use Rattle.mt_ports.specs.declared.status.Status.TheVariants.{BadText}
 use Rattle.mt_text.specs.declared.place.Place.{Place}
-use Rattle.mt_import.specs.declared.fault.ImportFault.TheVariants.{BadWidth, WidthContradiction}
+use Rattle.mt_import.specs.declared.fault.ImportFault.TheVariants.{BadWidth}
+use Rattle.mt_import.specs.declared.fault.Rival.TheVariants.{Line, Word}
 use Rattle.mt_import.specs.declared.format.Choice.{Choice}
 use Rattle.mt_import.specs.Readings.{Fact, is_fault, is_line, is_register_value, is_warning, is_width}
 use Rattle.mt_import.specs.Shown.{format_of, is_auto, shown}
 use Rattle.mt_import.specs.Supplied.{Supplied, differs}
 use Rattle.mt_import.specs.Values.{assumed_width, or_supplied}
-use Rattle.mt_import.specs.Outcome.{Seen, ended, fact_fault, facts_fault, is_fit_width, nothing_seen, seen_after, seen_with, slot_shown, width_fault}
+use Rattle.mt_import.specs.Outcome.{Seen, ended, fact_fault, facts_fault, is_fit_width, nothing_seen, seen_after, seen_with, slot_shown, width_contradiction, width_fault}
 use Rattle.mt_import.specs.Import.{log_told}
 use Rattle.mt_import_laws.specs.Origins.{HasOrigins, IsAmong, WidthOrigin, readings_of, seen_of, width_by_line, width_by_masks, width_by_word}
 use Rattle.mt_import_laws.proofs.Bits.{not_false}
@@ -59,18 +60,19 @@ width_origin choice supplied text origins = from_lines choice supplied text orig
 
 -- ---- widths that differ
 
-fault_by : (unfit word line : Bool) (place : Place) → (if unfit then Some (BadWidth place) else if word || line then Some (WidthContradiction place) else None) ≡ None → (word ≡ false) × (line ≡ false)
-fault_by true word line place is = cc is
-fault_by false true line place is = cc is
-fault_by false false true place is = cc is
-fault_by false false false place is = (refl, refl)
+fault_by : (unfit word line : Bool) (at : ℕ) (place : Place) → (if unfit then Some (BadWidth place) else width_contradiction place (if word then Some Word else if line then Some (Line at) else None)) ≡ None
+    → (word ≡ false) × (line ≡ false)
+fault_by true word line at place is = cc is
+fault_by false true line at place is = cc is
+fault_by false false true at place is = cc is
+fault_by false false false at place is = (refl, refl)
 
 agrees : (other : Option ℕ) (width known : ℕ) → differs other width ≡ false → other ≡ Some known → known ≡ width
 agrees None width known same is = cc is
 agrees (Some value) width known same is = let e : value ≡ known = cc is in sym e ∙ eqb-true value width (not_false (value == width) same)
 
 tests : (supplied : Supplied) (seen : Seen) (width : ℕ) (place : Place) → width_fault supplied seen width place ≡ None → (differs supplied.width width ≡ false) × (differs seen.width width ≡ false)
-tests supplied seen width place is = fault_by (not (is_fit_width width)) (differs supplied.width width) (differs seen.width width) place is
+tests supplied seen width place is = fault_by (not (is_fit_width width)) (differs supplied.width width) (differs seen.width width) seen.line_of_width place is
 
 module _ (supplied : Supplied) where
   -- a width that was seen is the one at the end

@@ -2,9 +2,15 @@ pub mod Origins
 pub mod Notes
 pub mod Worked
 pub mod Alike
+pub mod Returns
+pub mod FirstLine
 pub mod Printed
 pub mod PrintedByInteltool
 pub mod PrintedByCoreboot
 pub mod PrintedByEdk2
 pub mod PrintedByRdmsr
+pub mod PrintedByX86info
+pub mod PrintedByKernel
+pub mod PrintedByXen
+pub mod PrintedByLinux
 pub mod WorkedPrinted

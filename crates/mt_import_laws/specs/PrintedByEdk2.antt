@@ -1,6 +1,6 @@
 -- What EDK2 prints of a processor's MTRRs, up to `Memory Ranges:` (EDK2 2022.11, UefiCpuPkg/Library/MtrrLib/MtrrLib.c, MtrrDebugPrintAllMtrrsWorker).
 --     edk2_lines file      the lines
-use Rattle.std.specs.Prelude.{ℕ, ◌≡◌, ◌+◌, ◌*◌, ◌/◌, ◌%◌, ◌<◌, true, false, Bool, codes, List, [], ◌∷◌, ◌++◌, length, map, if◌then◌else◌, Some, None}
+use Rattle.std.specs.Prelude.{ℕ, ◌≡◌, ◌+◌, ◌*◌, ◌/◌, ◌%◌, ◌<◌, false, Bool, codes, List, [], ◌∷◌, ◌++◌, length, map, if◌then◌else◌, Some, None}
 use Rattle.std.specs.Int.{to_be_bytes, w64}
 use Rattle.hex.specs.Hex.{encode_upper}
 use Rattle.mt_kinds.specs.Bits.{is_bit_set}

@@ -1,10 +1,11 @@
--- A log of two lines that contradict each other, for which the premises of the laws hold (own).
-use Rattle.std.specs.Prelude.{ℕ, codes, List}
+-- Logs of two lines that contradict each other, for which the premises of the laws hold (own).
+use Rattle.std.specs.Prelude.{ℕ, ◌≡◌, true, codes, List, ◌∷◌, ◌++◌}
 use Rattle.mt_import.specs.declared.format.Choice.{Choice}
 use Rattle.mt_import.specs.declared.format.Choice.TheVariants.{Only}
 use Rattle.mt_import.specs.declared.format.Format.TheVariants.{Rdmsr}
 use Rattle.mt_import.specs.declared.shape.Reading.{Reading}
 use Rattle.mt_import.specs.Slot.{all_bits}
+use Rattle.mt_import.specs.Outcome.{shows_fixed, shows_no_fix}
 use Rattle.mt_import_laws.specs.Origins.{Contradict, IsAmong, readings_of}
 
 abbrev pub worked_choice : Choice
@@ -14,11 +15,31 @@ worked_choice = Only Rdmsr
 abbrev pub worked_log : List ℕ
 worked_log = codes "0x277 6\n0x277 7\n"
 
+-- the same with a CR at the end of the first line
+abbrev pub returned_log : List ℕ
+returned_log = codes "0x277 6" ++ 13 ∷ codes "\n0x277 7\n"
+
 abbrev pub first_reading : Reading
 first_reading = record { processor = 0; table = 0; number = 0x277; bits = all_bits; value = 6; place = record { line = 1; column = 7 } }
 
 abbrev pub second_reading : Reading
 second_reading = record { processor = 0; table = 0; number = 0x277; bits = all_bits; value = 7; place = record { line = 2; column = 7 } }
+
+-- a fixed-range register, and a capability register without FIX
+abbrev pub fixed_log : List ℕ
+fixed_log = codes "0x250 6\n0xfe 400\n"
+
+abbrev pub fixed_reading : Reading
+fixed_reading = record { processor = 0; table = 0; number = 0x250; bits = all_bits; value = 6; place = record { line = 1; column = 7 } }
+
+abbrev pub fixless_reading : Reading
+fixless_reading = record { processor = 0; table = 0; number = 0xfe; bits = all_bits; value = 0x400; place = record { line = 2; column = 6 } }
+
+pub record IsWorkedFixed : Type 0 where
+  pub first : IsAmong fixed_reading (readings_of worked_choice fixed_log)
+  pub second : IsAmong fixless_reading (readings_of worked_choice fixed_log)
+  pub fixed : shows_fixed fixed_reading ≡ true
+  pub clear : shows_no_fix fixless_reading ≡ true
 
 pub record IsWorked : Type 0 where
   pub first : IsAmong first_reading (readings_of worked_choice worked_log)

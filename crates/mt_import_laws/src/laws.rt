@@ -1,16 +1,21 @@
-ghost use Rattle.std.specs.Prelude.{◌≡◌, ◌≢◌, ◌++◌, ℕ, List, [], Some};
+ghost use Rattle.std.specs.Prelude.{◌≡◌, ◌≢◌, ◌++◌, ℕ, List, [], Some, false, true};
+ghost use Rattle.mt_kinds.specs.Bits.{is_bit_set};
 ghost use Rattle.mt_ports.specs.declared.status.Status.TheVariants.{BadText, Done};
 ghost use Rattle.mt_text.specs.declared.place.Place.{Place};
 ghost use Rattle.mt_import.specs.declared.format.Choice.{Choice};
+ghost use Rattle.mt_import.specs.declared.format.Choice.TheVariants.{Auto, Only};
+ghost use Rattle.mt_import.specs.declared.format.Format.{Format};
 ghost use Rattle.mt_import.specs.declared.shape.Reading.{Reading};
 ghost use Rattle.mt_import.specs.Import.{log_told, told_of};
-ghost use Rattle.mt_import.specs.Outcome.{Seen, Told};
+ghost use Rattle.mt_import.specs.Outcome.{Seen, Told, shows_fixed, shows_no_fix};
 ghost use Rattle.mt_import.specs.Readings.{is_width};
 ghost use Rattle.mt_import.specs.Shown.{format_of, shown};
-ghost use Rattle.mt_import.specs.Supplied.{Supplied};
+ghost use Rattle.mt_import.specs.Supplied.{Supplied, supplied_value};
 ghost use Rattle.mt_import_laws.specs.Alike.{AreAlikeLogs};
+ghost use Rattle.mt_import_laws.specs.FirstLine.{ComeToSame, TellsFirst};
 ghost use Rattle.mt_import_laws.specs.Notes.{AreNoted};
 ghost use Rattle.mt_import_laws.specs.Origins.{Contradict, ContradictInCapabilities, ContradictsWord, CountsPair, HasOrigins, IsAmong, IsRead, WidthOrigin, readings_of, seen_of};
+ghost use Rattle.mt_import_laws.specs.Returns.{DifferInReturns};
 
 /// For all logs and words: if a dump comes of them, each of its values is shown by lines of one table. Or else a word supplies it.
 /// Or else lines show its pair as disabled, and it is 0. Or else it is a named assumption's.
@@ -65,6 +70,18 @@ pub fn a_width_that_contradicts_a_word_is_a_fault()
         → supplied.width ≡ Some word → word ≢ a → (log_told choice supplied text).status ≡ BadText }
 {}
 
+/// A line that shows that a fixed-range register isn't 0, and a line that shows FIX of the capability register as clear, are a fault.
+pub fn fixed_ranges_without_fix_are_faults()
+    ensures { (choice : Choice) (supplied : Supplied) (text : List ℕ) (a b : Reading) → IsAmong a (readings_of choice text) → IsAmong b (readings_of choice text)
+        → shows_fixed a ≡ true → shows_no_fix b ≡ true → (log_told choice supplied text).status ≡ BadText }
+{}
+
+/// So is such a line beside a word that supplies the capability register without FIX.
+pub fn a_word_without_fix_is_a_fault()
+    ensures { (choice : Choice) (supplied : Supplied) (text : List ℕ) (a : Reading) (word : ℕ) → IsAmong a (readings_of choice text)
+        → shows_fixed a ≡ true → supplied_value supplied 0xfe ≡ Some word → is_bit_set word 8 ≡ false → (log_told choice supplied text).status ≡ BadText }
+{}
+
 /// Of a dump, VCNT counts each pair that lines show as enabled: VCNT as lines show it, and as a word supplies it.
 pub fn enabled_pairs_are_counted()
     ensures { (choice : Choice) (supplied : Supplied) (text : List ℕ) → (log_told choice supplied text).status ≡ Done → (a : Reading) → IsAmong a (readings_of choice text)
@@ -74,6 +91,17 @@ pub fn enabled_pairs_are_counted()
 /// Lines that match nothing may be replaced by others that match nothing: the texts and the status stay.
 pub fn lines_that_match_nothing_change_nothing()
     ensures { (choice : Choice) (supplied : Supplied) (a b : List ℕ) → AreAlikeLogs choice a b → log_told choice supplied a ≡ log_told choice supplied b }
+{}
+
+/// A CR at the end of lines changes nothing, in any format: the texts and the status stay.
+pub fn returns_change_nothing()
+    ensures { (choice : Choice) (supplied : Supplied) (a b : List ℕ) → DifferInReturns a b → log_told choice supplied a ≡ log_told choice supplied b }
+{}
+
+/// If the first line of a log that tells a format tells this one, `auto` comes to the same dump, comments and status as this format.
+pub fn auto_takes_the_first_format()
+    ensures { (format : Format) (supplied : Supplied) (text : List ℕ) → TellsFirst format text
+        → ComeToSame (log_told Auto supplied text) (log_told (Only format) supplied text) }
 {}
 
 /// Where the status isn't 0, nothing goes to standard output.

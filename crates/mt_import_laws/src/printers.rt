@@ -1,53 +1,99 @@
-ghost use Rattle.std.specs.Prelude.{◌≡◌, ◌∷◌, [], Bool, true, Some, codes};
+ghost use Rattle.std.specs.Prelude.{◌≡◌, ◌∷◌, [], ℕ, List, Bool, true, Some, codes};
 ghost use Rattle.mt_regs.specs.declared.registers.Register.TheVariants.{PhysBase, PhysMask};
 ghost use Rattle.mt_regs.specs.RegisterFile.{RegisterFile, pair_at};
 ghost use Rattle.mt_import.specs.declared.format.Choice.TheVariants.{Only};
-ghost use Rattle.mt_import.specs.declared.format.Format.TheVariants.{Coreboot, Edk2, Inteltool, Rdmsr};
-ghost use Rattle.mt_import.specs.Import.{log_told};
+ghost use Rattle.mt_import.specs.declared.format.Format.TheVariants.{Coreboot, Edk2, Inteltool, Linux, Rdmsr, X86info, Xen};
 ghost use Rattle.mt_import.specs.Supplied.{Supplied, command_of};
-ghost use Rattle.mt_import_laws.specs.Printed.{ReadsBack, TableReadsBack};
+ghost use Rattle.mt_import_laws.specs.FirstLine.{LinesTellFirst};
+ghost use Rattle.mt_import_laws.specs.Printed.{TableReadsBack, TableReadsInOrder, TextReadsBack};
 ghost use Rattle.mt_import_laws.specs.PrintedByCoreboot.{SuitsCoreboot, Tails, coreboot_lines, line_of as coreboot_line};
 ghost use Rattle.mt_import_laws.specs.PrintedByEdk2.{SuitsEdk2, edk2_lines, pair_line};
 ghost use Rattle.mt_import_laws.specs.PrintedByInteltool.{Names, SuitsInteltool, inteltool_lines, line_of as inteltool_line};
-ghost use Rattle.mt_import_laws.specs.PrintedByRdmsr.{SuitsRdmsr, call_line, hex_text, rdmsr_text};
-ghost use Rattle.mt_import_laws.specs.WorkedPrinted.{model_names, ordinary_pc, some_tails, width_36, width_and_pat, words_for_edk2};
+ghost use Rattle.mt_import_laws.specs.PrintedByRdmsr.{SuitsRdmsr, call_line, hex_text, rdmsr_lines, rdmsr_text};
+ghost use Rattle.mt_import_laws.specs.PrintedByX86info.{Print, SuitsX86info, line_of as x86info_line, size_line, x86info_lines};
+ghost use Rattle.mt_import_laws.specs.PrintedByLinux.{Log, SuitsLinux, linux_lines};
+ghost use Rattle.mt_import_laws.specs.PrintedByXen.{SuitsXen, xen_lines};
+ghost use Rattle.mt_import_laws.specs.WorkedPrinted.{early_log, linux_log, model_names, ordinary_pc, some_tails, width_36, width_and_pat, words_for_edk2, words_for_kernels, words_for_x86info, x86info_print, xen_log};
 
 /// What a shell prints under `set -x` that calls rdmsr for each register of a file reads back as the file, if words supply its width.
+/// So it does by `auto`.
 pub fn what_rdmsr_prints_reads_back()
-    ensures { (file : RegisterFile) (supplied : Supplied) → SuitsRdmsr file supplied → ReadsBack (log_told (Only Rdmsr) supplied (rdmsr_text file)) file }
+    ensures { (file : RegisterFile) (supplied : Supplied) → SuitsRdmsr file supplied → TextReadsBack Rdmsr (rdmsr_text file) supplied file }
 {}
 
 /// What inteltool prints of a register file reads back as the file, if words supply its width. So does any log that has each of
-/// these lines, and besides them only lines that tell no more than the width.
+/// these lines, and besides them only lines that say no more of a dump than its width.
 pub fn what_inteltool_prints_reads_back()
     ensures { (names : Names) (file : RegisterFile) (supplied : Supplied) → SuitsInteltool names file supplied
         → TableReadsBack Inteltool (inteltool_lines names file) supplied file }
 {}
 
+/// What x86info prints of a register file reads back as the file, if words supply what it doesn't print, and what stands behind
+/// the names of more than two registers that it couldn't read. So does any log that has each of these lines, and besides them
+/// only lines that say no more of a dump than its width.
+pub fn what_x86info_prints_reads_back()
+    ensures { (print : Print) (file : RegisterFile) (supplied : Supplied) → SuitsX86info print file supplied
+        → TableReadsBack X86info (x86info_lines print file) supplied file }
+{}
+
 /// What coreboot displays of a register file reads back as the file, if words supply its width and its PAT. So does any log that has
-/// each of these lines, and besides them only lines that tell no more than the width.
+/// each of these lines, and besides them only lines that say no more of a dump than its width.
 pub fn what_coreboot_displays_reads_back()
     ensures { (leveled : Bool) (tails : Tails) (file : RegisterFile) (supplied : Supplied) → SuitsCoreboot tails file supplied
         → TableReadsBack Coreboot (coreboot_lines leveled tails file) supplied file }
 {}
 
 /// What EDK2 prints of a register file reads back as the file, if words supply the width, 0FEH, the PAT and the pairs without a line.
-/// So does any log that has each of these lines, and besides them only lines that tell no more than the width.
+/// So does any log that has each of these lines, and besides them only lines that say no more of a dump than its width.
 pub fn what_edk2_prints_reads_back()
     ensures { (file : RegisterFile) (supplied : Supplied) → SuitsEdk2 file supplied → TableReadsBack Edk2 (edk2_lines file) supplied file }
 {}
 
-/// The registers of an ordinary PC are an instance for each program. The words of two are command lines, and a line of each is as the
-/// program printed it.
+/// What Xen prints of a register file reads back as the file, if words supply the width, 0FEH, the PAT and what the table doesn't show:
+/// the registers of pairs that are off and not 0, and IA32_MTRR_DEF_TYPE without FIX. Types without a name and reserved bits aren't shown.
+pub fn what_xen_prints_reads_back()
+    ensures { (file : RegisterFile) (supplied : Supplied) → SuitsXen file supplied → TableReadsInOrder Xen (xen_lines file) supplied file }
+{}
+
+/// What Linux prints of a register file reads back as the file, if words supply the same, and IA32_MTRR_DEF_TYPE also if neither E is set
+/// nor fixed ranges are called enabled.
+pub fn what_linux_prints_reads_back()
+    ensures { (log : Log) (file : RegisterFile) (supplied : Supplied) → SuitsLinux log file supplied → TableReadsInOrder Linux (linux_lines log file) supplied file }
+{}
+
+/// What each program prints of an ordinary PC is an instance of `auto_takes_the_first_format`.
+pub fn worked_formats()
+    ensures rdmsr { LinesTellFirst Rdmsr 1 (rdmsr_lines ordinary_pc) }
+    ensures inteltool { LinesTellFirst Inteltool 1 (inteltool_lines model_names ordinary_pc) }
+    ensures x86info { LinesTellFirst X86info 1 (x86info_lines x86info_print ordinary_pc) }
+    ensures coreboot { LinesTellFirst Coreboot 1 (coreboot_lines true some_tails ordinary_pc) }
+    ensures edk2 { LinesTellFirst Edk2 1 (edk2_lines ordinary_pc) }
+    ensures xen { LinesTellFirst Xen 1 (xen_lines ordinary_pc) }
+    ensures linux { LinesTellFirst Linux 1 (linux_lines early_log ordinary_pc) }
+    ensures other { LinesTellFirst Linux 1 (xen_lines ordinary_pc) → ⊥ }
+{}
+
+/// The registers of an ordinary PC are an instance for each program. The words of four are command lines. A line of each is as the
+/// program printed it, and the whole table of Xen and of Linux.
 pub fn worked_prints()
     ensures rdmsr { SuitsRdmsr ordinary_pc width_36 }
     ensures inteltool { SuitsInteltool model_names ordinary_pc width_36 }
     ensures coreboot { SuitsCoreboot some_tails ordinary_pc width_and_pat }
     ensures edk2 { SuitsEdk2 ordinary_pc words_for_edk2 }
+    ensures x86info { SuitsX86info x86info_print ordinary_pc words_for_x86info }
+    ensures xen { SuitsXen ordinary_pc words_for_kernels }
+    ensures linux { SuitsLinux early_log ordinary_pc words_for_kernels }
     ensures words { command_of (codes "inteltool" ∷ codes "maxphyaddr=36" ∷ []) ≡ Some (Only Inteltool, width_36) }
     ensures more_words { command_of (codes "coreboot" ∷ codes "maxphyaddr=36" ∷ codes "277=7040600070406" ∷ []) ≡ Some (Only Coreboot, width_and_pat) }
+    ensures words_too { command_of (codes "x86info" ∷ codes "268=505050505050505" ∷ codes "277=7040600070406" ∷ []) ≡ Some (Only X86info, words_for_x86info) }
+    ensures words_for_xen { command_of (codes "xen" ∷ codes "maxphyaddr=36" ∷ codes "0fe=d08" ∷ codes "277=7040600070406" ∷ []) ≡ Some (Only Xen, words_for_kernels) }
     ensures by_rdmsr { (call_line 0x201 ≡ codes "+ rdmsr -p 0 0x201") × (hex_text 0xf00000800 ≡ codes "f00000800") }
     ensures by_inteltool { inteltool_line model_names ordinary_pc (Some (PhysBase 1)) ≡ codes " MSR 0x00000202 = 0x00000001:0x00000006 (IA32_MTRR_PHYSBASE1)" }
+    ensures by_x86info { x86info_line x86info_print ordinary_pc (Some (PhysMask 3))
+        ≡ codes "MTRRphysMask3 (0x207): 0x0000000fe0000800 (physmask field:0xfe0000 valid flag: 1)" }
+    ensures sizes_by_x86info { size_line 36 48 ≡ codes "Address sizes : 36 bits physical, 48 bits virtual" }
+    ensures by_xen { xen_lines ordinary_pc ≡ xen_log }
+    ensures by_linux { linux_lines early_log ordinary_pc ≡ linux_log }
     ensures by_coreboot { coreboot_line true some_tails ordinary_pc (Some (PhysMask 2))
         ≡ codes "[DEBUG]  0x0000000fe0000800: PHYMASK2: Length  = 0x0000000020000000, Valid" }
     ensures by_edk2 { pair_line 3 (pair_at ordinary_pc.pairs 3) ≡ codes "Variable MTRR[03]: Base=00000000E0000000 Mask=0000000FE0000800" }

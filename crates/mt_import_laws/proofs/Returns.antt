@@ -1,0 +1,123 @@
+-- A CR at the end of a line is no part of what the line says.
+use Rattle.std.proofs.Common.{◌≡◌, ◌≢◌, ◌+◌, nat_lt, ℕ, Bool, true, false, List, [], ◌∷◌, ◌++◌, drop, length, take, Option, Some, None, refl, sym, ◌∙◌, ap, arith, inl, inr, length-append, codes}
+use Rattle.std.specs.Prelude.{◌⊎◌, if◌then◌else◌}
+use Rattle.std.proofs.lemmas.Bool.Decides.{nat_tests}
+use Rattle.mt_text.specs.Text.{before_comment, is_too_long, lines_of, longest_line, past_limit, without_ending, without_return, words_from, words_of}
+use Rattle.mt_text.specs.Words.{text_of}
+use Rattle.mt_import.specs.declared.format.Choice.{Choice}
+use Rattle.mt_import.specs.declared.format.Format.{Format}
+use Rattle.mt_import.specs.declared.format.Format.TheVariants.{Rdmsr, X86info, Inteltool, Coreboot, Edk2, Linux, Xen}
+use Rattle.mt_import.specs.declared.reading.Context.{Context}
+use Rattle.mt_import.specs.declared.reading.Said.{Said}
+use Rattle.mt_import.specs.declared.reading.Said.TheVariants.{Nothing, Announces, Value, Turns, Shows, Begins, FixedRanges, VariableRanges, Width, Warns, Long}
+use Rattle.mt_import.specs.Coreboot.{level_words, said_from as coreboot_from}
+use Rattle.mt_import.specs.Edk2.{said_by_words as edk2_words}
+use Rattle.mt_import.specs.Inteltool.{said_by_words as inteltool_words}
+use Rattle.mt_import.specs.Kernel.{is_warning_text, kernel_said}
+use Rattle.mt_import.specs.LineWords.{behind_stamp, head_end, kernel_end}
+use Rattle.mt_import.specs.Linux.{linux_words_said}
+use Rattle.mt_import.specs.Pieces.{behind, is_text}
+use Rattle.mt_import.specs.Rdmsr.{said_by_words as rdmsr_words}
+use Rattle.mt_import.specs.X86info.{said_by, said_by_words as x86info_words, sizes_by_words}
+use Rattle.mt_import.specs.Readings.{starts}
+use Rattle.mt_import.specs.Shown.{chosen, context_behind, format_of, is_telling, said_by_line, said_in, said_in_each, said_of, said_or_sizes, tells}
+use Rattle.mt_import.specs.Supplied.{Supplied}
+use Rattle.mt_import.specs.Import.{log_told}
+use Rattle.mt_import_laws.specs.Returns.{DifferInReturns, GetReturns, GetsReturn}
+use Rattle.mt_import_laws.proofs.Alike.{AllSaySame, SaySame, same_logs}
+
+-- a CR is taken off
+strips : (line : List ℕ) → without_ending 13 (line ++ 13 ∷ []) ≡ line
+strips [] = refl
+strips (byte ∷ []) = refl
+strips (byte ∷ next ∷ bytes) = ap (λ l. byte ∷ l) (strips (next ∷ bytes))
+
+one_longer : (size longer : ℕ) → size ≢ 4096 → longer ≡ size + 1 → nat_lt 4096 longer ≡ nat_lt 4096 size
+one_longer size longer apart is = by (nat_lt 4096 size) refl
+  where
+    by : (test : Bool) → nat_lt 4096 size ≡ test → nat_lt 4096 longer ≡ test
+    by true past = grind (arith, nat_tests, past, is)
+    by false within = grind (arith, nat_tests, within, is, apart)
+
+module _ (line : List ℕ) (without : without_return line ≡ line) (apart : length line ≢ longest_line) where
+  abbrev longer : List ℕ
+  longer = line ++ 13 ∷ []
+
+  same_text : without_return longer ≡ without_return line
+  same_text = strips line ∙ sym without
+
+  same_words : words_of longer ≡ words_of line
+  same_words = ap (λ text. words_from 0 (before_comment text)) same_text
+
+  same_limit : is_too_long longer ≡ is_too_long line
+  same_limit = one_longer (length line) (length longer) apart (length-append line (13 ∷ []))
+
+  by_x86info : (number : ℕ) (found : Option (List ℕ)) → said_by found number longer ≡ said_by found number line
+  by_x86info number None = ap (λ ws. x86info_words number (take 7 ws)) same_words
+  by_x86info number (Some rest) = refl
+
+  by_format : (format : Format) (number : ℕ) → said_by_line format number longer ≡ said_by_line format number line
+  by_format Rdmsr number = ap (rdmsr_words number) same_words
+  by_format X86info number = ap (λ text. said_by (behind (codes "CPU #") text) number longer) same_text ∙ by_x86info number (behind (codes "CPU #") (without_return line))
+  by_format Inteltool number = ap (λ ws. inteltool_words number (take 7 ws)) same_words
+  by_format Coreboot number = ap (λ ws. coreboot_from (level_words ws) number ws) same_words
+  by_format Edk2 number = ap (λ ws. edk2_words number (take 7 ws)) same_words
+  by_format Linux number = ap (λ ws. linux_words_said number (drop (head_end ws) ws)) same_words
+  by_format Xen number = ap (λ ws. if is_text (codes "(XEN)") (text_of ws 0) then kernel_said true number (drop (behind_stamp 1 ws) ws) else Nothing) same_words
+
+  same_in_each : (number : ℕ) → said_in_each number longer ≡ said_in_each number line
+  same_in_each number = ap (λ ws. if is_warning_text (drop (kernel_end ws) ws) then Warns else sizes_by_words number (take 7 ws)) same_words
+
+  or_sizes : (number : ℕ) (said : Said) → said_or_sizes said number longer ≡ said_or_sizes said number line
+  or_sizes number Nothing = same_in_each number
+  or_sizes number (Announces processor register) = refl
+  or_sizes number (Value value place) = refl
+  or_sizes number (Turns processor) = refl
+  or_sizes number (Shows processor shows) = refl
+  or_sizes number (Begins shows) = refl
+  or_sizes number (FixedRanges enabled alone place) = refl
+  or_sizes number (VariableRanges enabled place) = refl
+  or_sizes number (Width width place) = refl
+  or_sizes number Warns = refl
+  or_sizes number (Long place) = refl
+
+  -- behind the limit of a line's length
+  unless_long : (number : ℕ) (said before : Said) → said ≡ before → (if is_too_long longer then Long (past_limit number) else said) ≡ (if is_too_long line then Long (past_limit number) else before)
+  unless_long number said before same =
+      ap (λ long. if long then Long (past_limit number) else said) same_limit ∙ ap (λ s. if is_too_long line then Long (past_limit number) else s) same
+
+  same_said : (format : Format) (number : ℕ) → said_of format number longer ≡ said_of format number line
+  same_said format number =
+      unless_long number (said_or_sizes (said_by_line format number longer) number longer) (said_or_sizes (said_by_line format number line) number line)
+      (ap (λ s. said_or_sizes s number longer) (by_format format number) ∙ or_sizes number (said_by_line format number line))
+
+  same_in : (format : Option Format) (number : ℕ) → said_in format number longer ≡ said_in format number line
+  same_in None number = unless_long number (said_in_each number longer) (said_in_each number line) (same_in_each number)
+  same_in (Some format) number = same_said format number
+
+  same_tells : (format : Format) (number : ℕ) → tells format number longer ≡ tells format number line
+  unfolding tells
+  same_tells format number = ap is_telling (by_format format number)
+
+  same_chosen : (format : Option Format) (number : ℕ) → chosen format number longer ≡ chosen format number line
+  same_chosen (Some format) number = refl
+  same_chosen None number =
+      rw (same_limit, same_tells Xen number, same_tells Linux number, same_tells Coreboot number, same_tells Edk2 number, same_tells Inteltool number, same_tells X86info number, same_tells Rdmsr number) refl
+
+  says_same : (context : Context) (number : ℕ) → SaySame context number line longer
+  says_same context number =
+      let one = sym (same_chosen context.format number) in
+      (one, ap (λ c. said_in c number line) one ∙ sym (same_in (chosen context.format number longer) number))
+
+each_line : (context : Context) (number : ℕ) (x y : List ℕ) → (x ≡ y) ⊎ GetsReturn x y → SaySame context number x y
+each_line context number x y (inl same) = (ap (chosen context.format number) same, ap (λ l. said_in (chosen context.format number l) number l) same)
+each_line context number x y (inr gets) = rw gets.is (says_same x gets.ends_without gets.not_longest context number)
+
+all_lines : (context : Context) (number : ℕ) (xs ys : List (List ℕ)) → GetReturns xs ys → AllSaySame context number xs ys
+all_lines context number [] [] get = tt
+all_lines context number [] (y ∷ ys) get = absurd get
+all_lines context number (x ∷ xs) [] get = absurd get
+all_lines context number (x ∷ xs) (y ∷ ys) get = (each_line context number x y get.0, all_lines (context_behind context number x) (number + 1) xs ys get.1)
+
+pub returns_logs : (choice : Choice) (supplied : Supplied) (a b : List ℕ) → DifferInReturns a b → log_told choice supplied a ≡ log_told choice supplied b
+returns_logs choice supplied a b differ = same_logs choice supplied a b (all_lines (starts (format_of choice)) 1 (lines_of a) (lines_of b) differ)

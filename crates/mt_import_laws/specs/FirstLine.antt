@@ -1,0 +1,32 @@
+-- Logs whose first line that tells a format tells this one (own).
+--     TellsFirst format text      so it is of a text
+--     ComeToSame a b      two outcomes agree but for their reasons
+use Rattle.std.specs.Prelude.{ℕ, ◌≡◌, ◌⊎◌, ◌+◌, List, [], ◌∷◌, Some, None}
+use Rattle.mt_text.specs.Text.{lines_of}
+use Rattle.mt_import.specs.declared.format.Format.{Format}
+use Rattle.mt_import.specs.declared.reading.Said.{Said}
+use Rattle.mt_import.specs.declared.reading.Said.TheVariants.{Nothing, Turns}
+use Rattle.mt_import.specs.Outcome.{Told}
+use Rattle.mt_import.specs.Shown.{format_told, said_in, said_of}
+
+-- What a line says without a format and within one: the same, or there only that it turns to processor 0.
+pub data SaysAlike (without within : Said) : Type 0 where
+  says_same : within ≡ without → SaysAlike without within
+  only_turns : without ≡ Nothing → within ≡ Turns 0 → SaysAlike without within
+
+pub record TellsNone (format : Format) (number : ℕ) (line : List ℕ) : Type 0 where
+  pub none : format_told number line ≡ None
+  pub alike : SaysAlike (said_in None number line) (said_of format number line)
+
+-- of lines, of which the first has this number
+abbrev pub LinesTellFirst : Format → ℕ → List (List ℕ) → Type 0
+LinesTellFirst format number [] = ⊥
+LinesTellFirst format number (line ∷ lines) = (format_told number line ≡ Some format) ⊎ (TellsNone format number line × LinesTellFirst format (number + 1) lines)
+
+abbrev pub TellsFirst : Format → List ℕ → Type 0
+TellsFirst format text = LinesTellFirst format 1 (lines_of text)
+
+pub record ComeToSame (a b : Told) : Type 0 where
+  pub notes : a.notes ≡ b.notes
+  pub dump : a.dump ≡ b.dump
+  pub status : a.status ≡ b.status
