@@ -6,7 +6,7 @@ ghost use Rattle.mt_text.specs.Feed.{GaveTooMuch, IsLong, at_start, taken};
 ghost use Rattle.mt_text.specs.declared.fault.FeedFault.{FeedFault};
 ghost use Rattle.mt_import.specs.declared.shape.Reading.{Reading as ReadingValue};
 ghost use Rattle.mt_regs.specs.RegisterFile.{low_byte};
-ghost use Rattle.mt_import.specs.Readings.{Fact, fixed_facts, fixed_line, is_fixed_clash, is_line, is_register, is_register_value, is_warning, is_width, reading_facts, said_facts, shown_facts, shows_facts, starts, unlike, value_facts};
+ghost use Rattle.mt_import.specs.Readings.{Fact, fixed_facts, fixed_line, is_fixed_clash, is_line, is_register, is_register_value, is_warning, is_width, line_facts, reading_facts, said_facts, shown_facts, shows_facts, starts, unlike, value_facts};
 ghost use Rattle.mt_import.specs.Shown.{context_behind, facts_of_line};
 ghost use Rattle.mt_import.specs.Slot.{slot_with};
 ghost use Rattle.mt_import.specs.Outcome.{Seen, capabilities_after, capability_rival, contradiction, count_rival, counted, counts_fewer, enabled_pair, facts_fault, fix_shown, fixed_line_after, fixed_rival, fixless_rival, is_fit_width, lacks_fix, last_after, nothing_seen, one_if, or_rival, ranged_rival, reading_fault, rival, seen_after, seen_with, shows_fixed, shows_no_fix, slot_shown, tally_warned, tally_with, width_fault, width_rival};
@@ -695,6 +695,24 @@ impl LogReader {
         };
     }
 
+    // Takes what a line of this number says in this format.
+    fn take_in(
+        &mut self,
+        supplied: &Supplied,
+        number: u64,
+        format: Option<Format>,
+        said: &Said,
+    ) -> Result<(), ImportFault>
+        ensures taken { (seen : Seen) → HasTaken self.old seen → let facts = line_facts number format self.old.context said.now in MatchResult result
+            (λ _. HasTaken self.new (seen_after seen facts) × (facts_fault supplied.now seen facts ≡ None))
+            (λ fault. facts_fault supplied.now seen facts ≡ Some fault) }
+        ensures context { self.new.context ≡ self.old.context }
+        ensures short { IfErr result IsShort }
+    {
+        self.count_line(number, format, said.is_match());
+        self.take_said(supplied, said)
+    }
+
     /// Takes one line.
     pub fn take(&mut self, supplied: &Supplied, line: &Line<'_>) -> Result<(), ImportFault>
         ensures taken { (seen : Seen) → HasTaken self.old seen →
@@ -706,10 +724,13 @@ impl LogReader {
     {
         let format = chosen(self.context.format, line);
         let said = said_in(format, line);
-        self.count_line(line.number, format, said.is_match());
-        self.take_said(supplied, &said)?;
-        self.context = self.context.after(format, &said);
-        Ok(())
+        match self.take_in(supplied, line.number, format, &said) {
+            Ok(()) => {
+                self.context = self.context.after(format, &said);
+                Ok(())
+            }
+            Err(fault) => Err(fault),
+        }
     }
 }
 
