@@ -695,6 +695,20 @@ impl LogReader {
         };
     }
 
+    fn context(&self) -> Context
+        ensures { result ≡ self.now.context }
+    {
+        self.context
+    }
+
+    // What the lines that were taken lead to.
+    fn lead_to(&mut self, context: Context)
+        ensures taken { (seen : Seen) → HasTaken self.old seen → HasTaken self.new seen }
+        ensures context { self.new.context ≡ context }
+    {
+        self.context = context;
+    }
+
     // Takes what a line of this number says in this format.
     fn take_in(
         &mut self,
@@ -722,11 +736,12 @@ impl LogReader {
         ensures short { IfErr result IsShort }
         ensures context { IfOk result (λ _. self.new.context ≡ context_behind self.old.context line.now.number line.now.bytes.now) }
     {
-        let format = chosen(self.context.format, line);
+        let before = self.context();
+        let format = chosen(before.format, line);
         let said = said_in(format, line);
         match self.take_in(supplied, line.number, format, &said) {
             Ok(()) => {
-                self.context = self.context.after(format, &said);
+                self.lead_to(before.after(format, &said));
                 Ok(())
             }
             Err(fault) => Err(fault),
