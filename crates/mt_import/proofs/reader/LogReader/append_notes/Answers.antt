@@ -1,4 +1,4 @@
-use Rattle.std.proofs.Common.{◌++◌, List, ℕ, ap, arith, sym, ◌∙◌, append_assoc, map, take}
+use Rattle.std.proofs.Common.{arith, map, take}
 use Rattle.mt_regs.specs.Registers.{number_of, writable}
 use Rattle.mt_import.proofs.Parts.{grows, notes_more, some_at}
 use Rattle.mt_import.specs.Outcome.{firm_of, note_line, note_lines, noted, noted_of}

@@ -1,4 +1,4 @@
-use Rattle.std.proofs.Common.{◌++◌, [], List, ℕ, ap, arith, sym, ◌∙◌, append_assoc, map, take}
+use Rattle.std.proofs.Common.{[], arith, map, take}
 use Rattle.std.specs.Prelude.{if◌then◌else◌}
 use Rattle.mt_regs.specs.Registers.{number_of, writable}
 use Rattle.mt_import.proofs.Parts.{grows, missing_more, some_at}
