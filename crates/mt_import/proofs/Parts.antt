@@ -135,6 +135,12 @@ module _ (text : ℕ → List ℕ) (all : List ℕ → List ℕ) (none : all [] 
           ∙ sym (append_assoc (text (number_of s)) (all (map number_of (take i rs))) (text (number_of r)))
           ∙ ap (λ l. l ++ text (number_of r)) (sym (next (number_of s) (map number_of (take i rs))))
 
+-- a text that grows by the text of one more register
+pub grows : (text : ℕ → List ℕ) (n number : ℕ) (first so_far old new all : List ℕ) → n ≡ number → new ≡ old ++ text n → old ≡ first ++ so_far → all ≡ so_far ++ text number → new ≡ first ++ all
+grows text n number first so_far old new all same added before more =
+    added ∙ ap (λ (l : List ℕ). l ++ text n) before ∙ append_assoc first so_far (text n)
+    ∙ ap (λ k. first ++ (so_far ++ text k)) same ∙ ap (λ (l : List ℕ). first ++ l) (sym more)
+
 -- the lines of the registers that are missing
 pub missing_more : (hints : ℕ → Option ℕ) (values : ℕ → ℕ → Option ℕ) (count i : ℕ) (rs : List Register) (r : Register) → slice_get rs i ≡ Some r
     → missing_lines hints values count (map number_of (take (i + 1) rs))

@@ -1,7 +1,7 @@
 use mt_text::Place;
 
 /// What contradicts a line.
-#[derive(Clone, Copy, Debug, PartialEq, Eq)]
+#[derive(Clone, Copy)]
 pub enum Rival {
     /// The line of this number.
     Line(u64),
@@ -16,7 +16,7 @@ pub enum Rival {
 }
 
 /// Why a log shows no dump, and where.
-#[derive(Clone, Copy, Debug, PartialEq, Eq)]
+#[derive(Clone, Copy)]
 pub enum ImportFault {
     /// The line has more than 4,096 bytes.
     LongLine(Place),

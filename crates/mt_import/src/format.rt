@@ -13,7 +13,7 @@ use crate::xen::xen_said;
 use mt_text::Line;
 
 /// A kind of log.
-#[derive(Clone, Copy, Debug, PartialEq, Eq)]
+#[derive(Clone, Copy)]
 pub enum Format {
     /// `set -x` over `rdmsr` of msr-tools.
     Rdmsr,
@@ -32,7 +32,7 @@ pub enum Format {
 }
 
 /// The formats that a log may have.
-#[derive(Clone, Copy, Debug, PartialEq, Eq)]
+#[derive(Clone, Copy)]
 pub enum Choice {
     /// That of the first line that tells one.
     Auto,

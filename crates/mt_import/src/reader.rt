@@ -6,7 +6,7 @@ ghost use Rattle.mt_text.specs.Feed.{GaveTooMuch, IsLong, at_start, taken};
 ghost use Rattle.mt_text.specs.declared.fault.FeedFault.{FeedFault};
 ghost use Rattle.mt_import.specs.declared.shape.Reading.{Reading as ReadingValue};
 ghost use Rattle.mt_regs.specs.RegisterFile.{low_byte};
-ghost use Rattle.mt_import.specs.Readings.{Fact, fixed_facts, fixed_line, is_fixed_clash, is_line, is_register, is_register_value, is_warning, is_width, reading_facts, said_facts, shown_facts, shows_facts, starts, unlike, value_facts};
+ghost use Rattle.mt_import.specs.Readings.{Fact, fixed_facts, fixed_line, is_fixed_clash, is_line, is_register, is_register_value, is_warning, is_width, line_facts, reading_facts, said_facts, shown_facts, shows_facts, starts, unlike, value_facts};
 ghost use Rattle.mt_import.specs.Shown.{context_behind, facts_of_line};
 ghost use Rattle.mt_import.specs.Slot.{slot_with};
 ghost use Rattle.mt_import.specs.Outcome.{Seen, capabilities_after, capability_rival, contradiction, count_rival, counted, counts_fewer, enabled_pair, facts_fault, fix_shown, fixed_line_after, fixed_rival, fixless_rival, is_fit_width, lacks_fix, last_after, nothing_seen, one_if, or_rival, ranged_rival, reading_fault, rival, seen_after, seen_with, shows_fixed, shows_no_fix, slot_shown, tally_warned, tally_with, width_fault, width_rival};
@@ -695,6 +695,38 @@ impl LogReader {
         };
     }
 
+    fn context(&self) -> Context
+        ensures { result ≡ self.now.context }
+    {
+        self.context
+    }
+
+    // What the lines that were taken lead to.
+    fn lead_to(&mut self, context: Context)
+        ensures taken { (seen : Seen) → HasTaken self.old seen → HasTaken self.new seen }
+        ensures context { self.new.context ≡ context }
+    {
+        self.context = context;
+    }
+
+    // Takes what a line of this number says in this format.
+    fn take_in(
+        &mut self,
+        supplied: &Supplied,
+        number: u64,
+        format: Option<Format>,
+        said: &Said,
+    ) -> Result<(), ImportFault>
+        ensures taken { (seen : Seen) → HasTaken self.old seen → let facts = line_facts number format self.old.context said.now in MatchResult result
+            (λ _. HasTaken self.new (seen_after seen facts) × (facts_fault supplied.now seen facts ≡ None))
+            (λ fault. facts_fault supplied.now seen facts ≡ Some fault) }
+        ensures context { self.new.context ≡ self.old.context }
+        ensures short { IfErr result IsShort }
+    {
+        self.count_line(number, format, said.is_match());
+        self.take_said(supplied, said)
+    }
+
     /// Takes one line.
     pub fn take(&mut self, supplied: &Supplied, line: &Line<'_>) -> Result<(), ImportFault>
         ensures taken { (seen : Seen) → HasTaken self.old seen →
@@ -704,12 +736,16 @@ impl LogReader {
         ensures short { IfErr result IsShort }
         ensures context { IfOk result (λ _. self.new.context ≡ context_behind self.old.context line.now.number line.now.bytes.now) }
     {
-        let format = chosen(self.context.format, line);
+        let before = self.context();
+        let format = chosen(before.format, line);
         let said = said_in(format, line);
-        self.count_line(line.number, format, said.is_match());
-        self.take_said(supplied, &said)?;
-        self.context = self.context.after(format, &said);
-        Ok(())
+        match self.take_in(supplied, line.number, format, &said) {
+            Ok(()) => {
+                self.lead_to(before.after(format, &said));
+                Ok(())
+            }
+            Err(fault) => Err(fault),
+        }
     }
 }
 

@@ -2,7 +2,7 @@ use crate::Format;
 use mt_text::Place;
 
 /// Bits of a processor's register, as a log shows them. The value has no other bits.
-#[derive(Clone, Copy, Debug, PartialEq, Eq)]
+#[derive(Clone, Copy)]
 pub struct Reading {
     pub processor: u32,
     /// How many kernel's tables have begun before.

@@ -20,7 +20,7 @@ const GREATEST_WIDTH: u64 = 52;
 const MOST_WORDS: usize = 84;
 
 /// What may be assumed where neither a line nor a word says it. docs/IMPORT.md has each in words.
-#[derive(Clone, Copy, Debug, PartialEq, Eq)]
+#[derive(Clone, Copy)]
 pub struct Assumed {
     /// The PAT has its value of power-up.
     pub pat: bool,

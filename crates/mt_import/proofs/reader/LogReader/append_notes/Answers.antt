@@ -1,6 +1,6 @@
-use Rattle.std.proofs.Common.{◌++◌, List, ℕ, ap, arith, sym, ◌∙◌, append_assoc, map, take}
+use Rattle.std.proofs.Common.{arith, map, take}
 use Rattle.mt_regs.specs.Registers.{number_of, writable}
-use Rattle.mt_import.proofs.Parts.{notes_more, some_at}
+use Rattle.mt_import.proofs.Parts.{grows, notes_more, some_at}
 use Rattle.mt_import.specs.Outcome.{firm_of, note_line, note_lines, noted, noted_of}
 use Rattle.mt_import.specs.Reader.{slots_of, values_in}
 use Rattle.mt_import.proofs.reader.LogReader.append_notes.Goals as goal
@@ -13,13 +13,9 @@ registers-preserved c =
     let firm = firm_of c.args.supplied.now (slots_of c.args.self.now) in
     let values = values_in c.args.supplied.now c.args.self.now in
     let count = c.args.self.now.processors in
-    let first = c.args.text.now.items in
-    let so_far = note_lines firm values count (map number_of (take c.registers.i (writable c.args.file.now))) in
     record {
-      text = c.append_note.ensures.text
-          ∙ ap (λ (l : List ℕ). l ++ note_line c.number.result (noted firm values count c.number.result) (noted_of firm values count c.number.result)) c.registers.invariant.text
-          ∙ append_assoc first so_far (note_line c.number.result (noted firm values count c.number.result) (noted_of firm values count c.number.result))
-          ∙ ap (λ (n : ℕ). first ++ (so_far ++ note_line n (noted firm values count n) (noted_of firm values count n))) c.number.ensures
-          ∙ ap (λ (l : List ℕ). first ++ l) (sym (notes_more firm values count c.registers.i (writable c.args.file.now) c.in-Some.register c.in-Some.ensures.at));
+      text = grows (λ n. note_line n (noted firm values count n) (noted_of firm values count n)) c.number.result (number_of c.in-Some.register) c.args.text.now.items
+          (note_lines firm values count (map number_of (take c.registers.i (writable c.args.file.now)))) _ _ _ c.number.ensures c.append_note.ensures.text c.registers.invariant.text
+          (notes_more firm values count c.registers.i (writable c.args.file.now) c.in-Some.register c.in-Some.ensures.at);
       short = omega (arith, c.append_note.ensures.size, c.registers.invariant.short);
     }

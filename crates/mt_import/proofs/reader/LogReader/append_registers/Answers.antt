@@ -1,7 +1,7 @@
-use Rattle.std.proofs.Common.{◌++◌, [], List, ℕ, ap, arith, sym, ◌∙◌, append_assoc, map, take}
+use Rattle.std.proofs.Common.{[], arith, map, take}
 use Rattle.std.specs.Prelude.{if◌then◌else◌}
 use Rattle.mt_regs.specs.Registers.{number_of, writable}
-use Rattle.mt_import.proofs.Parts.{missing_more, some_at}
+use Rattle.mt_import.proofs.Parts.{grows, missing_more, some_at}
 use Rattle.mt_import.specs.Outcome.{hint_of, is_missing, missing_line, missing_lines}
 use Rattle.mt_import.specs.Reader.{known_in, slots_of, values_in}
 use Rattle.mt_import.proofs.reader.LogReader.append_registers.Goals as goal
@@ -14,13 +14,9 @@ registers-preserved c =
     let hints = hint_of c.args.supplied.now (slots_of c.args.self.now) (known_in c.args.self.now) in
     let values = values_in c.args.supplied.now c.args.self.now in
     let count = c.args.self.now.processors in
-    let first = c.args.text.now.items in
-    let so_far = missing_lines hints values count (map number_of (take c.registers.i (writable c.args.file.now))) in
     record {
-      text = c.append_missing.ensures.text
-          ∙ ap (λ (l : List ℕ). l ++ (if is_missing values count c.number.result then missing_line c.number.result (hints c.number.result) else [])) c.registers.invariant.text
-          ∙ append_assoc first so_far (if is_missing values count c.number.result then missing_line c.number.result (hints c.number.result) else [])
-          ∙ ap (λ (n : ℕ). first ++ (so_far ++ (if is_missing values count n then missing_line n (hints n) else []))) c.number.ensures
-          ∙ ap (λ (l : List ℕ). first ++ l) (sym (missing_more hints values count c.registers.i (writable c.args.file.now) c.in-Some.register c.in-Some.ensures.at));
+      text = grows (λ n. if is_missing values count n then missing_line n (hints n) else []) c.number.result (number_of c.in-Some.register) c.args.text.now.items
+          (missing_lines hints values count (map number_of (take c.registers.i (writable c.args.file.now)))) _ _ _ c.number.ensures c.append_missing.ensures.text c.registers.invariant.text
+          (missing_more hints values count c.registers.i (writable c.args.file.now) c.in-Some.register c.in-Some.ensures.at);
       short = omega (arith, c.append_missing.ensures.size, c.registers.invariant.short);
     }
