@@ -16,7 +16,7 @@ use Rattle.mt_proc.specs.declared.running.Run.{Run}
 use Rattle.mt_proc.specs.declared.running.Run.TheVariants as run
 use Rattle.mt_proc.specs.Proc.{Answer, Point, from_point, in_dump, in_requests, proc_step}
 use Rattle.mt_proc.specs.Serving.{served}
-use Rattle.mt_proc.specs.Running.{AllServe, IsAt, IsQuiet, LeadsBy, path_from, proc_running}
+use Rattle.mt_proc.specs.Running.{AllServe, IsAt, IsQuiet, LeadsBy, StandsAt, path_from}
 
 -- a line leads on by its step
 pub leads_by : (cpus : ℕ) (p : Point) (number : ℕ) (line : List ℕ) → LeadsBy cpus (from_line number line (path_from cpus p)) (proc_step cpus number line p) (number + 1)
@@ -28,12 +28,12 @@ leads_as cpus from number answer other is leads = subst (λ (a : Answer). LeadsB
 
 module _ (cpus : ℕ) (from : Leading) (number : ℕ) (so_far : List ℕ) (now : Run) (waiting left : List ℕ) (a b : Option (List ℕ)) where
   pub goes : (text : List ℕ) (next : Point) → LeadsBy cpus from (Ok (text, next)) number → IsAt now next → IsQuiet now (so_far ++ text) → AllServe cpus now → Passes waiting text left a b
-      → GoesOn (proc_running cpus) from number so_far now waiting left a b
+      → GoesOn (StandsAt cpus now) from number so_far waiting left a b
   goes text next leads at quiet each passed = record { next = path_from cpus next; at = (next, at, quiet, refl, each); text = text; goes = leads; passed = passed }
 
   pub ends : (text : List ℕ) (status : Status) (result : Result (Option Status) Failed) → LeadsBy cpus from (Err (told text status)) number → (status ≡ Refused) ⊎ (status ≡ BadText) → Adds waiting text left a b result
-      → IfOk result (λ ended. ended ≡ Some status) → Takes (proc_running cpus) from number so_far now waiting left a b result
-  ends text status result leads one adds is = takes_last (proc_running cpus) from number so_far now text waiting left status a b result (λ end lines. ap (λ (x : Leads). x.tells) (leads end lines)) one adds is
+      → IfOk result (λ ended. ended ≡ Some status) → Takes (StandsAt cpus now) from number so_far waiting left a b result
+  ends text status result leads one adds is = takes_last (StandsAt cpus now) from number so_far text waiting left status a b result (λ end lines. ap (λ (x : Leads). x.tells) (leads end lines)) one adds is
 
   pub fails : (text : List ℕ) (next : Point) → LeadsBy cpus from (Ok (text, next)) number → AppendsFront a b (waiting ++ text) → Fails from waiting a b
   fails text next leads failed = record {

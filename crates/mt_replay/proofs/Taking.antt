@@ -28,7 +28,7 @@ use Rattle.mt_replay.specs.Parts.{AsksForMemory}
 use Rattle.mt_replay.specs.ReplayState.{ReplayState, command_text, first_state, state_after}
 use Rattle.mt_replay.specs.Newcomers.{early, is_newcomer, newcomers_from, newcomers_in, newcomers_of_dump}
 use Rattle.mt_replay.proofs.Newcomers.{body_brings, early_front, early_then, head_brings, or_true}
-use Rattle.mt_replay.specs.Running.{CarriesOut, IsAt, IsQuiet, from_line, leading, path_from, replay_running, leading_dump}
+use Rattle.mt_replay.specs.Running.{CarriesOut, IsAt, IsQuiet, StandsAt, from_line, leading, leading_dump, path_from}
 use Rattle.mt_stream.specs.Lines.{Fails, GoesOn, Leads, Takes, leads_behind}
 use Rattle.mt_replay.specs.Transcript.{Point, body_lines, head_lines, in_body, in_head, told_command, told_dump}
 use Rattle.mt_stream.specs.Told.{Told, behind, told}
@@ -62,7 +62,7 @@ pub dump_accepted : (now : Situation) (dump : Dump) (number : ℕ) → first_ref
 dump_accepted now dump number is end lines = ap (told_dump now dump (body_lines end number lines)) is
 
 pub dump_goes : (now : Situation) (dump : Dump) (number : ℕ) (r : ReplayState) (waiting text left : List ℕ) (a b : Option (List ℕ)) → first_refusal dump.files ≡ None → r ≡ first_state now dump → text ≡ accepted_line
-    → Passes waiting text left a b → GoesOn replay_running (leading_dump now dump number) number [] (run.Body r) waiting left a b
+    → Passes waiting text left a b → GoesOn (StandsAt (run.Body r)) (leading_dump now dump number) number [] waiting left a b
 dump_goes now dump number r waiting text left a b is first line passed = record {
   next = path_from false accepted_line (in_body (first_state now dump));
   at = (in_body (first_state now dump), false, (first, refl), (λ takes. refl), refl);
@@ -98,7 +98,7 @@ leads s c number line asked end lines = from_body s number line end lines ∙ ap
 
 module _ (s new : ReplayState) (c : Command) (number : ℕ) (line : List ℕ) (is : IsReplayState s) (fits : Fits s.now c) (asked : command_of s.now number line ≡ Ok c) where
   pub command_takes : (waiting left : List ℕ) (a b : Option (List ℕ)) (result : Result (Option Status) Failed) → CarriesOut s new c waiting left a b result → ((status : Status) → result ≡ Ok (Some status) → AsksForMemory s.machine c)
-      → (came : Bool) (so_far : List ℕ) → IsQuiet (run.Body s) came so_far → Takes replay_running (leading came so_far number line (in_body s)) (number + 1) so_far (run.Body new) waiting left a b result
+      → (came : Bool) (so_far : List ℕ) → IsQuiet (run.Body s) came so_far → Takes (StandsAt (run.Body new)) (leading came so_far number line (in_body s)) (number + 1) so_far waiting left a b result
   command_takes waiting left a b (Ok None) does asks came so_far quiet = record {
     next = path_from (came || is_newcomer c) (so_far ++ command_text s c) (in_body (state_after s c));
     at = (
@@ -154,7 +154,7 @@ fault_leads s number line fault asked end lines = from_body s number line end li
 
 -- the head goes on
 pub head_takes : (now next : Situation) (before after : List Reading) (number : ℕ) (line : List ℕ) (came : Bool) (so_far waiting : List ℕ) (h : HeadReader) (a : Option (List ℕ)) → head_step now before number line ≡ goes_on next after
-    → IsAt (run.Head h) (in_head next after) → (so_far ≡ []) × (came ≡ false) → GoesOn replay_running (leading came so_far number line (in_head now before)) (number + 1) so_far (run.Head h) waiting waiting a a
+    → IsAt (run.Head h) (in_head next after) → (so_far ≡ []) × (came ≡ false) → GoesOn (StandsAt (run.Head h)) (leading came so_far number line (in_head now before)) (number + 1) so_far waiting waiting a a
 head_takes now next before after number line came so_far waiting h a is at none = record {
   next = path_from (came || false) (so_far ++ []) (in_head next after);
   at = (in_head next after, (came || false), at, (append-nil so_far ∙ none.0, ap (λ b. b || false) none.1), refl);

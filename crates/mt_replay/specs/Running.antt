@@ -18,8 +18,9 @@ use Rattle.mt_script.specs.Head.{head_step, shows}
 use Rattle.mt_machine.specs.Start.{HasEraRoom}
 use Rattle.mt_regs.specs.Agreement.{first_refusal}
 use Rattle.mt_dump.specs.Dumps.{Dump}
-use Rattle.mt_stream.specs.Lines.{Leading, Path, Running}
-use Rattle.mt_stream.specs.Runs.{RefusedAtLine, RefusesMemory, RunsAs}
+use Rattle.mt_stream.specs.Handling.{AsksBy}
+use Rattle.mt_stream.specs.Lines.{Leading, Path, Running, running}
+use Rattle.mt_stream.specs.Runs.{RefusesMemory, RunsAs}
 use Rattle.mt_stream.specs.Told.{Told}
 use Rattle.mt_replay.specs.Kept.{HasEras}
 use Rattle.mt_replay.specs.Parts.{AsksForMemory}
@@ -44,11 +45,7 @@ abbrev pub AsksAt : Point → ℕ → List ℕ → Type 0
 AsksAt (in_head now before) number line = (dump : Dump) × (head_step now before number line ≡ shows dump) × (first_refusal dump.files ≡ None)
 AsksAt (in_body s) number line = (c : Command) × (command_of s.now number line ≡ Ok c) × AsksForMemory s.machine c
 
--- Memory was refused at such a line.
-abbrev pub OutOfMemoryAtLine : List ℕ → Option (List ℕ) → Option (List ℕ) → Option (List ℕ) → Type 0
-OutOfMemoryAtLine bytes left before after = RefusedAtLine from_point (in_head at_start []) AsksAt bytes left before after
-
--- or before anything was read
+-- Memory was refused at such a line, or before anything was read.
 abbrev pub OutOfMemory : List ℕ → Option (List ℕ) → Option (List ℕ) → Option (List ℕ) → Type 0
 OutOfMemory bytes left before after = RefusesMemory from_point (in_head at_start []) AsksAt bytes left before after
 
@@ -98,9 +95,6 @@ path_from came so_far p end number lines = record {
 abbrev pub StandsAt : Run → List ℕ → Path → Type 0
 StandsAt now so_far was = (p : Point) × (came : Bool) × IsAt now p × IsQuiet now came so_far × (was ≡ path_from came so_far p)
 
-abbrev pub replay_running : Running
-replay_running = record { Run = Run; At = StandsAt; ends = end_of_run }
-
 -- what a line of this number at a point, and those behind it, tell
 abbrev pub from_line : ℕ → List ℕ → Point → Option Place → List (List ℕ) → Told
 from_line number line p end lines = told_lines end number (line ∷ lines) p
@@ -124,3 +118,6 @@ HasErasAt most (run.Body r) = HasEras most r
 abbrev pub HasEraRoomAt : Run → Type 0
 HasEraRoomAt (run.Head h) = ⊤
 HasEraRoomAt (run.Body r) = HasEraRoom r.machine
+
+abbrev pub replay_running : Running
+replay_running = running StandsAt end_of_run (λ now. AsksBy from_point AsksAt) HasErasAt

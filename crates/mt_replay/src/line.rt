@@ -10,8 +10,8 @@ ghost use Rattle.mt_dump.specs.ForProcessors.{has_each};
 ghost use Rattle.mt_replay.specs.Kept.{HasEras};
 ghost use Rattle.mt_replay.specs.Parts.{AsksForMemory};
 ghost use Rattle.mt_replay.specs.ReplayState.{ReplayState, command_text, may_come, state_after, task_of};
-ghost use Rattle.mt_replay.specs.Running.{AsksAt, CarriesOut, HasEraRoomAt, HasErasAt, IsAt, IsQuiet, Writes, leading, leading_dump, replay_running, setup_of};
-ghost use Rattle.mt_stream.specs.Lines.{IsEnding, Takes};
+ghost use Rattle.mt_replay.specs.Running.{AsksAt, CarriesOut, HasEraRoomAt, HasErasAt, IsAt, IsQuiet, Writes, StandsAt, leading, leading_dump, setup_of};
+ghost use Rattle.mt_stream.specs.Lines.{IfGoesOn, IsEnding, Takes};
 ghost use Rattle.mt_replay.specs.Summing.{Begins, Lasts, state_in};
 ghost use Rattle.mt_replay.specs.Transcript.{Point, in_body};
 
@@ -84,9 +84,9 @@ fn begin<K: Sink>(
     requires each { has_each setup.cpus dump ≡ true }
     requires head { state_in run.old ≡ None }
     ensures bytes { (number : ℕ) →
-        Takes replay_running (leading_dump setup dump number) number [] run.new writer.old writer.new (K.taken sink.old) (K.taken sink.new) result }
+        Takes (StandsAt run.new) (leading_dump setup dump number) number [] writer.old writer.new (K.taken sink.old) (K.taken sink.new) result }
     ensures ending { (status : Status) → result ≡ Ok (Some status) → IsEnding status }
-    ensures eras { (most : ℕ) → MatchResult result (λ ended. MatchOption ended (HasErasAt most run.new) (λ _. Unit {0})) (λ _. Unit {0}) }
+    ensures eras { (most : ℕ) → IfGoesOn result (HasErasAt most run.new) }
     ensures asks { result ≡ Ok (Some Status.NoMemory) → first_refusal dump.files ≡ None }
     ensures state { Begins setup dump run.new result }
     ensures cause { HasCause (K.faults sink.old) (K.faults sink.new) result }
@@ -231,10 +231,9 @@ fn take_command<R: Threads + Wait + Sync, K: Sink, G: Gate>(
 ) -> Result<Option<Status>, Failed>
     requires { HasEraRoom replayer.old.machine }
     ensures bytes { (came : Bool) (so_far : List ℕ) → IsQuiet (Run.Body replayer.old) came so_far →
-        Takes replay_running (leading came so_far line.now.number line.now.bytes.now (in_body replayer.old)) (line.now.number + 1) so_far
-        (Run.Body replayer.new) writer.old writer.new (K.taken sink.old) (K.taken sink.new) result }
+        Takes (StandsAt (Run.Body replayer.new)) (leading came so_far line.now.number line.now.bytes.now (in_body replayer.old)) (line.now.number + 1) so_far writer.old writer.new (K.taken sink.old) (K.taken sink.new) result }
     ensures ending { (status : Status) → result ≡ Ok (Some status) → IsEnding status }
-    ensures eras { (most : ℕ) → HasEras most replayer.old → MatchResult result (λ ended. MatchOption ended (HasEras (most + 1) replayer.new) (λ _. Unit {0})) (λ _. Unit {0}) }
+    ensures eras { (most : ℕ) → HasEras most replayer.old → IfGoesOn result (HasEras (most + 1) replayer.new) }
     ensures asks { result ≡ Ok (Some Status.NoMemory) → AsksAt (in_body replayer.old) line.now.number line.now.bytes.now }
     ensures last { Lasts line.now.number line.now.bytes.now (in_body replayer.old) (Run.Body replayer.new) result }
     ensures cause { HasCause (K.faults sink.old) (K.faults sink.new) result }
@@ -257,9 +256,9 @@ fn take_in_head<K: Sink>(
 ) -> Result<Option<Status>, Failed>
     requires { (replayer : ReplayState) → run.old ≢ Run.Body replayer }
     ensures bytes { (came : Bool) (so_far : List ℕ) (was : Point) → IsAt run.old was → IsQuiet run.old came so_far →
-        Takes replay_running (leading came so_far line.now.number line.now.bytes.now was) (line.now.number + 1) so_far run.new writer.old writer.new (K.taken sink.old) (K.taken sink.new) result }
+        Takes (StandsAt run.new) (leading came so_far line.now.number line.now.bytes.now was) (line.now.number + 1) so_far writer.old writer.new (K.taken sink.old) (K.taken sink.new) result }
     ensures ending { (status : Status) → result ≡ Ok (Some status) → IsEnding status }
-    ensures eras { (most : ℕ) → HasErasAt most run.old → MatchResult result (λ ended. MatchOption ended (HasErasAt (most + 1) run.new) (λ _. Unit {0})) (λ _. Unit {0}) }
+    ensures eras { (most : ℕ) → HasErasAt most run.old → IfGoesOn result (HasErasAt (most + 1) run.new) }
     ensures asks { (was : Point) → IsAt run.old was → result ≡ Ok (Some Status.NoMemory) → AsksAt was line.now.number line.now.bytes.now }
     ensures last { (was : Point) → IsAt run.old was → Lasts line.now.number line.now.bytes.now was run.new result }
     ensures cause { HasCause (K.faults sink.old) (K.faults sink.new) result }
@@ -289,9 +288,9 @@ pub(crate) fn take_line<R: Threads + Wait + Sync, K: Sink, G: Gate>(
 ) -> Result<Option<Status>, Failed>
     requires { HasEraRoomAt run.old }
     ensures bytes { (came : Bool) (so_far : List ℕ) (was : Point) → IsAt run.old was → IsQuiet run.old came so_far →
-        Takes replay_running (leading came so_far line.now.number line.now.bytes.now was) (line.now.number + 1) so_far run.new writer.old writer.new (K.taken sink.old) (K.taken sink.new) result }
+        Takes (StandsAt run.new) (leading came so_far line.now.number line.now.bytes.now was) (line.now.number + 1) so_far writer.old writer.new (K.taken sink.old) (K.taken sink.new) result }
     ensures ending { (status : Status) → result ≡ Ok (Some status) → IsEnding status }
-    ensures eras { (most : ℕ) → HasErasAt most run.old → MatchResult result (λ ended. MatchOption ended (HasErasAt (most + 1) run.new) (λ _. Unit {0})) (λ _. Unit {0}) }
+    ensures eras { (most : ℕ) → HasErasAt most run.old → IfGoesOn result (HasErasAt (most + 1) run.new) }
     ensures asks { (was : Point) → IsAt run.old was → result ≡ Ok (Some Status.NoMemory) → AsksAt was line.now.number line.now.bytes.now }
     ensures last { (was : Point) → IsAt run.old was → Lasts line.now.number line.now.bytes.now was run.new result }
     ensures cause { HasCause (K.faults sink.old) (K.faults sink.new) result }

@@ -1,6 +1,7 @@
 -- What a round of a loop over lines keeps, whether or not the source tells its bytes.
-use Rattle.std.proofs.Common.{◌≡◌, ◌∙◌, ap, sym, refl, subst, arith, inl, inr, ℕ, ◌+◌, ◌≤◌, ◌<◌, Bool, true, false, List, ◌++◌, length, Option, None, Some}
+use Rattle.std.proofs.Common.{◌≡◌, ◌∙◌, ap, sym, refl, subst, arith, inl, inr, ℕ, ◌+◌, ◌≤◌, ◌<◌, nat_lt, Bool, true, false, List, ◌++◌, length, Option, None, Some}
 use Rattle.std.specs.Prelude.{◌≢◌, ◌↔◌, ◌⊎◌}
+use Rattle.std.proofs.lemmas.Bool.Decides.{nat_tests}
 use Rattle.std.proofs.lemmas.List.{length-append, length-drop}
 use Rattle.mt_ports.specs.declared.status.Status.{Status}
 use Rattle.mt_ports.specs.declared.status.Status.TheVariants.{BadText, Disabled, Done, NoMemory, ReadFault, Refused, TooFew, TooLong, Usage, WriteFault}
@@ -41,6 +42,13 @@ module _ (old new : Feeding) (more : List ℕ) (left : Option (List ℕ)) where
 -- without a fault not too much was taken
 pub not_much : (feed : Feeding) → IsLong feed → feed.fault ≡ None → 16777216 < taken feed → ⊥
 not_much feed long none many = let e : None ≡ Some fault.TooLong = sym none ∙ long.1 many in cc e
+
+pub few_taken : (feed : Feeding) → IsLong feed → feed.fault ≡ None → taken feed ≤ 16777216
+few_taken feed long none = by (nat_lt 16777216 (taken feed)) refl
+  where
+    by : (much : Bool) → nat_lt 16777216 (taken feed) ≡ much → taken feed ≤ 16777216
+    by true many = absurd (not_much feed long none (grind (arith, nat_tests, many)))
+    by false few = grind (arith, nat_tests, few)
 
 -- ---- statuses
 

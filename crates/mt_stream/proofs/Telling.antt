@@ -20,7 +20,8 @@ use Rattle.mt_text.proofs.Fronts.{last_front, long_front, place_of_front}
 use Rattle.mt_stream.specs.Known.{known_part, known_text}
 use Rattle.mt_stream.specs.Laws.{AreLaws, IsLongLed}
 use Rattle.mt_stream.specs.Lines.{Closes, CutShort, Ends, Fails, GoesOn, Leads, Leaves, Path, Running, Wants, cut_status, early_of, from_line, leads_behind, tells_of}
-use Rattle.mt_stream.specs.Runs.{RefusedAtLine, Runs}
+use Rattle.mt_stream.specs.Handling.{RunsOn}
+use Rattle.mt_stream.specs.Runs.{RefusedAtLine}
 use Rattle.mt_stream.specs.Told.{Telling, Told, behind, transcript}
 use Rattle.mt_stream.specs.declared.running.Cut.{Cut}
 use Rattle.mt_stream.specs.declared.running.Cut.TheVariants as cut
@@ -95,10 +96,6 @@ told_of start end text = start end 1 (lines_of text)
 
 abbrev told_lines : Option Place → ℕ → List (List ℕ) → Path → Leads
 told_lines end number lines was = was end number lines
-
--- what a run leaves whose lines lead to this
-abbrev pub RunsOn : Path → List ℕ → Option (List ℕ) → Option (List ℕ) → Option (List ℕ) → Status → Type 0
-RunsOn start bytes left before after status = Runs (tells_of start) (early_of start bytes) bytes left before after status
 
 -- ---- between two lines
 
@@ -299,7 +296,7 @@ module _ (R : Running) (start : Path) (laws : AreLaws R) where
     ]
 
     -- a run doesn't go on behind a line too long
-    long_never_goes : (later : R.Run) (left : List ℕ) (c : Option (List ℕ)) → GoesOn R Leading (feed.line.number + 1) h.text later waiting left b c → 4096 < length feed.line.bytes → ⊥
+    long_never_goes : (later : R.Run) (left : List ℕ) (c : Option (List ℕ)) → GoesOn (R.At later) Leading (feed.line.number + 1) h.text waiting left b c → 4096 < length feed.line.bytes → ⊥
     long_never_goes later left c g long =
         let none = laws.unknown later (h.text ++ g.text) g.next (feed.line.number + 1) g.at in
         let e : BadText ≡ Done = sym long_told.bad ∙ ap (λ (t : Leads). t.tells.status) (sym (long_told.is feed.line.bytes None [] long) ∙ g.goes None []) ∙ ap (λ (t : Told). t.status) none in
@@ -307,7 +304,7 @@ module _ (R : Running) (start : Path) (laws : AreLaws R) where
 
     -- ---- it goes on
 
-    module _ (later : R.Run) (left : List ℕ) (c : Option (List ℕ)) (g : GoesOn R Leading (feed.line.number + 1) h.text later waiting left b c) where
+    module _ (later : R.Run) (left : List ℕ) (c : Option (List ℕ)) (g : GoesOn (R.At later) Leading (feed.line.number + 1) h.text waiting left b c) where
       goes_ended : (count : ℕ) → h.front ≡ (count, true) → known_front h.seen ≡ Some (count, true) → UnderWay R start bytes source feed later left a c
       goes_ended count is known =
           let ended : List ℕ = take (count + 1) h.seen in
@@ -348,7 +345,7 @@ module _ (R : Running) (start : Path) (laws : AreLaws R) where
   -- ---- the text ends
 
   module _ (bytes : List ℕ) (source : Option (List ℕ)) (feed : Feeding) (now : R.Run) (waiting : List ℕ) (a b : Option (List ℕ)) (h : HasLine R start bytes source feed now waiting a b)
-      (later : R.Run) (left : List ℕ) (c : Option (List ℕ)) (g : GoesOn R (from_line feed.line.number feed.line.bytes h.point) (feed.line.number + 1) h.text later waiting left b c) where
+      (later : R.Run) (left : List ℕ) (c : Option (List ℕ)) (g : GoesOn (R.At later) (from_line feed.line.number feed.line.bytes h.point) (feed.line.number + 1) h.text waiting left b c) where
     last_ends : IsAtEnd source → known_front h.seen ≡ None → 1 ≤ length h.seen → h.front ≡ (length h.seen, false) → AtEnd R start bytes source feed.place later left a c
     last_ends end unknown some front =
         let none : h.rest ≡ [] = none_left source h.rest h.is_left end in
@@ -478,11 +475,11 @@ module _ (R : Running) (start : Path) (laws : AreLaws R) where
               subst (AppendsFront a d) (sym (ap (λ (x : Leads). x.early) from.1 ∙ is)) (front_of h.text rest a d put)
 
       -- it was refused at this line
-      pub line_refused : {P : Type 0} (tell : P → Telling) (first p : P) (Asks : P → ℕ → List ℕ → Type 0) → tells_of start ≡ tell first → tells_of h.point ≡ tell p → result ≡ NoMemory → status ≡ NoMemory → left ≡ waiting → c ≡ b
-          → Asks p feed.line.number feed.line.bytes → RefusedAtLine tell first Asks bytes source_after a d
-      line_refused tell first p Asks begins stands none wants waits kept asks = by (refused_leaves status (is_last feed) more source_after left c d result leaves none wants)
+      pub line_refused : (Asks : Telling → ℕ → List ℕ → Type 0) → result ≡ NoMemory → status ≡ NoMemory → left ≡ waiting → c ≡ b → Asks (tells_of h.point) feed.line.number feed.line.bytes
+          → RefusedAtLine (λ t. t) (tells_of start) Asks bytes source_after a d
+      line_refused Asks none wants waits kept asks = by (refused_leaves status (is_last feed) more source_after left c d result leaves none wants)
         where
-          by : Appends c d left × (more ≡ []) → RefusedAtLine tell first Asks bytes source_after a d
+          by : Appends c d left × (more ≡ []) → RefusedAtLine (λ t. t) (tells_of start) Asks bytes source_after a d
           by (put, no_more) =
               let rest : h.rest ≡ took.0 = took.2 ∙ ap (λ (l : List ℕ). l ++ took.0) no_more in
               let is_left : source_after ≡ Some h.rest = took.1 ∙ ap Some (sym rest) in
@@ -493,13 +490,11 @@ module _ (R : Running) (start : Path) (laws : AreLaws R) where
                 cut = h.cut;
                 is_left = is_left;
                 text = h.text;
-                point = p;
-                leads = λ end tail.
-                    ap (λ (t : Telling). t end 1 (lines_of (h.lent ++ tail))) (sym begins) ∙ ap (λ (x : Leads). x.tells) (h.led end tail)
-                    ∙ ap (λ (t : Telling). behind h.text (t end feed.line.number (lines_of tail))) stands ∙ ap (λ (n : ℕ). behind h.text (tell p end n (lines_of tail))) h.number;
+                point = tells_of h.point;
+                leads = λ end tail. ap (λ (x : Leads). x.tells) (h.led end tail) ∙ ap (λ (n : ℕ). behind h.text (tells_of h.point end n (lines_of tail))) h.number;
                 front = h.front;
                 is = subst (λ (s : Option (List ℕ)). IsFront h.seen s h.front) (h.is_left ∙ sym is_left) h.is;
-                asks = subst (λ (n : ℕ). Asks p n (take h.front.0 h.seen)) h.number (subst (Asks p feed.line.number) h.line asks);
+                asks = subst (λ (n : ℕ). Asks (tells_of h.point) n (take h.front.0 h.seen)) h.number (subst (Asks (tells_of h.point) feed.line.number) h.line asks);
                 taken = passes_out h.text left a c d (subst (λ (l : List ℕ). Passes [] h.text l a c) (sym waits) (subst (λ (o : Option (List ℕ)). Passes [] h.text waiting a o) (sym kept) h.passed)) put;
               }
 

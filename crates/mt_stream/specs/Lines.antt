@@ -43,6 +43,11 @@ pub record Running : Type 1 where
   pub Run : Type 0
   pub At : Run → List ℕ → Path → Type 0  -- it stands where this was written and the lines that come lead to this
   pub ends : Run → Place → Told  -- what is told where the text ends at a place
+  pub Asks : Run → Telling → ℕ → List ℕ → Type 0  -- it may ask for memory at a line of this number, where it and those behind it tell this
+  pub Ready : ℕ → Run → Type 0  -- it can take a line behind this many
+
+abbrev pub running : {T : Type 0} → (T → List ℕ → Path → Type 0) → (T → Place → Told) → (T → Telling → ℕ → List ℕ → Type 0) → (ℕ → T → Type 0) → Running
+running {T} at ends asks ready = record { Run = T; At = at; ends = ends; Asks = asks; Ready = ready }
 
 -- what a line and those behind it lead to
 abbrev pub Leading : Type 0
@@ -53,10 +58,10 @@ abbrev pub from_line : ℕ → List ℕ → Path → Leading
 from_line number line was end lines = was end number (line ∷ lines)
 
 -- A text is written, and the lines behind, the first of which has this number, lead on from another point.
-pub record GoesOn (R : Running) (from : Leading) (number : ℕ) (so_far : List ℕ) (now : R.Run) (waiting left : List ℕ) (before after : Option (List ℕ)) : Type 0 where
+pub record GoesOn (At : List ℕ → Path → Type 0) (from : Leading) (number : ℕ) (so_far waiting left : List ℕ) (before after : Option (List ℕ)) : Type 0 where
   pub next : Path
   pub text : List ℕ
-  pub at : R.At now (so_far ++ text) next
+  pub at : At (so_far ++ text) next
   pub goes : (end : Option Place) (lines : List (List ℕ)) → from end lines ≡ leads_behind text (next end number lines)
   pub passed : Passes waiting text left before after
 
@@ -81,18 +86,22 @@ pub record Fails (from : Leading) (waiting : List ℕ) (before after : Option (L
   pub front : (end : Option Place) (lines : List (List ℕ)) → (rest : List ℕ) × ((from end lines).tells.text ≡ text ++ rest)
   pub failed : AppendsFront before after (waiting ++ text)
 
--- what a run makes of a line, where this was written so far
-abbrev pub Takes : (R : Running) → Leading → ℕ → List ℕ → R.Run → List ℕ → List ℕ → Option (List ℕ) → Option (List ℕ) → Result (Option Status) Failed → Type 0
-Takes R from number so_far now waiting left before after result =
+-- what a run makes of a line, where this was written so far and the run stands by `At` behind the line
+abbrev pub Takes : (List ℕ → Path → Type 0) → Leading → ℕ → List ℕ → List ℕ → List ℕ → Option (List ℕ) → Option (List ℕ) → Result (Option Status) Failed → Type 0
+Takes At from number so_far waiting left before after result =
     MatchResult result
-    (λ ended. MatchOption ended (GoesOn R from number so_far now waiting left before after)
+    (λ ended. MatchOption ended (GoesOn At from number so_far waiting left before after)
     (λ status. Ends from waiting left before after status ⊎ Wants from so_far waiting left before after status))
     (λ _. Fails from waiting before after)
 
 -- what a run makes of a line of this number, wherever it stands
-abbrev pub TakesAnywhere : (R : Running) → R.Run → R.Run → ℕ → List ℕ → List ℕ → List ℕ → Option (List ℕ) → Option (List ℕ) → Result (Option Status) Failed → Type 0
-TakesAnywhere R now new number line waiting left before after result =
-    (so_far : List ℕ) (was : Path) → R.At now so_far was → Takes R (from_line number line was) (number + 1) so_far new waiting left before after result
+abbrev pub TakesAnywhere : (List ℕ → Path → Type 0) → (List ℕ → Path → Type 0) → ℕ → List ℕ → List ℕ → List ℕ → Option (List ℕ) → Option (List ℕ) → Result (Option Status) Failed → Type 0
+TakesAnywhere Was At number line waiting left before after result =
+    (so_far : List ℕ) (was : Path) → Was so_far was → Takes At (from_line number line was) (number + 1) so_far waiting left before after result
+
+-- P, if the run goes on behind a line
+abbrev pub IfGoesOn : Result (Option Status) Failed → Type 0 → Type 0
+IfGoesOn result P = MatchResult result (λ ended. MatchOption ended P (λ _. Unit {0})) (λ _. Unit {0})
 
 -- ---- the next line
 

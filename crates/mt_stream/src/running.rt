@@ -1,24 +1,27 @@
 ghost use Rattle.std.specs.Prelude.{◌≡◌, ◌≢◌, ◌⊎◌, ◌≤◌, ◌<◌, ◌+◌, ◌↔◌, ◌++◌, [], length, None, Some, Ok, IfOk};
 ghost use Rattle.mt_text.specs.Text.{longest_input};
-ghost use Rattle.mt_text.specs.Feed.{IsLong, TakesMore, taken};
+ghost use Rattle.mt_text.specs.Feed.{GaveTooMuch, IsLong, TakesMore, taken};
 ghost use Rattle.mt_ports.specs.Causes.{HasCause, StatusHasCause};
 ghost use Rattle.mt_output.specs.Writing.{Adds};
-ghost use Rattle.mt_stream.specs.Lines.{Closes, IsEnding, Leaves, Next, SinkHasCause, SourceHasCause, cut_status};
+ghost use Rattle.mt_stream.specs.Handling.{MayTake, RefusesFrom, RunsFrom, TakesEach};
+ghost use Rattle.mt_stream.specs.Laws.{AreLaws};
+ghost use Rattle.mt_stream.specs.Lines.{Closes, IsEnding, Leaves, Next, Path, SinkHasCause, SourceHasCause, cut_status, running};
 ghost use Rattle.mt_stream.specs.Told.{told};
 
+use crate::LineRun;
 use mt_output::Writer;
 use mt_ports::{Failed, Sink, Source, Status};
-use mt_text::{Feed, FeedFault};
+use mt_text::{Feed, FeedFault, Line};
 
 /// Why a run ends before its text does.
 #[derive(Drop)]
-pub enum Cut {
+pub(crate) enum Cut {
     Feed(FeedFault),
     Write,
 }
 
-/// The status of a run that was cut.
-pub fn cut_status(cut: &Cut) -> Status
+// The status of a run that was cut.
+fn cut_status(cut: &Cut) -> Status
     ensures value { result ≡ cut_status cut.now }
     ensures usage { result ≢ Status.Usage }
     ensures few { (result ≢ Status.TooFew) × (result ≢ Status.Disabled) }
@@ -30,10 +33,10 @@ pub fn cut_status(cut: &Cut) -> Status
     }
 }
 
-/// Moves on to the next line, and says whether there is one. All that waits is written before the
-/// source is asked.
+// Moves on to the next line, and says whether there is one. All that waits is written before the
+// source is asked.
 #[inline(always)]
-pub fn next_line<S: Source, K: Sink>(
+fn next_line<S: Source, K: Sink>(
     feed: &mut Feed,
     source: &mut S,
     writer: &mut Writer,
@@ -95,9 +98,9 @@ pub fn close<K: Sink>(writer: &mut Writer, sink: &mut K, text: &[u8], status: St
     }
 }
 
-/// Ends a run with a status that a line gave it: writes all that waits, and drops what is left of
-/// the source, unless that line was the last or memory was refused.
-pub fn leave<S: Source, K: Sink>(
+// Ends a run with a status that a line gave it: writes all that waits, and drops what is left of
+// the source, unless that line was the last or memory was refused.
+fn leave<S: Source, K: Sink>(
     status: Status,
     last: bool,
     feed: &mut Feed,
@@ -125,5 +128,54 @@ pub fn leave<S: Source, K: Sink>(
     match feed.drain(source) {
         Ok(()) => status,
         Err(fault) => cut_status(&Cut::Feed(fault)),
+    }
+}
+
+/// Runs the lines of a source to their end, to a line that ends the run, or to a fault. Each line is
+/// taken by `take_line`, whose status ends the run.
+pub fn run_lines<L, S, K, F>(
+    take_line: F,
+    run: &mut L,
+    source: &mut S,
+    writer: &mut Writer,
+    sink: &mut K,
+) -> Status
+where
+    L: LineRun,
+    S: Source,
+    K: Sink,
+    F: Fn(&mut L, &Line<'_>, &mut Writer, &mut K) -> Result<Option<Status>, Failed>,
+    requires waiting { writer.old ≡ [] }
+    requires ready { L.ready 0 run.old }
+    requires laws { AreLaws (running L.at L.ends L.asks L.ready) }
+    requires may { MayTake (running L.at L.ends L.asks L.ready) (F.pre take_line) }
+    requires takes { TakesEach (running L.at L.ends L.asks L.ready) K.taken K.faults (F.post take_line) }
+    ensures bytes { (start : Path) → L.at run.old [] start
+        → RunsFrom start (S.left source.old) (S.left source.new) (K.taken sink.old) (K.taken sink.new) result }
+    ensures memory { (start : Path) → L.at run.old [] start → result ≡ Status.NoMemory
+        → RefusesFrom start (L.asks run.old) (S.left source.old) (S.left source.new) (K.taken sink.old) (K.taken sink.new) }
+    ensures read_fault { StatusHasCause Status.ReadFault (S.faults source.old) (S.faults source.new) result }
+    ensures write_fault { StatusHasCause Status.WriteFault (K.faults sink.old) (K.faults sink.new) result }
+    ensures too_long { (result ≡ Status.TooLong) ↔ GaveTooMuch (S.given source.old) (S.given source.new) }
+    ensures usage { result ≢ Status.Usage }
+    ensures few { (result ≢ Status.TooFew) × (result ≢ Status.Disabled) }
+{
+    let mut feed = Feed::new();
+    'lines: loop {
+        match next_line(&mut feed, source, writer, sink) {
+            Ok(true) => {}
+            Ok(false) => return run.finish(feed.end(), writer, sink),
+            Err(cut) => return cut_status(&cut),
+        }
+        let last = feed.is_last();
+        match take_line(run, &feed.current(), writer, sink) {
+            Ok(None) => {
+                if last {
+                    return run.finish(feed.end(), writer, sink);
+                }
+            }
+            Ok(Some(status)) => return leave(status, last, &mut feed, source, writer, sink),
+            Err(_) => return Status::WriteFault,
+        }
     }
 }

@@ -7,7 +7,7 @@ use Rattle.mt_dump.specs.Dumps.{Dump}
 use Rattle.mt_dump.specs.ForProcessors.{files_for}
 use Rattle.mt_replay.specs.Kept.{HasEras}
 use Rattle.mt_replay.specs.ReplayState.{ReplayState}
-use Rattle.mt_replay.specs.Running.{leading_dump, replay_running}
+use Rattle.mt_replay.specs.Running.{StandsAt, leading_dump}
 use Rattle.mt_stream.proofs.Taking.{takes_last}
 use Rattle.mt_replay.proofs.Files.{none_finished}
 use Rattle.mt_replay.proofs.Taking.{dump_fails, dump_goes, dump_refused}
@@ -26,7 +26,7 @@ returns-in-Some-clause-bytes g c = λ number.
     let refused : first_refusal c.args.dump.files ≡ Some (c.in-Some.k, c.in-Some.fault) = ap first_refusal (sym (c.as_slice-files.ensures.value ∙ ap (λ (d : Dump). d.files) c.dump.view_is)) ∙ sym c.in-Some.ensures.refusal in
     let line : c.as_slice.result.now ≡ dump_refused_line c.args.dump.version c.in-Some.k c.in-Some.fault =
     c.as_slice.ensures.value ∙ c.dump_refused_line-line.ensures ∙ ap (λ (d : Dump). dump_refused_line d.version c.in-Some.k c.in-Some.fault) c.dump.view_is in
-    takes_last replay_running (leading_dump c.args.setup c.args.dump number) number [] c.args.run.now (dump_refused_line c.args.dump.version c.in-Some.k c.in-Some.fault) c.args.writer.now c.tell.new.writer Refused
+    takes_last (StandsAt c.args.run.now) (leading_dump c.args.setup c.args.dump number) number [] (dump_refused_line c.args.dump.version c.in-Some.k c.in-Some.fault) c.args.writer.now c.tell.new.writer Refused
     (g.K.Sink.taken c.args.sink.now) (g.K.Sink.taken c.tell.new.sink) c.tell.result (dump_refused c.args.setup c.args.dump number (c.in-Some.k, c.in-Some.fault) refused) (inl refl)
     (subst (λ (l : List ℕ). Adds c.args.writer.now l c.tell.new.writer (g.K.Sink.taken c.args.sink.now) (g.K.Sink.taken c.tell.new.sink) c.tell.result) line c.tell.ensures.bytes) c.tell.ensures.status
 

@@ -7,11 +7,11 @@ use Rattle.mt_stream.specs.Lines.{Closes}
 use Rattle.mt_stream.specs.Told.{Told, told}
 use Rattle.mt_replay.specs.Running.{setup_of}
 use Rattle.mt_replay.specs.Transcript.{told_at_end}
-use Rattle.mt_replay.proofs.running.end_text.Goals as goal
+use Rattle.mt_replay.proofs.running.RunLineRun.finish.Goals as goal
 
 pub returns-in-Ok-clause-bytes : goal.returns-in-Ok-clause-bytes
 returns-in-Ok-clause-bytes g c =
-    let none : end_fault (setup_of c.args.run.now).stage c.args.feed.now.place ≡ None = rw (c.setup.ensures, c.end.ensures) at c.in-Ok.ensures in
+    let none : end_fault (setup_of c.args.self.now).stage c.args.end ≡ None = rw c.setup.ensures at c.in-Ok.ensures in
     subst (λ (t : Told). Closes t c.args.writer.now (g.K.Sink.taken c.args.sink.now) (g.K.Sink.taken c.close.new.sink) c.close.result) (sym (ap told_at_end none)) c.close.ensures.bytes
 
 pub returns-in-Ok-clause-usage : goal.returns-in-Ok-clause-usage
@@ -37,7 +37,7 @@ returns-in-Ok-clause-cause g c = c.close.ensures.cause
 
 pub returns-in-Err-clause-bytes : goal.returns-in-Err-clause-bytes
 returns-in-Err-clause-bytes g c =
-    let bad : end_fault (setup_of c.args.run.now).stage c.args.feed.now.place ≡ Some c.in-Err.fault = rw (c.setup.ensures, c.end.ensures) at c.in-Err.ensures in
+    let bad : end_fault (setup_of c.args.self.now).stage c.args.end ≡ Some c.in-Err.fault = rw c.setup.ensures at c.in-Err.ensures in
     let text : c.as_slice.result.now ≡ offence_line (Script c.in-Err.fault) = c.as_slice.ensures.value ∙ c.offence_line-line.ensures in
     subst (λ (t : Told). Closes t c.args.writer.now (g.K.Sink.taken c.args.sink.now) (g.K.Sink.taken c.close-in-Err.new.sink) c.close-in-Err.result) (ap (λ (l : List ℕ). told l BadText) text ∙ sym (ap told_at_end bad)) c.close-in-Err.ensures.bytes
 
