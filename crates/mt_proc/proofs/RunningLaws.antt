@@ -48,10 +48,6 @@ none_ends place (run.Dump reader) (in_requests now) at = absurd at
 none_ends place (run.Requests m) (in_dump before) at = absurd at
 none_ends place (run.Requests m) (in_requests now) at = ap (λ s. proc_end place (in_requests s)) (sym at)
 
-ending : (now : Run) (place : Place) → ((end_of_run now place).status ≡ Done) ⊎ ((end_of_run now place).status ≡ BadText)
-ending (run.Dump reader) place = inr refl
-ending (run.Requests m) place = inl refl
-
 pub proc_laws : AreLaws proc_running
 proc_laws = record {
   long = λ now so_far was number at.
@@ -59,7 +55,6 @@ proc_laws = record {
       (long_led [] (from_point now.cpus at.0) number (long_told Point (proc_step now.cpus) proc_end long_offence (tells_long now.cpus) at.0 number));
   unknown = λ now so_far was number at. ap (λ (t : Path). (t None number []).tells) at.3;
   ended = λ now so_far was place number at. ap (λ (t : Path). (t (Some place) number []).tells) at.3 ∙ none_ends place now.run at.0 at.1;
-  ending = λ now. ending now.run;
 }
 
 -- ---- a run that goes on

@@ -5,9 +5,8 @@ use Rattle.mt_regs.specs.Agreement.{first_refusal}
 use Rattle.mt_dump.specs.Dumps.{Dump}
 use Rattle.mt_dump.specs.Reader.{HasRead}
 use Rattle.mt_script.specs.Head.{ends_dump, shows, step_in_dump}
-use Rattle.mt_stream.specs.Handling.{AsksBy}
 use Rattle.mt_stream.specs.Lines.{Leading, Path, Running, early_at, running}
-use Rattle.mt_stream.specs.Runs.{RefusesMemory}
+use Rattle.mt_stream.specs.Runs.{AsksBy, RefusesMemory}
 use Rattle.mt_stream.specs.Told.{Told, told_step}
 use Rattle.mt_proc.specs.declared.running.ProcRun.{ProcRun}
 use Rattle.mt_proc.specs.declared.running.Run.{Run}
@@ -70,7 +69,7 @@ AsksAt cpus (in_requests now) number line = ⊥
 
 -- Memory was refused at that line, or before anything was read.
 abbrev pub OutOfMemory : ℕ → List ℕ → Option (List ℕ) → Option (List ℕ) → Option (List ℕ) → Type 0
-OutOfMemory cpus bytes left before after = RefusesMemory (from_point cpus) (in_dump []) (AsksAt cpus) bytes left before after
+OutOfMemory cpus bytes left before after = RefusesMemory (from_point cpus (in_dump [])) (AsksBy (from_point cpus) (AsksAt cpus)) bytes left before after
 
 -- ---- all of it
 

@@ -28,7 +28,7 @@ use mt_ports::{Failed, Gate, Sink, Source, Status};
 use mt_regs::{RegFile, first_refusal};
 use mt_rendezvous::Caller;
 use mt_script::{Offence, ScriptFault, ScriptReason, take_dump_line};
-use mt_stream::{LineRun, close, run_lines, tell};
+use mt_stream::{End, LineRun, close, run_lines, tell};
 use mt_text::{Line, Place};
 use std::alloc::Global;
 use std::sync::Wait;
@@ -213,7 +213,7 @@ fn no_end(at: Place) -> Offence
 impl LineRun for ProcRun {
     ghost use Rattle.mt_proc.specs.Proc.{from_point};
     ghost use Rattle.mt_proc.specs.Running.{AsksAt, HasCount, HasCpus, StandsAt, end_of_run};
-    ghost use Rattle.mt_stream.specs.Handling.{AsksBy};
+    ghost use Rattle.mt_stream.specs.Runs.{AsksBy};
 
     ghost at = { λ now. StandsAt now.cpus now.run };
 
@@ -223,11 +223,16 @@ impl LineRun for ProcRun {
 
     ghost ready = { λ most now. HasCount most now.run × HasCpus now };
 
-    fn finish<K: Sink>(&self, end: Place, writer: &mut Writer, sink: &mut K) -> Status {
+    fn finish<K: Sink>(
+        &self,
+        end: Place,
+        writer: &mut Writer,
+        sink: &mut K,
+    ) -> Result<End, Failed> {
         let processors = match &self.run {
             Run::Dump(_) => {
                 let line = offence_line(&no_end(end));
-                return close(writer, sink, line.as_slice(), Status::BadText);
+                return close(writer, sink, line.as_slice(), End::BadText);
             }
             Run::Requests(processors) => processors,
         };
@@ -237,9 +242,9 @@ impl LineRun for ProcRun {
                 writer,
                 sink,
                 era_line(processors.count()).as_slice(),
-                Status::Done,
+                End::Done,
             ),
-            Err(_) => Status::WriteFault,
+            Err(failed) => Err(failed),
         }
     }
 }

@@ -18,9 +18,8 @@ use Rattle.mt_script.specs.Head.{head_step, shows}
 use Rattle.mt_machine.specs.Start.{HasEraRoom}
 use Rattle.mt_regs.specs.Agreement.{first_refusal}
 use Rattle.mt_dump.specs.Dumps.{Dump}
-use Rattle.mt_stream.specs.Handling.{AsksBy}
 use Rattle.mt_stream.specs.Lines.{Leading, Path, Running, running}
-use Rattle.mt_stream.specs.Runs.{RefusesMemory, RunsAs}
+use Rattle.mt_stream.specs.Runs.{AsksBy, RefusesMemory, RunsAs}
 use Rattle.mt_stream.specs.Told.{Told}
 use Rattle.mt_replay.specs.Kept.{HasEras}
 use Rattle.mt_replay.specs.Parts.{AsksForMemory}
@@ -47,7 +46,7 @@ AsksAt (in_body s) number line = (c : Command) × (command_of s.now number line 
 
 -- Memory was refused at such a line, or before anything was read.
 abbrev pub OutOfMemory : List ℕ → Option (List ℕ) → Option (List ℕ) → Option (List ℕ) → Type 0
-OutOfMemory bytes left before after = RefusesMemory from_point (in_head at_start []) AsksAt bytes left before after
+OutOfMemory bytes left before after = RefusesMemory (from_point (in_head at_start [])) (AsksBy from_point AsksAt) bytes left before after
 
 -- ---- between two lines
 

@@ -8,10 +8,10 @@ ghost use Rattle.mt_stream.specs.Runs.{EndsAs};
 
 use crate::line::{Run, take_line};
 use mt_output::{Writer, offence_line};
-use mt_ports::{Gate, Sink, Source, Status};
+use mt_ports::{Failed, Gate, Sink, Source, Status};
 use mt_rendezvous::Caller;
 use mt_script::{Head, Offence, read_end};
-use mt_stream::{LineRun, close, run_lines};
+use mt_stream::{End, LineRun, close, run_lines};
 use mt_text::{Line, Place};
 use std::alloc::Global;
 use std::sync::Wait;
@@ -20,7 +20,7 @@ use std::thread::Threads;
 impl LineRun for Run {
     ghost use Rattle.mt_replay.specs.Running.{AsksAt, HasErasAt, StandsAt, end_of_run};
     ghost use Rattle.mt_replay.specs.Transcript.{from_point};
-    ghost use Rattle.mt_stream.specs.Handling.{AsksBy};
+    ghost use Rattle.mt_stream.specs.Runs.{AsksBy};
 
     ghost at = { StandsAt };
 
@@ -30,12 +30,17 @@ impl LineRun for Run {
 
     ghost ready = { HasErasAt };
 
-    fn finish<K: Sink>(&self, end: Place, writer: &mut Writer, sink: &mut K) -> Status {
+    fn finish<K: Sink>(
+        &self,
+        end: Place,
+        writer: &mut Writer,
+        sink: &mut K,
+    ) -> Result<End, Failed> {
         match read_end(self.setup(), end) {
-            Ok(()) => close(writer, sink, b"", Status::Done),
+            Ok(()) => close(writer, sink, b"", End::Done),
             Err(fault) => {
                 let line = offence_line(&Offence::Script(fault));
-                close(writer, sink, line.as_slice(), Status::BadText)
+                close(writer, sink, line.as_slice(), End::BadText)
             }
         }
     }

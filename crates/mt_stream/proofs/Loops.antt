@@ -1,5 +1,5 @@
 -- What a loop over lines keeps over one of them, and what it leaves where it ends with one.
-use Rattle.std.proofs.Common.{◌≡◌, ◌∙◌, ap, inl, inr, ℕ, ◌+◌, ◌<◌, true, false, List, [], ◌++◌, length, Option, None, Some, Ok, Err}
+use Rattle.std.proofs.Common.{◌≡◌, inl, inr, ℕ, ◌+◌, ◌<◌, true, false, List, [], ◌++◌, length, Option, None, Some, Result, Ok, Err}
 use Rattle.std.specs.Io.KnownBytes.{Consumes}
 use Rattle.mt_ports.specs.Puts.{AppendsFront}
 use Rattle.mt_ports.specs.declared.status.Failed.{Failed}
@@ -7,12 +7,12 @@ use Rattle.mt_ports.specs.declared.status.Status.{Status}
 use Rattle.mt_ports.specs.declared.status.Status.TheVariants.{NoMemory, TooLong}
 use Rattle.mt_output.specs.Writing.{Passes}
 use Rattle.mt_text.specs.Feed.{Feeding, Moves, is_last, taken}
-use Rattle.mt_text.specs.Text.{end_of, lines_of}
-use Rattle.mt_stream.specs.Handling.{AsksBy, RunsOn}
+use Rattle.mt_stream.specs.Handling.{RunsOn}
 use Rattle.mt_stream.specs.Laws.{AreLaws}
-use Rattle.mt_stream.specs.Lines.{Closes, Leaves, Path, Running, TakesAnywhere, tells_of}
+use Rattle.mt_stream.specs.Lines.{Closes, Leaves, Path, Running, TakesAnywhere, closed_status, tells_of}
 use Rattle.mt_stream.specs.Runs.{RefusedAtLine}
-use Rattle.mt_stream.specs.Told.{Telling, behind, transcript}
+use Rattle.mt_stream.specs.Told.{Telling, transcript}
+use Rattle.mt_stream.specs.declared.ending.End.{End}
 use Rattle.mt_stream.proofs.Telling.{HasLine, UnderWay, closes, ends_with_memory, line_ends, line_fails, line_goes_last, line_goes_on, line_refused, line_wants, moves_line}
 
 -- A loop has moved on to a line.
@@ -25,9 +25,9 @@ module _ (R : Running) (start : Path) (laws : AreLaws R) (bytes more : List ℕ)
     pub goes_on : TakesAnywhere (R.At now) (R.At run) new.line.number new.line.bytes later after c d (Ok None) → is_last new ≡ false → UnderWay R start bytes left new run after a d
     goes_on does going = line_goes_on R start laws bytes left new now later a c here run after d (does here.text here.point here.at) going
 
-    pub goes_last : TakesAnywhere (R.At now) (R.At run) new.line.number new.line.bytes later after c d (Ok None) → is_last new ≡ true → (e : Option (List ℕ)) (status : Status) → Closes (R.ends run new.place) after d e status → RunsOn start bytes left a e status
-    goes_last does last e status put =
-        closes R start laws bytes left new.place run after a d e status (line_goes_last R start laws bytes left new now later a c here run after d (does here.text here.point here.at) last) put
+    pub goes_last : TakesAnywhere (R.At now) (R.At run) new.line.number new.line.bytes later after c d (Ok None) → is_last new ≡ true → (e : Option (List ℕ)) (result : Result End Failed) → Closes (R.ends run new.place) after d e result → RunsOn start bytes left a e (closed_status result)
+    goes_last does last e result put =
+        closes R start laws bytes left new.place run after a d e result (line_goes_last R start laws bytes left new now later a c here run after d (does here.text here.point here.at) last) put
 
     pub fails : (failed : Failed) → TakesAnywhere (R.At now) (R.At run) new.line.number new.line.bytes later after c d (Err failed) → AppendsFront a d (transcript (tells_of start) bytes).text
     fails failed does = line_fails R start laws bytes left new now later a c here d (does here.text here.point here.at)
@@ -42,30 +42,10 @@ module _ (R : Running) (start : Path) (laws : AreLaws R) (bytes more : List ℕ)
       ]
 
       pub refuses : (Asks : Telling → ℕ → List ℕ → Type 0) → (status ≡ NoMemory → (so_far : List ℕ) (was : Path) → R.At now so_far was → Asks (tells_of was) new.line.number new.line.bytes)
-          → result ≡ NoMemory → RefusedAtLine (λ t. t) (tells_of start) Asks bytes source_after a e
+          → result ≡ NoMemory → RefusedAtLine (tells_of start) Asks bytes source_after a e
       refuses Asks asks none = elim (does here.text here.point here.at) [
         | inl ended ↦ absurd (ends_with_memory R start laws bytes left new now later a c here status result dropped after source_after d e drains long leaves ended none)
         | inr wants ↦
             line_refused R start laws bytes left new now later a c here status result dropped after source_after d e drains long leaves Asks none wants.refused wants.waits wants.kept
             (asks wants.refused here.text here.point here.at)
       ]
-
--- memory was refused at a line that a point asks at
-pub refused_at : {P : Type 0} (tell : P → Telling) (first : P) (Asks : P → ℕ → List ℕ → Type 0) (bytes : List ℕ) (left a b : Option (List ℕ)) → RefusedAtLine (λ t. t) (tell first) (AsksBy tell Asks) bytes left a b
-    → RefusedAtLine tell first Asks bytes left a b
-refused_at tell first Asks bytes left a b r =
-    let (p, is, asks) = r.asks in
-    record {
-      lines = r.lines;
-      seen = r.seen;
-      rest = r.rest;
-      cut = r.cut;
-      is_left = r.is_left;
-      text = r.text;
-      point = p;
-      leads = λ end tail. r.leads end tail ∙ ap (λ (t : Telling). behind r.text (t end (end_of r.lines).line (lines_of tail))) is;
-      front = r.front;
-      is = r.is;
-      asks = asks;
-      taken = r.taken;
-    }

@@ -52,13 +52,6 @@ few_taken feed long none = by (nat_lt 16777216 (taken feed)) refl
 
 -- ---- statuses
 
-pub close_statuses : (t : Told) (waiting : List ℕ) (a b : Option (List ℕ)) (status : Status) → (t.status ≡ Done) ⊎ (t.status ≡ BadText) → Closes t waiting a b status → (status ≢ TooLong) × (status ≢ ReadFault)
-close_statuses t waiting a b status (inl done) (inl all) =
-    (λ is. let e : Done ≡ TooLong = sym done ∙ sym all.0 ∙ is in cc e, λ is. let e : Done ≡ ReadFault = sym done ∙ sym all.0 ∙ is in cc e)
-close_statuses t waiting a b status (inr bad) (inl all) =
-    (λ is. let e : BadText ≡ TooLong = sym bad ∙ sym all.0 ∙ is in cc e, λ is. let e : BadText ≡ ReadFault = sym bad ∙ sym all.0 ∙ is in cc e)
-close_statuses t waiting a b status one (inr failed) = (λ is. let e : WriteFault ≡ TooLong = sym failed.0 ∙ is in cc e, λ is. let e : WriteFault ≡ ReadFault = sym failed.0 ∙ is in cc e)
-
 pub never_much : (status : Status) (before now : ℕ) (feed : Feeding) → status ≢ TooLong → now ≡ before + taken feed → IsLong feed → feed.fault ≡ None → (status ≡ TooLong) ↔ GaveTooMuch before now
 never_much status before now feed other given long none = (λ is. absurd (other is), λ much. absurd (not_much feed long none (omega (arith, given, much))))
 

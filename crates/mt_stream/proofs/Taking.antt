@@ -12,6 +12,7 @@ use Rattle.mt_text.specs.declared.place.Place.{Place}
 use Rattle.mt_stream.specs.Laws.{IsLongLed, IsLongTold}
 use Rattle.mt_stream.specs.Lines.{Closes, Leading, Leads, Path, Takes, early_at}
 use Rattle.mt_stream.specs.Told.{Telling, Told, told}
+use Rattle.mt_stream.specs.declared.ending.End.{End}
 
 -- a last text was written, or failed
 pub takes_last : (At : List ℕ → Path → Type 0) (from : Leading) (number : ℕ) (so_far text waiting left : List ℕ) (status : Status) (a b : Option (List ℕ)) (result : Result (Option Status) Failed)
@@ -45,12 +46,12 @@ takes_same At from other number so_far waiting left a b (Err failed) same f = re
 -- ---- the end
 
 -- a text was passed, and then a last one was written, or a front of it
-pub closes_after : (waiting first middle second : List ℕ) (last status : Status) (a b c : Option (List ℕ)) → Passes waiting first middle a b → Closes (told second last) middle b c status → Closes (told (first ++ second) last) waiting a c status
-closes_after waiting first middle second last status a b c p (inl all) =
+pub closes_after : (waiting first middle second : List ℕ) (last : Status) (result : Result End Failed) (a b c : Option (List ℕ)) → Passes waiting first middle a b → Closes (told second last) middle b c result → Closes (told (first ++ second) last) waiting a c result
+closes_after waiting first middle second last (Ok end) a b c p all =
     let joined : p.front ++ (middle ++ second) ≡ waiting ++ (first ++ second) =
     sym (append_assoc p.front middle second) ∙ ap (λ (l : List ℕ). l ++ second) (sym p.cut) ∙ append_assoc waiting first second in
-    inl (all.0, subst (Appends a c) joined (Appends-trans a b c p.front (middle ++ second) p.taken all.1))
-closes_after waiting first middle second last status a b c p (inr failed) = inr (failed.0, adds_after {T = Unit {0}} {E = Unit {0}} waiting first middle second [] a b c (Err tt) p failed.1)
+    (all.0, subst (Appends a c) joined (Appends-trans a b c p.front (middle ++ second) p.taken all.1))
+closes_after waiting first middle second last (Err failed) a b c p front = adds_after {T = Unit {0}} {E = Unit {0}} waiting first middle second [] a b c (Err tt) p front
 
 -- ---- a line too long
 

@@ -1,5 +1,5 @@
 -- What a run tells, line by line.
-use Rattle.std.proofs.Common.{◌≡◌, ◌∙◌, ap, sym, refl, subst, arith, inl, inr, ℕ, ◌+◌, ◌≤◌, ◌<◌, nat_lt, Bool, true, false, List, [], ◌∷◌, ◌++◌, length, take, drop, Option, None, Some, append_assoc, append-nil, ◌==◌}
+use Rattle.std.proofs.Common.{◌≡◌, ◌∙◌, ap, sym, refl, subst, arith, inl, inr, ℕ, ◌+◌, ◌≤◌, ◌<◌, nat_lt, Bool, true, false, List, [], ◌∷◌, ◌++◌, length, take, drop, Option, None, Some, Result, Ok, Err, append_assoc, append-nil, ◌==◌}
 use Rattle.std.specs.Prelude.{◌⊎◌, ◌&&◌, not}
 use Rattle.std.specs.Io.KnownBytes.{Appends, Consumes, IsAtEnd}
 use Rattle.std.proofs.KnownBytes.{Appends-nil, Appends-trans}
@@ -7,6 +7,7 @@ use Rattle.std.proofs.lemmas.Bool.Decides.{nat_tests}
 use Rattle.std.proofs.lemmas.List.{length-append, length-drop, length-take-le, take-append-drop}
 use Rattle.std.proofs.Math.Seq.{take-length}
 use Rattle.mt_ports.specs.Puts.{AppendsFront}
+use Rattle.mt_ports.specs.declared.status.Failed.{Failed}
 use Rattle.mt_ports.specs.declared.status.Status.{Status}
 use Rattle.mt_ports.specs.declared.status.Status.TheVariants.{BadText, Done, NoMemory, ReadFault, Refused, TooLong, WriteFault}
 use Rattle.mt_output.specs.Writing.{Passes}
@@ -19,10 +20,12 @@ use Rattle.mt_text.proofs.Feeding.{front_within, unknown_few}
 use Rattle.mt_text.proofs.Fronts.{last_front, long_front, place_of_front}
 use Rattle.mt_stream.specs.Known.{known_part, known_text}
 use Rattle.mt_stream.specs.Laws.{AreLaws, IsLongLed}
-use Rattle.mt_stream.specs.Lines.{Closes, CutShort, Ends, Fails, GoesOn, Leads, Leaves, Path, Running, Wants, cut_status, early_of, from_line, leads_behind, tells_of}
+use Rattle.mt_stream.specs.Lines.{Closes, CutShort, Ends, Fails, GoesOn, Leads, Leaves, Path, Running, Wants, closed_status, cut_status, early_of, from_line, leads_behind, tells_of}
 use Rattle.mt_stream.specs.Handling.{RunsOn}
 use Rattle.mt_stream.specs.Runs.{RefusedAtLine}
 use Rattle.mt_stream.specs.Told.{Telling, Told, behind, transcript}
+use Rattle.mt_stream.specs.declared.ending.End.{End}
+use Rattle.mt_stream.specs.declared.ending.End.TheVariants as text_end
 use Rattle.mt_stream.specs.declared.running.Cut.{Cut}
 use Rattle.mt_stream.specs.declared.running.Cut.TheVariants as cut
 use Rattle.mt_stream.proofs.Fronts.{ended_known, ended_lines, long_lines, unknown_part}
@@ -79,16 +82,11 @@ refused_leaves status last more left waiting a b result (inl unwritten) is wants
 refused_leaves status last more left waiting a b result (inr (put, inl kept)) is wants = (put, kept.2)
 refused_leaves status last more left waiting a b result (inr (put, inr (going, other, rest))) is wants = absurd (other wants)
 
--- neither a cut nor the end refuses memory
+-- no cut refuses memory
 pub cut_has_memory : (why : Cut) → cut_status why ≡ NoMemory → ⊥
 cut_has_memory cut.Write is = cc is
 cut_has_memory (cut.Feed fault.ReadFault) is = cc is
 cut_has_memory (cut.Feed fault.TooLong) is = cc is
-
-pub close_has_memory : (t : Told) (waiting : List ℕ) (a b : Option (List ℕ)) (status : Status) → (t.status ≡ Done) ⊎ (t.status ≡ BadText) → Closes t waiting a b status → status ≡ NoMemory → ⊥
-close_has_memory t waiting a b status (inl done) (inl all) is = let e : Done ≡ NoMemory = sym done ∙ sym all.0 ∙ is in cc e
-close_has_memory t waiting a b status (inr bad) (inl all) is = let e : BadText ≡ NoMemory = sym bad ∙ sym all.0 ∙ is in cc e
-close_has_memory t waiting a b status one (inr failed) is = let e : WriteFault ≡ NoMemory = sym failed.0 ∙ is in cc e
 
 -- what a whole text or a front of it tells, and what lines tell from a point on
 abbrev told_of : Path → Option Place → List ℕ → Leads
@@ -404,19 +402,15 @@ module _ (R : Running) (start : Path) (laws : AreLaws R) where
         taken : Appends a b (transcript (tells_of start) bytes).text
         taken = subst (Appends a b) (sym (ap (λ (x : Told). x.text) is)) put
 
-  pub closes : (bytes : List ℕ) (source : Option (List ℕ)) (place : Place) (now : R.Run) (waiting : List ℕ) (a b c : Option (List ℕ)) (status : Status) → AtEnd R start bytes source place now waiting a b
-      → Closes (R.ends now place) waiting b c status → RunsOn start bytes source a c status
-  closes bytes source place now waiting a b c status h (inl all) =
-      tells_all bytes h.text source a c (R.ends now place) h.tells (passes_then h.text waiting (R.ends now place).text a b c h.passed all.1) h.is_left status all.0
-      (one (laws.ending now place))
-    where
-      one : ((R.ends now place).status ≡ Done) ⊎ ((R.ends now place).status ≡ BadText) → (status ≡ Done) ⊎ (status ≡ Refused) ⊎ (status ≡ BadText)
-      one (inl done) = inl (all.0 ∙ done)
-      one (inr bad) = inr (inr (all.0 ∙ bad))
-  closes bytes source place now waiting a b c status h (inr front) =
+  pub closes : (bytes : List ℕ) (source : Option (List ℕ)) (place : Place) (now : R.Run) (waiting : List ℕ) (a b c : Option (List ℕ)) (result : Result End Failed) → AtEnd R start bytes source place now waiting a b
+      → Closes (R.ends now place) waiting b c result → RunsOn start bytes source a c (closed_status result)
+  closes bytes source place now waiting a b c (Ok text_end.Done) h all =
+      tells_all bytes h.text source a c (R.ends now place) h.tells (passes_then h.text waiting (R.ends now place).text a b c h.passed all.1) h.is_left Done all.0 (inl refl)
+  closes bytes source place now waiting a b c (Ok text_end.BadText) h all =
+      tells_all bytes h.text source a c (R.ends now place) h.tells (passes_then h.text waiting (R.ends now place).text a b c h.passed all.1) h.is_left BadText all.0 (inr (inr refl))
+  closes bytes source place now waiting a b c (Err failed) h front =
       let t = R.ends now place in
-      subst (RunsOn start bytes source a c) (sym front.0)
-      (subst (AppendsFront a c) (ap (λ l. h.text ++ l) (append-nil t.text) ∙ sym (ap (λ (x : Told). x.text) h.tells)) (fails_then h.text waiting t.text [] a b c h.passed front.1))
+      subst (AppendsFront a c) (ap (λ l. h.text ++ l) (append-nil t.text) ∙ sym (ap (λ (x : Told). x.text) h.tells)) (fails_then h.text waiting t.text [] a b c h.passed front)
 
   -- ---- the line ends the transcript
 
@@ -476,10 +470,10 @@ module _ (R : Running) (start : Path) (laws : AreLaws R) where
 
       -- it was refused at this line
       pub line_refused : (Asks : Telling → ℕ → List ℕ → Type 0) → result ≡ NoMemory → status ≡ NoMemory → left ≡ waiting → c ≡ b → Asks (tells_of h.point) feed.line.number feed.line.bytes
-          → RefusedAtLine (λ t. t) (tells_of start) Asks bytes source_after a d
+          → RefusedAtLine (tells_of start) Asks bytes source_after a d
       line_refused Asks none wants waits kept asks = by (refused_leaves status (is_last feed) more source_after left c d result leaves none wants)
         where
-          by : Appends c d left × (more ≡ []) → RefusedAtLine (λ t. t) (tells_of start) Asks bytes source_after a d
+          by : Appends c d left × (more ≡ []) → RefusedAtLine (tells_of start) Asks bytes source_after a d
           by (put, no_more) =
               let rest : h.rest ≡ took.0 = took.2 ∙ ap (λ (l : List ℕ). l ++ took.0) no_more in
               let is_left : source_after ≡ Some h.rest = took.1 ∙ ap Some (sym rest) in

@@ -35,10 +35,6 @@ pub record Taken (R : Running) (was now : R.Run) (line : Line) (before after : O
   pub ready : (most : ℕ) → R.Ready most was → IfGoesOn result (R.Ready (most + 1) now)
   pub cause : HasCause before.faults after.faults result
 
--- memory may be asked for by points that tell what lines do
-abbrev pub AsksBy : {P : Type 0} → (P → Telling) → (P → ℕ → List ℕ → Type 0) → Telling → ℕ → List ℕ → Type 0
-AsksBy {P} tell Asks told number line = (p : P) × (told ≡ tell p) × Asks p number line
-
 -- ---- each line
 
 -- A function that takes lines may be called for each line that a run is ready for.
@@ -64,4 +60,4 @@ abbrev pub RunsFrom : Path → Option (List ℕ) → Option (List ℕ) → Optio
 RunsFrom start held left before after status = (bytes : List ℕ) → held ≡ Some bytes → RunsOn start bytes left before after status
 
 abbrev pub RefusesFrom : Path → (Telling → ℕ → List ℕ → Type 0) → Option (List ℕ) → Option (List ℕ) → Option (List ℕ) → Option (List ℕ) → Type 0
-RefusesFrom start Asks held left before after = (bytes : List ℕ) → held ≡ Some bytes → RefusedAtLine (λ t. t) (tells_of start) Asks bytes left before after
+RefusesFrom start Asks held left before after = (bytes : List ℕ) → held ≡ Some bytes → RefusedAtLine (tells_of start) Asks bytes left before after

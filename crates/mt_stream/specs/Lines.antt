@@ -9,9 +9,11 @@ use Rattle.mt_ports.specs.Causes.{Rose}
 use Rattle.mt_ports.specs.Puts.{AppendsFront}
 use Rattle.mt_ports.specs.declared.status.Failed.{Failed}
 use Rattle.mt_ports.specs.declared.status.Status.{Status}
-use Rattle.mt_ports.specs.declared.status.Status.TheVariants.{BadText, NoMemory, ReadFault, Refused, TooLong, WriteFault}
+use Rattle.mt_ports.specs.declared.status.Status.TheVariants.{BadText, Done, NoMemory, ReadFault, Refused, TooLong, WriteFault}
 use Rattle.mt_output.specs.Writing.{Passes}
 use Rattle.mt_stream.specs.Told.{Telling, Told, behind}
+use Rattle.mt_stream.specs.declared.ending.End.{End}
+use Rattle.mt_stream.specs.declared.ending.End.TheVariants as text_end
 use Rattle.mt_stream.specs.declared.running.Cut.{Cut}
 use Rattle.mt_stream.specs.declared.running.Cut.TheVariants as cut
 
@@ -134,10 +136,19 @@ cut_status (cut.Feed feed.TooLong) = TooLong
 
 -- ---- the end
 
+-- the status of a text that ends so
+abbrev pub end_status : End → Status
+end_status text_end.Done = Done
+end_status text_end.BadText = BadText
+
 -- the last text goes to the sink with all that waits, or a front of them
-abbrev pub Closes : Told → List ℕ → Option (List ℕ) → Option (List ℕ) → Status → Type 0
-Closes t waiting before after status =
-    ((status ≡ t.status) × Appends before after (waiting ++ t.text)) ⊎ ((status ≡ WriteFault) × AppendsFront before after (waiting ++ t.text))
+abbrev pub Closes : Told → List ℕ → Option (List ℕ) → Option (List ℕ) → Result End Failed → Type 0
+Closes t waiting before after result =
+    MatchResult result (λ last. (end_status last ≡ t.status) × Appends before after (waiting ++ t.text)) (λ _. AppendsFront before after (waiting ++ t.text))
+
+abbrev pub closed_status : Result End Failed → Status
+closed_status (Ok last) = end_status last
+closed_status (Err failed) = WriteFault
 
 -- the statuses with which a line ends a run
 abbrev pub IsEnding : Status → Type 0

@@ -1,11 +1,12 @@
-ghost use Rattle.std.specs.Prelude.{◌≢◌, List, ℕ};
-ghost use Rattle.mt_ports.specs.Causes.{StatusHasCause};
+ghost use Rattle.std.specs.Prelude.{List, ℕ};
+ghost use Rattle.mt_ports.specs.Causes.{HasCause};
 ghost use Rattle.mt_text.specs.declared.place.Place.{Place};
 ghost use Rattle.mt_stream.specs.Lines.{Closes, Path};
 ghost use Rattle.mt_stream.specs.Told.{Telling, Told};
 
+use crate::End;
 use mt_output::Writer;
-use mt_ports::{Sink, Status};
+use mt_ports::{Failed, Sink};
 use mt_text::Place;
 
 /// A run over the lines of a text, as it is between two of them.
@@ -22,11 +23,8 @@ pub trait LineRun {
     /// It can take a line behind this many.
     ghost ready: { ℕ → Self → Type 0 };
 
-    /// Writes what is told where the text ends, with all that waits, and returns its status, or
-    /// `WriteFault`.
-    fn finish<K: Sink>(&self, end: Place, writer: &mut Writer, sink: &mut K) -> Status
+    /// Writes what is told where the text ends, with all that waits, and returns how it ends.
+    fn finish<K: Sink>(&self, end: Place, writer: &mut Writer, sink: &mut K) -> Result<End, Failed>
         ensures bytes { Closes (ends self.now end) writer.old (K.taken sink.old) (K.taken sink.new) result }
-        ensures usage { result ≢ Status.Usage }
-        ensures few { (result ≢ Status.TooFew) × (result ≢ Status.Disabled) }
-        ensures cause { StatusHasCause Status.WriteFault (K.faults sink.old) (K.faults sink.new) result };
+        ensures cause { HasCause (K.faults sink.old) (K.faults sink.new) result };
 }

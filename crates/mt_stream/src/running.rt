@@ -1,14 +1,14 @@
-ghost use Rattle.std.specs.Prelude.{◌≡◌, ◌≢◌, ◌⊎◌, ◌≤◌, ◌<◌, ◌+◌, ◌↔◌, ◌++◌, [], length, None, Some, Ok, IfOk};
+ghost use Rattle.std.specs.Prelude.{◌≡◌, ◌≢◌, ◌⊎◌, ◌≤◌, ◌<◌, ◌+◌, ◌↔◌, ◌++◌, ℕ, [], length, None, Some, Ok, IfOk};
 ghost use Rattle.mt_text.specs.Text.{longest_input};
 ghost use Rattle.mt_text.specs.Feed.{GaveTooMuch, IsLong, TakesMore, taken};
 ghost use Rattle.mt_ports.specs.Causes.{HasCause, StatusHasCause};
 ghost use Rattle.mt_output.specs.Writing.{Adds};
 ghost use Rattle.mt_stream.specs.Handling.{MayTake, RefusesFrom, RunsFrom, TakesEach};
 ghost use Rattle.mt_stream.specs.Laws.{AreLaws};
-ghost use Rattle.mt_stream.specs.Lines.{Closes, IsEnding, Leaves, Next, Path, SinkHasCause, SourceHasCause, cut_status, running};
+ghost use Rattle.mt_stream.specs.Lines.{Closes, IsEnding, Leaves, Next, Path, SinkHasCause, SourceHasCause, closed_status, cut_status, end_status, running};
 ghost use Rattle.mt_stream.specs.Told.{told};
 
-use crate::LineRun;
+use crate::{End, LineRun};
 use mt_output::Writer;
 use mt_ports::{Failed, Sink, Source, Status};
 use mt_text::{Feed, FeedFault, Line};
@@ -81,19 +81,37 @@ pub fn tell<K: Sink>(
     }
 }
 
-/// Writes a last text with all that waits, and answers the status.
-pub fn close<K: Sink>(writer: &mut Writer, sink: &mut K, text: &[u8], status: Status) -> Status
-    requires few { length text.now ≤ 224 }
-    requires status { status ≢ Status.WriteFault }
-    ensures bytes { Closes (told text.now status) writer.old (K.taken sink.old) (K.taken sink.new) result }
-    ensures statuses { (result ≡ status) ⊎ (result ≡ Status.WriteFault) }
-    ensures cause { StatusHasCause Status.WriteFault (K.faults sink.old) (K.faults sink.new) result }
+/// Writes a last text with all that waits, and returns how the text ends.
+pub fn close<K: Sink>(
+    writer: &mut Writer,
+    sink: &mut K,
+    text: &[u8],
+    end: End,
+) -> Result<End, Failed>
+    requires { length text.now ≤ 224 }
+    ensures bytes { Closes (told text.now (end_status end)) writer.old (K.taken sink.old) (K.taken sink.new) result }
+    ensures cause { HasCause (K.faults sink.old) (K.faults sink.new) result }
 {
-    if let Err(_) = writer.write(sink, text) {
-        return Status::WriteFault;
+    if let Err(failed) = writer.write(sink, text) {
+        return Err(failed);
     }
     match writer.flush(sink) {
-        Ok(()) => status,
+        Ok(()) => Ok(end),
+        Err(failed) => Err(failed),
+    }
+}
+
+// The status of a run that came to the end of its text.
+fn closed_status(closed: Result<End, Failed>) -> Status
+    ensures value { result ≡ closed_status closed }
+    ensures usage { result ≢ Status.Usage }
+    ensures few { (result ≢ Status.TooFew) × (result ≢ Status.Disabled) }
+    ensures others { (result ≢ Status.NoMemory) × (result ≢ Status.ReadFault) × (result ≢ Status.TooLong) }
+    ensures cause { (before : ℕ) (now : ℕ) → HasCause before now closed → StatusHasCause Status.WriteFault before now result }
+{
+    match closed {
+        Ok(End::Done) => Status::Done,
+        Ok(End::BadText) => Status::BadText,
         Err(_) => Status::WriteFault,
     }
 }
@@ -164,14 +182,14 @@ where
     'lines: loop {
         match next_line(&mut feed, source, writer, sink) {
             Ok(true) => {}
-            Ok(false) => return run.finish(feed.end(), writer, sink),
+            Ok(false) => return closed_status(run.finish(feed.end(), writer, sink)),
             Err(cut) => return cut_status(&cut),
         }
         let last = feed.is_last();
         match take_line(run, &feed.current(), writer, sink) {
             Ok(None) => {
                 if last {
-                    return run.finish(feed.end(), writer, sink);
+                    return closed_status(run.finish(feed.end(), writer, sink));
                 }
             }
             Ok(Some(status)) => return leave(status, last, &mut feed, source, writer, sink),

@@ -1,8 +1,7 @@
 use Rattle.std.proofs.Common.{inr, refl, []}
-use Rattle.mt_stream.proofs.Loops.{refused_at}
 use Rattle.mt_stream.proofs.Rounds.{ends_as}
-use Rattle.mt_proc.specs.Proc.{from_point, in_dump, proc_told, proc_transcript}
-use Rattle.mt_proc.specs.Running.{AsksAt, path_from}
+use Rattle.mt_proc.specs.Proc.{in_dump, proc_told, proc_transcript}
+use Rattle.mt_proc.specs.Running.{path_from}
 use Rattle.mt_proc.proofs.RunningLaws.{proc_laws}
 use Rattle.mt_proc.proofs.running.proc_with.Goals as goal
 
@@ -18,6 +17,4 @@ returns-clause-complete g c = λ bytes known.
     (c.run_lines.ensures.bytes (path_from c.args.cpus (in_dump [])) (in_dump [], c.new-2.ensures, refl, refl, tt) bytes known)
 
 pub returns-clause-memory : goal.returns-clause-memory
-returns-clause-memory g c = λ bytes known wants.
-    inr (refused_at (from_point c.args.cpus) (in_dump []) (AsksAt c.args.cpus) bytes (g.S.Source.left c.run_lines.new.source) (g.K.Sink.taken c.args.sink.now) (g.K.Sink.taken c.run_lines.new.sink)
-    (c.run_lines.ensures.memory (path_from c.args.cpus (in_dump [])) (in_dump [], c.new-2.ensures, refl, refl, tt) wants bytes known))
+returns-clause-memory g c = λ bytes known wants. inr (c.run_lines.ensures.memory (path_from c.args.cpus (in_dump [])) (in_dump [], c.new-2.ensures, refl, refl, tt) wants bytes known)

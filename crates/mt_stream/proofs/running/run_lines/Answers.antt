@@ -1,10 +1,12 @@
 use Rattle.std.proofs.Common.{◌≡◌, ◌∙◌, ◌+◌, ◌++◌, arith, sym, refl, subst, ap, List, ℕ, None, Some, Ok, Err, []}
+use Rattle.mt_ports.specs.Causes.{StatusHasCause}
+use Rattle.mt_ports.specs.declared.status.Status.TheVariants.{WriteFault}
 use Rattle.mt_text.specs.Feed.{Feeding, IsLong, Moves, taken}
 use Rattle.mt_stream.specs.Handling.{RunsOn}
 use Rattle.mt_stream.specs.Lines.{running}
 use Rattle.mt_stream.proofs.Loops.{ends, fails, goes_last, goes_on, refuses}
-use Rattle.mt_stream.proofs.Rounds.{close_statuses, cut_enough, cut_long, few_taken, moved_taken, never_much}
-use Rattle.mt_stream.proofs.Telling.{UnderWay, close_has_memory, closes, cut_has_memory, cuts, no_line, starts}
+use Rattle.mt_stream.proofs.Rounds.{cut_enough, cut_long, few_taken, moved_taken, never_much}
+use Rattle.mt_stream.proofs.Telling.{UnderWay, closes, cut_has_memory, cuts, no_line, starts}
 use Rattle.mt_stream.proofs.running.run_lines.Goals as goal
 
 pub lines-init : goal.lines-init
@@ -27,13 +29,17 @@ pub returns-in-Ok-false-clause-bytes : goal.returns-in-Ok-false-clause-bytes
 returns-in-Ok-false-clause-bytes g c = λ start at bytes known.
     let (more, takes, rises, next) = c.in-Ok-false.ensures.bytes in
     let moves = subst (Moves c.lines.feed c.next_line.new.feed (c.lines.feed.pending ++ more) (g.S.Source.left c.next_line.new.source)) c.in-Ok-false.field-0-test next.0 in
-    closes _ start c.requires.laws bytes _ _ _ _ _ _ (g.K.Sink.taken c.finish.new.sink) c.finish.result
+    subst (RunsOn start bytes (g.S.Source.left c.next_line.new.source) (g.K.Sink.taken c.args.sink.now) (g.K.Sink.taken c.finish.new.sink)) (sym c.closed_status.ensures.value)
+    (closes _ start c.requires.laws bytes _ _ _ _ _ _ (g.K.Sink.taken c.finish.new.sink) c.finish.result
     (no_line _ start c.requires.laws bytes more _ (g.S.Source.left c.next_line.new.source) _ c.next_line.new.feed _ _ c.next_line.new.writer _ _ (g.K.Sink.taken c.next_line.new.sink) (c.lines.invariant.told start at bytes known) takes moves next.1)
-    (rw c.end.ensures at c.finish.ensures.bytes)
+    (rw c.end.ensures at c.finish.ensures.bytes))
 
 pub returns-in-Ok-false-clause-memory : goal.returns-in-Ok-false-clause-memory
-returns-in-Ok-false-clause-memory g c = λ start at wants bytes known.
-    absurd (close_has_memory (g.L.LineRun.ends c.lines.run c.end.result) c.next_line.new.writer (g.K.Sink.taken c.next_line.new.sink) (g.K.Sink.taken c.finish.new.sink) c.finish.result (c.requires.laws.ending c.lines.run c.end.result) c.finish.ensures.bytes wants)
+returns-in-Ok-false-clause-memory g c = λ start at wants bytes known. absurd (c.closed_status.ensures.others.0 wants)
+
+pub returns-in-Ok-false-clause-write_fault : goal.returns-in-Ok-false-clause-write_fault
+returns-in-Ok-false-clause-write_fault g c =
+    subst (λ n. StatusHasCause WriteFault n (g.K.Sink.faults c.finish.new.sink) c.closed_status.result) (c.in-Ok-false.ensures.sink ∙ c.lines.invariant.sink) (c.closed_status.ensures.cause _ _ c.finish.ensures.cause)
 
 pub returns-in-Err-clause-bytes : goal.returns-in-Err-clause-bytes
 returns-in-Err-clause-bytes g c = λ start at bytes known.
@@ -65,22 +71,26 @@ returns-then-last-clause-bytes g c = λ start at bytes known.
     let (more, takes, rises, next) = c.in-Ok-true.ensures.bytes in
     let moves = subst (Moves c.lines.feed c.next_line.new.feed (c.lines.feed.pending ++ more) (g.S.Source.left c.next_line.new.source)) c.in-Ok-true.field-0-test next.0 in
     let line = c.requires.takes _ _ _ _ _ _ _ _ c.in-Ok-None.ensures in
-    goes_last _ start c.requires.laws bytes more _ (g.S.Source.left c.next_line.new.source) _ c.next_line.new.feed _ _ c.next_line.new.writer _ _ (g.K.Sink.taken c.next_line.new.sink) (c.lines.invariant.told start at bytes known) takes moves next.1
+    subst (RunsOn start bytes (g.S.Source.left c.next_line.new.source) (g.K.Sink.taken c.args.sink.now) (g.K.Sink.taken c.finish-then-last.new.sink)) (sym c.closed_status-then-last.ensures.value)
+    (goes_last _ start c.requires.laws bytes more _ (g.S.Source.left c.next_line.new.source) _ c.next_line.new.feed _ _ c.next_line.new.writer _ _ (g.K.Sink.taken c.next_line.new.sink) (c.lines.invariant.told start at bytes known) takes moves next.1
     c.take_line.new.arg2 c.take_line.new.arg4 (g.K.Sink.taken c.take_line.new.arg5)
     (λ so_far was stands. rw (c.in-Ok-None.field-0-is, c.current.ensures.bytes, c.current.ensures.number) at (line.bytes so_far was stands))
-    (sym c.is_last-last.ensures ∙ c.if-last.true) (g.K.Sink.taken c.finish-then-last.new.sink) c.finish-then-last.result (rw c.end-then-last.ensures at c.finish-then-last.ensures.bytes)
+    (sym c.is_last-last.ensures ∙ c.if-last.true) (g.K.Sink.taken c.finish-then-last.new.sink) c.finish-then-last.result (rw c.end-then-last.ensures at c.finish-then-last.ensures.bytes))
 
 pub returns-then-last-clause-memory : goal.returns-then-last-clause-memory
-returns-then-last-clause-memory g c = λ start at wants bytes known.
-    absurd (close_has_memory (g.L.LineRun.ends c.take_line.new.arg2 c.end-then-last.result) c.take_line.new.arg4 (g.K.Sink.taken c.take_line.new.arg5) (g.K.Sink.taken c.finish-then-last.new.sink) c.finish-then-last.result (c.requires.laws.ending c.take_line.new.arg2 c.end-then-last.result) c.finish-then-last.ensures.bytes wants)
+returns-then-last-clause-memory g c = λ start at wants bytes known. absurd (c.closed_status-then-last.ensures.others.0 wants)
+
+pub returns-then-last-clause-write_fault : goal.returns-then-last-clause-write_fault
+returns-then-last-clause-write_fault g c =
+    let line = c.requires.takes _ _ _ _ _ _ _ _ c.in-Ok-None.ensures in
+    subst (λ n. StatusHasCause WriteFault n (g.K.Sink.faults c.finish-then-last.new.sink) c.closed_status-then-last.result) (line.cause ∙ c.in-Ok-true.ensures.sink ∙ c.lines.invariant.sink) (c.closed_status-then-last.ensures.cause _ _ c.finish-then-last.ensures.cause)
 
 pub returns-then-last-clause-too_long : goal.returns-then-last-clause-too_long
 returns-then-last-clause-too_long g c =
     let (more, takes, rises, next) = c.in-Ok-true.ensures.bytes in
     let moves = subst (Moves c.lines.feed c.next_line.new.feed (c.lines.feed.pending ++ more) (g.S.Source.left c.next_line.new.source)) c.in-Ok-true.field-0-test next.0 in
     let moved = moved_taken c.lines.feed c.next_line.new.feed more (g.S.Source.left c.next_line.new.source) moves in
-    never_much c.finish-then-last.result (g.S.Source.given c.args.source.now) (g.S.Source.given c.next_line.new.source) c.next_line.new.feed
-    (close_statuses (g.L.LineRun.ends c.take_line.new.arg2 c.end-then-last.result) c.take_line.new.arg4 (g.K.Sink.taken c.take_line.new.arg5) (g.K.Sink.taken c.finish-then-last.new.sink) c.finish-then-last.result (c.requires.laws.ending c.take_line.new.arg2 c.end-then-last.result) c.finish-then-last.ensures.bytes).0
+    never_much c.closed_status-then-last.result (g.S.Source.given c.args.source.now) (g.S.Source.given c.next_line.new.source) c.next_line.new.feed c.closed_status-then-last.ensures.others.2
     (omega (arith, c.lines.invariant.given, rises, moved.0)) c.in-Ok-true.ensures.long (moved.2 ∙ c.lines.invariant.no_fault)
 
 pub lines-preserved : goal.lines-preserved

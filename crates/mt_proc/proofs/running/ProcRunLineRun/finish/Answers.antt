@@ -1,6 +1,6 @@
-use Rattle.std.proofs.Common.{◌≡◌, ◌∙◌, ◌++◌, ap, inr, refl, sym, subst, List, ℕ}
+use Rattle.std.proofs.Common.{◌≡◌, ◌∙◌, ◌++◌, ap, sym, subst, List, ℕ, Err}
 use Rattle.mt_ports.specs.Puts.{AppendsFront}
-use Rattle.mt_ports.specs.declared.status.Status.TheVariants.{Done, WriteFault}
+use Rattle.mt_ports.specs.declared.status.Status.TheVariants.{Done}
 use Rattle.mt_output.specs.Writing.{Passes}
 use Rattle.mt_output.proofs.Writing.{fails_longer}
 use Rattle.mt_stream.specs.Lines.{Closes}
@@ -32,5 +32,5 @@ returns-in-Err-clause-bytes g c =
     let a = g.K.Sink.taken c.args.sink.now in
     let b = g.K.Sink.taken c.write_listing.new.sink in
     let failed : AppendsFront a b (c.args.writer.now ++ listing now.file) = subst (λ (l : List ℕ). AppendsFront a b (c.args.writer.now ++ l)) (ap listing c.file.ensures) c.in-Err.ensures.bytes in
-    subst (λ (r : Run). Closes (end_of_run r c.args.end) c.args.writer.now a b WriteFault) (sym c.in-Requests.is)
-    (inr (refl, fails_longer c.args.writer.now (listing now.file) (era_line now.count) a b failed))
+    subst (λ (r : Run). Closes (end_of_run r c.args.end) c.args.writer.now a b (Err c.in-Err.failed)) (sym c.in-Requests.is)
+    (fails_longer c.args.writer.now (listing now.file) (era_line now.count) a b failed)
