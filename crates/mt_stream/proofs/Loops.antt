@@ -1,5 +1,5 @@
 -- What a loop over lines keeps over one of them, and what it leaves where it ends with one.
-use Rattle.std.proofs.Common.{◌≡◌, inl, inr, ℕ, ◌+◌, ◌<◌, true, false, List, [], ◌++◌, length, Option, None, Some, Result, Ok, Err}
+use Rattle.std.proofs.Common.{◌≡◌, subst, inl, inr, ℕ, ◌+◌, ◌<◌, Bool, true, false, List, [], ◌++◌, length, Option, None, Some, Result, Ok, Err}
 use Rattle.std.specs.Io.KnownBytes.{Consumes}
 use Rattle.mt_ports.specs.Puts.{AppendsFront}
 use Rattle.mt_ports.specs.declared.status.Failed.{Failed}
@@ -17,9 +17,10 @@ use Rattle.mt_stream.proofs.Telling.{HasLine, UnderWay, closes, ends_with_memory
 
 -- A loop has moved on to a line.
 module _ (R : Running) (start : Path) (laws : AreLaws R) (bytes more : List ℕ) (source left : Option (List ℕ)) (old new : Feeding) (now : R.Run) (waiting later : List ℕ) (a b c : Option (List ℕ))
-    (told : UnderWay R start bytes source old now waiting a b) (takes : Consumes source left more) (moves : Moves old new (old.pending ++ more) left true) (passed : Passes waiting [] later b c) where
+    (told : UnderWay R start bytes source old now waiting a b) (takes : Consumes source left more)
+    (moved : Bool) (is : moved ≡ true) (next : Moves old new (old.pending ++ more) left moved × Passes waiting [] later b c) where
   here : HasLine R start bytes left new now later a c
-  here = moves_line R start laws bytes more source left old new now waiting later a b c told takes moves passed
+  here = moves_line R start laws bytes more source left old new now waiting later a b c told takes (subst (Moves old new (old.pending ++ more) left) is next.0) next.1
 
   module _ (run : R.Run) (after : List ℕ) (d : Option (List ℕ)) where
     pub goes_on : TakesAnywhere (R.At now) (R.At run) new.line.number new.line.bytes later after c d (Ok None) → is_last new ≡ false → UnderWay R start bytes left new run after a d

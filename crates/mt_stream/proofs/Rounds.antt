@@ -24,8 +24,9 @@ front_bounds seen left (count, false) (inl known) = let many : count ≡ 4097 = 
 front_bounds seen left front (inr last) = let is : with_end front ≡ length seen + 0 = ap (λ (f : ℕ × Bool). with_end f) last.3 in (omega (arith, is, last.2), omega (arith, is))
 
 module _ (old new : Feeding) (more : List ℕ) (left : Option (List ℕ)) where
-  pub moved_taken : Moves old new (old.pending ++ more) left true → (taken new ≡ taken old + length more) × (old.offset + 1 ≤ new.offset) × (new.fault ≡ old.fault)
-  moved_taken moves =
+  pub moved_taken : (moved : Bool) → moved ≡ true → Moves old new (old.pending ++ more) left moved → (taken new ≡ taken old + length more) × (old.offset + 1 ≤ new.offset) × (new.fault ≡ old.fault)
+  moved_taken false none moves = absurd (cc none)
+  moved_taken true some moves =
       let (front, is, moved) = moves in
       let bounds = front_bounds (old.pending ++ more) left front is in
       let offset : new.offset ≡ old.offset + with_end front = ap (λ f. f.offset) moved in

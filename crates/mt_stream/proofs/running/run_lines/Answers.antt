@@ -69,10 +69,9 @@ take_line-requires g c =
 pub returns-then-last-clause-bytes : goal.returns-then-last-clause-bytes
 returns-then-last-clause-bytes g c = λ start at bytes known.
     let (more, takes, rises, next) = c.in-Ok-true.ensures.bytes in
-    let moves = subst (Moves c.lines.feed c.next_line.new.feed (c.lines.feed.pending ++ more) (g.S.Source.left c.next_line.new.source)) c.in-Ok-true.field-0-test next.0 in
     let line = c.requires.takes _ _ _ _ _ _ _ _ c.in-Ok-None.ensures in
     subst (RunsOn start bytes (g.S.Source.left c.next_line.new.source) (g.K.Sink.taken c.args.sink.now) (g.K.Sink.taken c.finish-then-last.new.sink)) (sym c.closed_status-then-last.ensures.value)
-    (goes_last _ start c.requires.laws bytes more _ (g.S.Source.left c.next_line.new.source) _ c.next_line.new.feed _ _ c.next_line.new.writer _ _ (g.K.Sink.taken c.next_line.new.sink) (c.lines.invariant.told start at bytes known) takes moves next.1
+    (goes_last _ start c.requires.laws bytes more _ (g.S.Source.left c.next_line.new.source) _ c.next_line.new.feed _ _ c.next_line.new.writer _ _ (g.K.Sink.taken c.next_line.new.sink) (c.lines.invariant.told start at bytes known) takes _ c.in-Ok-true.field-0-test next
     c.take_line.new.arg2 c.take_line.new.arg4 (g.K.Sink.taken c.take_line.new.arg5)
     (λ so_far was stands. rw (c.in-Ok-None.field-0-is, c.current.ensures.bytes, c.current.ensures.number) at (line.bytes so_far was stands))
     (sym c.is_last-last.ensures ∙ c.if-last.true) (g.K.Sink.taken c.finish-then-last.new.sink) c.finish-then-last.result (rw c.end-then-last.ensures at c.finish-then-last.ensures.bytes))
@@ -88,16 +87,14 @@ returns-then-last-clause-write_fault g c =
 pub returns-then-last-clause-too_long : goal.returns-then-last-clause-too_long
 returns-then-last-clause-too_long g c =
     let (more, takes, rises, next) = c.in-Ok-true.ensures.bytes in
-    let moves = subst (Moves c.lines.feed c.next_line.new.feed (c.lines.feed.pending ++ more) (g.S.Source.left c.next_line.new.source)) c.in-Ok-true.field-0-test next.0 in
-    let moved = moved_taken c.lines.feed c.next_line.new.feed more (g.S.Source.left c.next_line.new.source) moves in
+    let moved = moved_taken c.lines.feed c.next_line.new.feed more (g.S.Source.left c.next_line.new.source) _ c.in-Ok-true.field-0-test next.0 in
     never_much c.closed_status-then-last.result (g.S.Source.given c.args.source.now) (g.S.Source.given c.next_line.new.source) c.next_line.new.feed c.closed_status-then-last.ensures.others.2
     (omega (arith, c.lines.invariant.given, rises, moved.0)) c.in-Ok-true.ensures.long (moved.2 ∙ c.lines.invariant.no_fault)
 
 pub lines-preserved : goal.lines-preserved
 lines-preserved g c =
     let (more, takes, rises, next) = c.in-Ok-true.ensures.bytes in
-    let moves = subst (Moves c.lines.feed c.next_line.new.feed (c.lines.feed.pending ++ more) (g.S.Source.left c.next_line.new.source)) c.in-Ok-true.field-0-test next.0 in
-    let moved = moved_taken c.lines.feed c.next_line.new.feed more (g.S.Source.left c.next_line.new.source) moves in
+    let moved = moved_taken c.lines.feed c.next_line.new.feed more (g.S.Source.left c.next_line.new.source) _ c.in-Ok-true.field-0-test next.0 in
     let line = c.requires.takes _ _ _ _ _ _ _ _ c.in-Ok-None.ensures in
     let (most, few, ready) = c.lines.invariant.ready in
     record {
@@ -109,7 +106,7 @@ lines-preserved g c =
       ready = (most + 1, omega (arith, few, moved.1), rw c.in-Ok-None.field-0-is at (line.ready most ready));
       asks = λ was number other asked. c.lines.invariant.asks was number other (line.asks_stay was number other asked);
       told = λ start at bytes known.
-          goes_on _ start c.requires.laws bytes more _ (g.S.Source.left c.next_line.new.source) _ c.next_line.new.feed _ _ c.next_line.new.writer _ _ (g.K.Sink.taken c.next_line.new.sink) (c.lines.invariant.told start at bytes known) takes moves next.1
+          goes_on _ start c.requires.laws bytes more _ (g.S.Source.left c.next_line.new.source) _ c.next_line.new.feed _ _ c.next_line.new.writer _ _ (g.K.Sink.taken c.next_line.new.sink) (c.lines.invariant.told start at bytes known) takes _ c.in-Ok-true.field-0-test next
           c.take_line.new.arg2 c.take_line.new.arg4 (g.K.Sink.taken c.take_line.new.arg5)
           (λ so_far was stands. rw (c.in-Ok-None.field-0-is, c.current.ensures.bytes, c.current.ensures.number) at (line.bytes so_far was stands))
           (sym c.is_last-last.ensures ∙ c.if-last.false);
@@ -121,10 +118,9 @@ leave-requires-clause-status g c = (c.requires.takes _ _ _ _ _ _ _ _ c.in-Ok-Som
 pub returns-in-Ok-Some-clause-bytes : goal.returns-in-Ok-Some-clause-bytes
 returns-in-Ok-Some-clause-bytes g c = λ start at bytes known.
     let (more, takes, rises, next) = c.in-Ok-true.ensures.bytes in
-    let moves = subst (Moves c.lines.feed c.next_line.new.feed (c.lines.feed.pending ++ more) (g.S.Source.left c.next_line.new.source)) c.in-Ok-true.field-0-test next.0 in
     let (dropped, drains, given, (counted, leaves)) = c.leave.ensures.bytes in
     let line = c.requires.takes _ _ _ _ _ _ _ _ c.in-Ok-Some.ensures in
-    ends _ start c.requires.laws bytes more _ (g.S.Source.left c.next_line.new.source) _ c.next_line.new.feed _ _ c.next_line.new.writer _ _ (g.K.Sink.taken c.next_line.new.sink) (c.lines.invariant.told start at bytes known) takes moves next.1
+    ends _ start c.requires.laws bytes more _ (g.S.Source.left c.next_line.new.source) _ c.next_line.new.feed _ _ c.next_line.new.writer _ _ (g.K.Sink.taken c.next_line.new.sink) (c.lines.invariant.told start at bytes known) takes _ c.in-Ok-true.field-0-test next
     c.take_line.new.arg2 c.take_line.new.arg4 (g.K.Sink.taken c.take_line.new.arg5) c.in-Ok-Some.status c.leave.result dropped (g.S.Source.left c.leave.new.source) (g.K.Sink.taken c.leave.new.sink) drains
     (λ is. let many = c.leave.ensures.long.0 is in omega (arith, many, counted)) (rw c.is_last-last.ensures at leaves)
     (λ so_far was stands. rw (c.in-Ok-Some.field-0-is, c.current.ensures.bytes, c.current.ensures.number) at (line.bytes so_far was stands))
@@ -132,10 +128,9 @@ returns-in-Ok-Some-clause-bytes g c = λ start at bytes known.
 pub returns-in-Ok-Some-clause-memory : goal.returns-in-Ok-Some-clause-memory
 returns-in-Ok-Some-clause-memory g c = λ start at wants bytes known.
     let (more, takes, rises, next) = c.in-Ok-true.ensures.bytes in
-    let moves = subst (Moves c.lines.feed c.next_line.new.feed (c.lines.feed.pending ++ more) (g.S.Source.left c.next_line.new.source)) c.in-Ok-true.field-0-test next.0 in
     let (dropped, drains, given, (counted, leaves)) = c.leave.ensures.bytes in
     let line = c.requires.takes _ _ _ _ _ _ _ _ c.in-Ok-Some.ensures in
-    refuses _ start c.requires.laws bytes more _ (g.S.Source.left c.next_line.new.source) _ c.next_line.new.feed _ _ c.next_line.new.writer _ _ (g.K.Sink.taken c.next_line.new.sink) (c.lines.invariant.told start at bytes known) takes moves next.1
+    refuses _ start c.requires.laws bytes more _ (g.S.Source.left c.next_line.new.source) _ c.next_line.new.feed _ _ c.next_line.new.writer _ _ (g.K.Sink.taken c.next_line.new.sink) (c.lines.invariant.told start at bytes known) takes _ c.in-Ok-true.field-0-test next
     c.take_line.new.arg2 c.take_line.new.arg4 (g.K.Sink.taken c.take_line.new.arg5) c.in-Ok-Some.status c.leave.result dropped (g.S.Source.left c.leave.new.source) (g.K.Sink.taken c.leave.new.sink) drains
     (λ is. let many = c.leave.ensures.long.0 is in omega (arith, many, counted)) (rw c.is_last-last.ensures at leaves)
     (λ so_far was stands. rw (c.in-Ok-Some.field-0-is, c.current.ensures.bytes, c.current.ensures.number) at (line.bytes so_far was stands))
@@ -145,8 +140,7 @@ returns-in-Ok-Some-clause-memory g c = λ start at wants bytes known.
 pub returns-in-Ok-Some-clause-too_long : goal.returns-in-Ok-Some-clause-too_long
 returns-in-Ok-Some-clause-too_long g c =
     let (more, takes, rises, next) = c.in-Ok-true.ensures.bytes in
-    let moves = subst (Moves c.lines.feed c.next_line.new.feed (c.lines.feed.pending ++ more) (g.S.Source.left c.next_line.new.source)) c.in-Ok-true.field-0-test next.0 in
-    let moved = moved_taken c.lines.feed c.next_line.new.feed more (g.S.Source.left c.next_line.new.source) moves in
+    let moved = moved_taken c.lines.feed c.next_line.new.feed more (g.S.Source.left c.next_line.new.source) _ c.in-Ok-true.field-0-test next.0 in
     let (dropped, drains, given, (counted, leaves)) = c.leave.ensures.bytes in (
       λ is. let many = c.leave.ensures.long.0 is in omega (arith, c.lines.invariant.given, rises, moved.0, given, counted, many),
       λ much. c.leave.ensures.long.1 (omega (arith, c.lines.invariant.given, rises, moved.0, given, counted, much)),
@@ -155,9 +149,8 @@ returns-in-Ok-Some-clause-too_long g c =
 pub returns-in-Err-take_line-clause-bytes : goal.returns-in-Err-take_line-clause-bytes
 returns-in-Err-take_line-clause-bytes g c = λ start at bytes known.
     let (more, takes, rises, next) = c.in-Ok-true.ensures.bytes in
-    let moves = subst (Moves c.lines.feed c.next_line.new.feed (c.lines.feed.pending ++ more) (g.S.Source.left c.next_line.new.source)) c.in-Ok-true.field-0-test next.0 in
     let line = c.requires.takes _ _ _ _ _ _ _ _ c.in-Err-take_line.ensures in
-    fails _ start c.requires.laws bytes more _ (g.S.Source.left c.next_line.new.source) _ c.next_line.new.feed _ _ c.next_line.new.writer _ _ (g.K.Sink.taken c.next_line.new.sink) (c.lines.invariant.told start at bytes known) takes moves next.1
+    fails _ start c.requires.laws bytes more _ (g.S.Source.left c.next_line.new.source) _ c.next_line.new.feed _ _ c.next_line.new.writer _ _ (g.K.Sink.taken c.next_line.new.sink) (c.lines.invariant.told start at bytes known) takes _ c.in-Ok-true.field-0-test next
     c.take_line.new.arg2 c.take_line.new.arg4 (g.K.Sink.taken c.take_line.new.arg5) c.in-Err-take_line.field-0
     (λ so_far was stands. rw (c.current.ensures.bytes, c.current.ensures.number) at (line.bytes so_far was stands))
 
