@@ -3,7 +3,7 @@ use Rattle.std.proofs.Common.{◌≡◌, ◌∙◌, ap, sym, refl, subst, inl, i
 use Rattle.std.specs.Prelude.{◌⊎◌}
 use Rattle.std.proofs.lemmas.Bool.Decides.{nat_tests}
 use Rattle.mt_ports.specs.declared.status.Failed.{Failed}
-use Rattle.mt_ports.specs.declared.status.Status.{Status}
+use Rattle.mt_stream.specs.declared.ending.Stop.{Stop}
 use Rattle.mt_ports.specs.declared.status.Status.TheVariants.{BadText, Done}
 use Rattle.mt_text.specs.declared.place.Place.{Place}
 use Rattle.mt_dump.specs.Line.{fault_at as dump_fault_at}
@@ -59,7 +59,7 @@ proc_laws = record {
 
 -- ---- a run that goes on
 
-pub goes_with : (P Q : Type 0) (result : Result (Option Status) Failed) → Q → IfGoesOn result P → IfGoesOn result (P × Q)
+pub goes_with : (P Q : Type 0) (result : Result (Option Stop) Failed) → Q → IfGoesOn result P → IfGoesOn result (P × Q)
 goes_with P Q (Ok None) kept holds = (holds, kept)
-goes_with P Q (Ok (Some status)) kept holds = tt
+goes_with P Q (Ok (Some stop)) kept holds = tt
 goes_with P Q (Err failed) kept holds = tt

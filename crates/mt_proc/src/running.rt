@@ -8,7 +8,7 @@ ghost use Rattle.mt_regs.specs.Agreement.{first_refusal};
 ghost use Rattle.mt_dump.specs.ForProcessors.{files_for, has_each};
 ghost use Rattle.mt_machine.specs.Machine.{Machine};
 ghost use Rattle.mt_stream.specs.Handling.{Taken, out};
-ghost use Rattle.mt_stream.specs.Lines.{IfGoesOn, IsEnding, Leading, Path, Takes, from_line};
+ghost use Rattle.mt_stream.specs.Lines.{IfGoesOn, Leading, Path, Takes, from_line};
 ghost use Rattle.mt_stream.specs.Runs.{EndsAs, Runs};
 ghost use Rattle.mt_proc.specs.After.{era_line};
 ghost use Rattle.mt_proc.specs.Listing.{listing};
@@ -28,7 +28,7 @@ use mt_ports::{Failed, Gate, Sink, Source, Status};
 use mt_regs::{RegFile, first_refusal};
 use mt_rendezvous::Caller;
 use mt_script::{Offence, ScriptFault, ScriptReason, take_dump_line};
-use mt_stream::{End, LineRun, close, run_lines, tell};
+use mt_stream::{End, LineRun, Stop, close, run_lines, tell};
 use mt_text::{Line, Place};
 use std::alloc::Global;
 use std::sync::Wait;
@@ -74,27 +74,26 @@ fn begin<K: Sink>(
     dump: &Dump,
     writer: &mut Writer,
     sink: &mut K,
-) -> Result<Option<Status>, Failed>
+) -> Result<Option<Stop>, Failed>
     requires some { 0 < cpus }
     requires few { cpus ≤ 16 }
     requires dump { IsDump run.old }
     requires each { has_each cpus dump.now ≡ true }
     ensures bytes { (from : Leading) (number : ℕ) → LeadsBy cpus from (begins dump.now (first_refusal dump.now.files)) number
         → Takes (StandsAt cpus run.new) from number [] writer.old writer.new (K.taken sink.old) (K.taken sink.new) result }
-    ensures asks { result ≡ Ok (Some Status.NoMemory) → first_refusal dump.now.files ≡ None }
+    ensures asks { result ≡ Ok (Some Stop.NoMemory) → first_refusal dump.now.files ≡ None }
     ensures starts { (m : Machine) → run.new ≡ Run.Requests m → m ≡ idling (files_for cpus dump.now) 0 }
-    ensures ending { (status : Status) → result ≡ Ok (Some status) → IsEnding status }
     ensures counts { (most : ℕ) → IfGoesOn result (HasCount most run.new) }
     ensures cause { HasCause (K.faults sink.old) (K.faults sink.new) result }
 {
     dump.is_dump(); // a fact for the proof
     if let Some((k, fault)) = first_refusal(dump.files.as_slice()) {
         let line = dump_refused_line(dump.version, k, &fault);
-        return tell(writer, sink, line.as_slice(), Status::Refused);
+        return tell(writer, sink, line.as_slice(), Stop::Refused);
     }
     let files = dump.files_for(cpus);
     let Ok(processors) = Processors::new(alloc, files.as_slice()) else {
-        return Ok(Some(Status::NoMemory));
+        return Ok(Some(Stop::NoMemory));
     };
     *run = Run::Requests(processors);
     Ok(None)
@@ -108,13 +107,12 @@ fn take_request<R: Threads + Wait + Sync, K: Sink, G: Gate>(
     line: &Line<'_>,
     writer: &mut Writer,
     sink: &mut K,
-) -> Result<Option<Status>, Failed>
+) -> Result<Option<Stop>, Failed>
     requires { (served processors.old).count < 2 ^ 64 - 1 }
     ensures bytes { (cpus : ℕ) (from : Leading) (number : ℕ) (so_far : List ℕ) → AllServe cpus (Run.Requests processors.old) →
         LeadsBy cpus from (of_request (served processors.old) (request_of line.now.number line.now.bytes.now)) number
         → Takes (StandsAt cpus (Run.Requests processors.new)) from number so_far writer.old writer.new (K.taken sink.old) (K.taken sink.new) result }
-    ensures asks { result ≢ Ok (Some Status.NoMemory) }
-    ensures ending { (status : Status) → result ≡ Ok (Some status) → IsEnding status }
+    ensures asks { result ≢ Ok (Some Stop.NoMemory) }
     ensures counts { (most : ℕ) → (served processors.old).count ≤ most → IfGoesOn result ((served processors.new).count ≤ most + 1) }
     ensures cause { HasCause (K.faults sink.old) (K.faults sink.new) result }
 {
@@ -131,12 +129,12 @@ fn take_request<R: Threads + Wait + Sync, K: Sink, G: Gate>(
             writer,
             sink,
             request_fault_line(&fault).as_slice(),
-            Status::BadText,
+            Stop::BadText,
         ),
     }
 }
 
-// Takes a line. There is a status where the run ends with it.
+// Takes a line. It returns a stop if the run ends with it.
 fn take_line<R: Threads + Wait + Sync, K: Sink, G: Gate>(
     caller: &Caller<R, G>,
     alloc: Global,
@@ -145,14 +143,13 @@ fn take_line<R: Threads + Wait + Sync, K: Sink, G: Gate>(
     line: &Line<'_>,
     writer: &mut Writer,
     sink: &mut K,
-) -> Result<Option<Status>, Failed>
+) -> Result<Option<Stop>, Failed>
     requires some { 0 < cpus }
     requires few { cpus ≤ 16 }
     requires room { HasRoom run.old }
     ensures bytes { (so_far : List ℕ) (was : Path) → StandsAt cpus run.old so_far was →
         Takes (StandsAt cpus run.new) (from_line line.now.number line.now.bytes.now was) (line.now.number + 1) so_far writer.old writer.new (K.taken sink.old) (K.taken sink.new) result }
-    ensures asks { (p : Point) → IsAt run.old p → result ≡ Ok (Some Status.NoMemory) → AsksAt cpus p line.now.number line.now.bytes.now }
-    ensures ending { (status : Status) → result ≡ Ok (Some status) → IsEnding status }
+    ensures asks { (p : Point) → IsAt run.old p → result ≡ Ok (Some Stop.NoMemory) → AsksAt cpus p line.now.number line.now.bytes.now }
     ensures counts { (most : ℕ) → HasCount most run.old → IfGoesOn result (HasCount (most + 1) run.new) }
     ensures cause { HasCause (K.faults sink.old) (K.faults sink.new) result }
 {
@@ -169,7 +166,7 @@ fn take_line<R: Threads + Wait + Sync, K: Sink, G: Gate>(
             writer,
             sink,
             offence_line(&offence).as_slice(),
-            Status::BadText,
+            Stop::BadText,
         ),
     }
 }

@@ -3,7 +3,7 @@ use Rattle.std.proofs.Common.{◌≡◌, ◌∙◌, ap, sym, refl, subst, inr, �
 use Rattle.std.specs.Prelude.{MatchOption, MatchResult}
 use Rattle.mt_ports.specs.Puts.{AppendsFront}
 use Rattle.mt_ports.specs.declared.status.Failed.{Failed}
-use Rattle.mt_ports.specs.declared.status.Status.{Status}
+use Rattle.mt_stream.specs.declared.ending.Stop.{Stop}
 use Rattle.mt_ports.specs.declared.status.Status.TheVariants.{Refused}
 use Rattle.mt_output.specs.Writing.{Passes}
 use Rattle.mt_output.specs.Lines.{accepted_line, dump_refused_line}
@@ -97,7 +97,7 @@ pub leads : (s : ReplayState) (c : Command) (number : ℕ) (line : List ℕ) →
 leads s c number line asked end lines = from_body s number line end lines ∙ ap (told_command s (body_lines end (number + 1) lines)) asked
 
 module _ (s new : ReplayState) (c : Command) (number : ℕ) (line : List ℕ) (is : IsReplayState s) (fits : Fits s.now c) (asked : command_of s.now number line ≡ Ok c) where
-  pub command_takes : (waiting left : List ℕ) (a b : Option (List ℕ)) (result : Result (Option Status) Failed) → CarriesOut s new c waiting left a b result → ((status : Status) → result ≡ Ok (Some status) → AsksForMemory s.machine c)
+  pub command_takes : (waiting left : List ℕ) (a b : Option (List ℕ)) (result : Result (Option Stop) Failed) → CarriesOut s new c waiting left a b result → ((stop : Stop) → result ≡ Ok (Some stop) → AsksForMemory s.machine c)
       → (came : Bool) (so_far : List ℕ) → IsQuiet (run.Body s) came so_far → Takes (StandsAt (run.Body new)) (leading came so_far number line (in_body s)) (number + 1) so_far waiting left a b result
   command_takes waiting left a b (Ok None) does asks came so_far quiet = record {
     next = path_from (came || is_newcomer c) (so_far ++ command_text s c) (in_body (state_after s c));
@@ -117,10 +117,10 @@ module _ (s new : ReplayState) (c : Command) (number : ℕ) (line : List ℕ) (i
     where
       later : IsQuiet (run.Body (state_after s c)) (came || is_newcomer c) (so_far ++ command_text s c)
       later takes = let was = quiet_command s c fits takes in ap (λ l. so_far ++ l) was.1 ∙ append-nil so_far ∙ quiet was.0
-  command_takes waiting left a b (Ok (Some status)) does asks came so_far quiet =
+  command_takes waiting left a b (Ok (Some stop)) does asks came so_far quiet =
       inr (record {
         refused = does.0;
-        early = λ end lines. early_front (came || newcomers_from number (line ∷ lines) (in_body s)) so_far (from_line number line (in_body s) end lines).text (asked_early lines (asks status refl));
+        early = λ end lines. early_front (came || newcomers_from number (line ∷ lines) (in_body s)) so_far (from_line number line (in_body s) end lines).text (asked_early lines (asks stop refl));
         waits = does.1;
         kept = does.2;
       })
@@ -140,10 +140,10 @@ module _ (s new : ReplayState) (c : Command) (number : ℕ) (line : List ℕ) (i
     failed = does;
   }
 
-  pub command_eras : (most : ℕ) (waiting left : List ℕ) (a b : Option (List ℕ)) (result : Result (Option Status) Failed) → HasEras most s → CarriesOut s new c waiting left a b result
-      → MatchResult result (λ ended. MatchOption ended (HasEras (most + 1) new) (λ status. Unit {0})) (λ failed. Unit {0})
+  pub command_eras : (most : ℕ) (waiting left : List ℕ) (a b : Option (List ℕ)) (result : Result (Option Stop) Failed) → HasEras most s → CarriesOut s new c waiting left a b result
+      → MatchResult result (λ ended. MatchOption ended (HasEras (most + 1) new) (λ stop. Unit {0})) (λ failed. Unit {0})
   command_eras most waiting left a b (Ok None) eras does = subst (HasEras (most + 1)) (sym does.1) (eras_kept s c most is fits eras)
-  command_eras most waiting left a b (Ok (Some status)) eras does = tt
+  command_eras most waiting left a b (Ok (Some stop)) eras does = tt
   command_eras most waiting left a b (Err failed) eras does = tt
 
 pub fault_leads : (s : ReplayState) (number : ℕ) (line : List ℕ) (fault : ScriptFault) → command_of s.now number line ≡ Err fault → (end : Option Place) (lines : List (List ℕ))

@@ -4,7 +4,6 @@
 use Rattle.std.specs.Prelude.{ℕ, ◌≡◌, ◌||◌, ◌++◌, Bool, true, false, List, [], ◌∷◌, ⊤, MatchOption, MatchResult, Option, Result, None, Ok}
 use Rattle.mt_text.specs.declared.place.Place.{Place}
 use Rattle.mt_ports.specs.declared.status.Status.{Status}
-use Rattle.mt_ports.specs.declared.status.Status.TheVariants.{NoMemory}
 use Rattle.mt_ports.specs.declared.status.Failed.{Failed}
 use Rattle.mt_ports.specs.Puts.{AppendsFront}
 use Rattle.mt_output.specs.Lines.{accepted_line}
@@ -21,6 +20,8 @@ use Rattle.mt_dump.specs.Dumps.{Dump}
 use Rattle.mt_stream.specs.Lines.{Leading, Path, Running, running}
 use Rattle.mt_stream.specs.Runs.{AsksBy, RefusesMemory, RunsAs}
 use Rattle.mt_stream.specs.Told.{Told}
+use Rattle.mt_stream.specs.declared.ending.Stop.{Stop}
+use Rattle.mt_stream.specs.declared.ending.Stop.TheVariants.{NoMemory}
 use Rattle.mt_replay.specs.Kept.{HasEras}
 use Rattle.mt_replay.specs.Parts.{AsksForMemory}
 use Rattle.mt_replay.specs.ReplayState.{ReplayState, command_text, state_after}
@@ -72,16 +73,16 @@ IsQuiet (run.Head h) came text = (text ≡ []) × (came ≡ false)
 IsQuiet (run.Body r) came text = takes_windows r.now.stage ≡ true → text ≡ accepted_line
 
 -- A text went through the writer, and the run goes on; or a write failed, and a front of it was taken.
-abbrev pub Writes : List ℕ → List ℕ → List ℕ → Option (List ℕ) → Option (List ℕ) → Result (Option Status) Failed → Type 0
+abbrev pub Writes : List ℕ → List ℕ → List ℕ → Option (List ℕ) → Option (List ℕ) → Result (Option Stop) Failed → Type 0
 Writes waiting text left before after result =
     MatchResult result (λ ended. (ended ≡ None) × Passes waiting text left before after) (λ _. AppendsFront before after (waiting ++ text))
 
 -- A command was done: its text went through the writer, and its state stands. For want of memory nothing was done, and
 -- after a failed write a front of the text was taken.
-abbrev pub CarriesOut : ReplayState → ReplayState → Command → List ℕ → List ℕ → Option (List ℕ) → Option (List ℕ) → Result (Option Status) Failed → Type 0
+abbrev pub CarriesOut : ReplayState → ReplayState → Command → List ℕ → List ℕ → Option (List ℕ) → Option (List ℕ) → Result (Option Stop) Failed → Type 0
 CarriesOut s new c waiting left before after result =
     MatchResult result
-    (λ ended. MatchOption ended (Passes waiting (command_text s c) left before after × (new ≡ state_after s c)) (λ status. (status ≡ NoMemory) × (left ≡ waiting) × (after ≡ before)))
+    (λ ended. MatchOption ended (Passes waiting (command_text s c) left before after × (new ≡ state_after s c)) (λ stop. (stop ≡ NoMemory) × (left ≡ waiting) × (after ≡ before)))
     (λ failed. AppendsFront before after (waiting ++ command_text s c))
 
 -- where lines stand at this point, behind a text, and whether a processor came up before

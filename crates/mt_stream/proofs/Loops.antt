@@ -13,6 +13,8 @@ use Rattle.mt_stream.specs.Lines.{Closes, Leaves, Path, Running, TakesAnywhere, 
 use Rattle.mt_stream.specs.Runs.{RefusedAtLine}
 use Rattle.mt_stream.specs.Told.{Telling, transcript}
 use Rattle.mt_stream.specs.declared.ending.End.{End}
+use Rattle.mt_stream.specs.declared.ending.Stop.{Stop}
+use Rattle.mt_stream.specs.declared.ending.Stop.TheVariants as stopped
 use Rattle.mt_stream.proofs.Telling.{HasLine, UnderWay, closes, ends_with_memory, line_ends, line_fails, line_goes_last, line_goes_on, line_refused, line_wants, moves_line}
 
 -- A loop has moved on to a line.
@@ -34,19 +36,19 @@ module _ (R : Running) (start : Path) (laws : AreLaws R) (bytes more : List ℕ)
     fails failed does = line_fails R start laws bytes left new now later a c here d (does here.text here.point here.at)
 
     -- it ends with that line
-    module _ (status result : Status) (dropped : List ℕ) (source_after e : Option (List ℕ)) (drains : Consumes left source_after dropped) (long : result ≡ TooLong → 16777216 < taken new + length dropped)
-        (leaves : Leaves status (is_last new) dropped source_after after d e result) (does : TakesAnywhere (R.At now) (R.At run) new.line.number new.line.bytes later after c d (Ok (Some status))) where
+    module _ (stop : Stop) (result : Status) (dropped : List ℕ) (source_after e : Option (List ℕ)) (drains : Consumes left source_after dropped) (long : result ≡ TooLong → 16777216 < taken new + length dropped)
+        (leaves : Leaves stop (is_last new) dropped source_after after d e result) (does : TakesAnywhere (R.At now) (R.At run) new.line.number new.line.bytes later after c d (Ok (Some stop))) where
       pub ends : RunsOn start bytes source_after a e result
       ends = elim (does here.text here.point here.at) [
-        | inl ended ↦ line_ends R start laws bytes left new now later a c here status result dropped after source_after d e drains long leaves ended
-        | inr wants ↦ line_wants R start laws bytes left new now later a c here status result dropped after source_after d e drains long leaves wants
+        | inl ended ↦ line_ends R start laws bytes left new now later a c here stop result dropped after source_after d e drains long leaves ended
+        | inr wants ↦ line_wants R start laws bytes left new now later a c here stop result dropped after source_after d e drains long leaves wants
       ]
 
-      pub refuses : (Asks : Telling → ℕ → List ℕ → Type 0) → (status ≡ NoMemory → (so_far : List ℕ) (was : Path) → R.At now so_far was → Asks (tells_of was) new.line.number new.line.bytes)
+      pub refuses : (Asks : Telling → ℕ → List ℕ → Type 0) → (stop ≡ stopped.NoMemory → (so_far : List ℕ) (was : Path) → R.At now so_far was → Asks (tells_of was) new.line.number new.line.bytes)
           → result ≡ NoMemory → RefusedAtLine (tells_of start) Asks bytes source_after a e
       refuses Asks asks none = elim (does here.text here.point here.at) [
-        | inl ended ↦ absurd (ends_with_memory R start laws bytes left new now later a c here status result dropped after source_after d e drains long leaves ended none)
+        | inl ended ↦ absurd (ends_with_memory R start laws bytes left new now later a c here stop result dropped after source_after d e drains long leaves ended none)
         | inr wants ↦
-            line_refused R start laws bytes left new now later a c here status result dropped after source_after d e drains long leaves Asks none wants.refused wants.waits wants.kept
+            line_refused R start laws bytes left new now later a c here stop result dropped after source_after d e drains long leaves Asks none wants.refused wants.waits wants.kept
             (asks wants.refused here.text here.point here.at)
       ]

@@ -1,41 +1,42 @@
 -- What a run makes of one line.
 use Rattle.std.proofs.Common.{◌≡◌, ◌∙◌, ap, sym, subst, inl, inr, ℕ, List, [], ◌++◌, Option, None, Some, Result, Ok, Err, append-nil, append_assoc}
-use Rattle.std.specs.Prelude.{◌⊎◌, IfOk}
+use Rattle.std.specs.Prelude.{◌≢◌, IfOk}
 use Rattle.std.specs.Io.KnownBytes.{Appends}
 use Rattle.std.proofs.KnownBytes.{Appends-trans}
 use Rattle.mt_ports.specs.declared.status.Failed.{Failed}
 use Rattle.mt_ports.specs.declared.status.Status.{Status}
-use Rattle.mt_ports.specs.declared.status.Status.TheVariants.{BadText, Refused}
 use Rattle.mt_output.specs.Writing.{Adds, Passes}
 use Rattle.mt_output.proofs.Writing.{adds_after}
 use Rattle.mt_text.specs.declared.place.Place.{Place}
 use Rattle.mt_stream.specs.Laws.{IsLongLed, IsLongTold}
-use Rattle.mt_stream.specs.Lines.{Closes, Leading, Leads, Path, Takes, early_at}
+use Rattle.mt_stream.specs.Lines.{Closes, Leading, Leads, Path, Takes, early_at, stop_status}
 use Rattle.mt_stream.specs.Told.{Telling, Told, told}
 use Rattle.mt_stream.specs.declared.ending.End.{End}
+use Rattle.mt_stream.specs.declared.ending.Stop.{Stop}
+use Rattle.mt_stream.specs.declared.ending.Stop.TheVariants.{NoMemory}
 
 -- a last text was written, or failed
-pub takes_last : (At : List ℕ → Path → Type 0) (from : Leading) (number : ℕ) (so_far text waiting left : List ℕ) (status : Status) (a b : Option (List ℕ)) (result : Result (Option Status) Failed)
-    → ((end : Option Place) (lines : List (List ℕ)) → (from end lines).tells ≡ told text status) → (status ≡ Refused) ⊎ (status ≡ BadText) → Adds waiting text left a b result → IfOk result (λ ended. ended ≡ Some status)
+pub takes_last : (At : List ℕ → Path → Type 0) (from : Leading) (number : ℕ) (so_far text waiting left : List ℕ) (stop : Stop) (a b : Option (List ℕ)) (result : Result (Option Stop) Failed)
+    → ((end : Option Place) (lines : List (List ℕ)) → (from end lines).tells ≡ told text (stop_status stop)) → stop ≢ NoMemory → Adds waiting text left a b result → IfOk result (λ ended. ended ≡ Some stop)
     → Takes At from number so_far waiting left a b result
-takes_last At from number so_far text waiting left status a b (Ok None) stops one adds is = absurd (cc is)
-takes_last At from number so_far text waiting left status a b (Ok (Some answer)) stops one adds is =
-    let same : answer ≡ status = cc is in
-    inl (record { telling = told text status; stops = stops; status_is = same; last = subst (λ (s : Status). (s ≡ Refused) ⊎ (s ≡ BadText)) (sym same) one; passed = adds })
-takes_last At from number so_far text waiting left status a b (Err failed) stops one adds is = record {
+takes_last At from number so_far text waiting left stop a b (Ok None) stops last adds is = absurd (cc is)
+takes_last At from number so_far text waiting left stop a b (Ok (Some answer)) stops last adds is =
+    let same : answer ≡ stop = cc is in
+    inl (record { telling = told text (stop_status stop); stops = stops; status_is = ap stop_status same; last = λ none. last (sym same ∙ none); passed = adds })
+takes_last At from number so_far text waiting left stop a b (Err failed) stops last adds is = record {
   text = text;
   front = λ end lines. ([], ap (λ (t : Told). t.text) (stops end lines) ∙ sym (append-nil text));
   failed = adds;
 }
 
 -- the same, where the line and those behind it lead to as much
-pub takes_same : (At : List ℕ → Path → Type 0) (from other : Leading) (number : ℕ) (so_far waiting left : List ℕ) (a b : Option (List ℕ)) (result : Result (Option Status) Failed)
+pub takes_same : (At : List ℕ → Path → Type 0) (from other : Leading) (number : ℕ) (so_far waiting left : List ℕ) (a b : Option (List ℕ)) (result : Result (Option Stop) Failed)
     → ((end : Option Place) (lines : List (List ℕ)) → other end lines ≡ from end lines) → Takes At from number so_far waiting left a b result → Takes At other number so_far waiting left a b result
 takes_same At from other number so_far waiting left a b (Ok None) same g =
     record { next = g.next; at = g.at; text = g.text; goes = λ end lines. same end lines ∙ g.goes end lines; passed = g.passed }
-takes_same At from other number so_far waiting left a b (Ok (Some status)) same (inl e) =
+takes_same At from other number so_far waiting left a b (Ok (Some stop)) same (inl e) =
     inl (record { telling = e.telling; stops = λ end lines. ap (λ (x : Leads). x.tells) (same end lines) ∙ e.stops end lines; status_is = e.status_is; last = e.last; passed = e.passed })
-takes_same At from other number so_far waiting left a b (Ok (Some status)) same (inr w) =
+takes_same At from other number so_far waiting left a b (Ok (Some stop)) same (inr w) =
     inr (record { refused = w.refused; early = λ end lines. let (rest, is) = w.early end lines in (rest, ap (λ (x : Leads). x.early) (same end lines) ∙ is); waits = w.waits; kept = w.kept })
 takes_same At from other number so_far waiting left a b (Err failed) same f = record {
   text = f.text;

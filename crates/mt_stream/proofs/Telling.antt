@@ -1,6 +1,6 @@
 -- What a run tells, line by line.
 use Rattle.std.proofs.Common.{◌≡◌, ◌∙◌, ap, sym, refl, subst, arith, inl, inr, ℕ, ◌+◌, ◌≤◌, ◌<◌, nat_lt, Bool, true, false, List, [], ◌∷◌, ◌++◌, length, take, drop, Option, None, Some, Result, Ok, Err, append_assoc, append-nil, ◌==◌}
-use Rattle.std.specs.Prelude.{◌⊎◌, ◌&&◌, not}
+use Rattle.std.specs.Prelude.{◌≢◌, ◌⊎◌, ◌&&◌, not}
 use Rattle.std.specs.Io.KnownBytes.{Appends, Consumes, IsAtEnd}
 use Rattle.std.proofs.KnownBytes.{Appends-nil, Appends-trans}
 use Rattle.std.proofs.lemmas.Bool.Decides.{nat_tests}
@@ -20,12 +20,14 @@ use Rattle.mt_text.proofs.Feeding.{front_within, unknown_few}
 use Rattle.mt_text.proofs.Fronts.{last_front, long_front, place_of_front}
 use Rattle.mt_stream.specs.Known.{known_part, known_text}
 use Rattle.mt_stream.specs.Laws.{AreLaws, IsLongLed}
-use Rattle.mt_stream.specs.Lines.{Closes, CutShort, Ends, Fails, GoesOn, Leads, Leaves, Path, Running, Wants, closed_status, cut_status, early_of, from_line, leads_behind, tells_of}
+use Rattle.mt_stream.specs.Lines.{Closes, CutShort, Ends, Fails, GoesOn, Leads, Leaves, Path, Running, Wants, closed_status, cut_status, early_of, from_line, leads_behind, stop_status, tells_of}
 use Rattle.mt_stream.specs.Handling.{RunsOn}
 use Rattle.mt_stream.specs.Runs.{RefusedAtLine}
 use Rattle.mt_stream.specs.Told.{Telling, Told, behind, transcript}
 use Rattle.mt_stream.specs.declared.ending.End.{End}
 use Rattle.mt_stream.specs.declared.ending.End.TheVariants as text_end
+use Rattle.mt_stream.specs.declared.ending.Stop.{Stop}
+use Rattle.mt_stream.specs.declared.ending.Stop.TheVariants as stopped
 use Rattle.mt_stream.specs.declared.running.Cut.{Cut}
 use Rattle.mt_stream.specs.declared.running.Cut.TheVariants as cut
 use Rattle.mt_stream.proofs.Fronts.{ended_known, ended_lines, long_lines, unknown_part}
@@ -68,19 +70,30 @@ pub none_left : (left : Option (List ℕ)) (rest : List ℕ) → left ≡ Some r
 none_left left rest is end = subst IsAtEnd is end
 
 -- memory is refused where the line that ends a run was
-pub refused_line : (status : Status) (last : Bool) (more : List ℕ) (left : Option (List ℕ)) (waiting : List ℕ) (a b : Option (List ℕ)) (result : Status) → Leaves status last more left waiting a b result → result ≡ NoMemory → status ≡ NoMemory
-refused_line status last more left waiting a b result (inl unwritten) is = let e : NoMemory ≡ WriteFault = sym is ∙ unwritten.0 in absurd (cc e)
-refused_line status last more left waiting a b result (inr (put, inl kept)) is = sym kept.0 ∙ is
-refused_line status last more left waiting a b result (inr (put, inr (going, other, inl all))) is = sym all.0 ∙ is
-refused_line status last more left waiting a b result (inr (put, inr (going, other, inr (inl read)))) is = let e : NoMemory ≡ ReadFault = sym is ∙ read in absurd (cc e)
-refused_line status last more left waiting a b result (inr (put, inr (going, other, inr (inr much)))) is = let e : NoMemory ≡ TooLong = sym is ∙ much in absurd (cc e)
+wants_memory : (stop : Stop) → stop_status stop ≡ NoMemory → stop ≡ stopped.NoMemory
+wants_memory stopped.Refused is = cc is
+wants_memory stopped.BadText is = cc is
+wants_memory stopped.NoMemory is = refl
+
+pub refused_line : (stop : Stop) (last : Bool) (more : List ℕ) (left : Option (List ℕ)) (waiting : List ℕ) (a b : Option (List ℕ)) (result : Status) → Leaves stop last more left waiting a b result → result ≡ NoMemory → stop ≡ stopped.NoMemory
+refused_line stop last more left waiting a b result (inl unwritten) is = let e : NoMemory ≡ WriteFault = sym is ∙ unwritten.0 in absurd (cc e)
+refused_line stop last more left waiting a b result (inr (put, inl kept)) is = wants_memory stop (sym kept.0 ∙ is)
+refused_line stop last more left waiting a b result (inr (put, inr (going, other, inl all))) is = wants_memory stop (sym all.0 ∙ is)
+refused_line stop last more left waiting a b result (inr (put, inr (going, other, inr (inl read)))) is = let e : NoMemory ≡ ReadFault = sym is ∙ read in absurd (cc e)
+refused_line stop last more left waiting a b result (inr (put, inr (going, other, inr (inr much)))) is = let e : NoMemory ≡ TooLong = sym is ∙ much in absurd (cc e)
 
 -- all that waited went to the sink then, and nothing more was read
-refused_leaves : (status : Status) (last : Bool) (more : List ℕ) (left : Option (List ℕ)) (waiting : List ℕ) (a b : Option (List ℕ)) (result : Status) → Leaves status last more left waiting a b result → result ≡ NoMemory → status ≡ NoMemory
+refused_leaves : (stop : Stop) (last : Bool) (more : List ℕ) (left : Option (List ℕ)) (waiting : List ℕ) (a b : Option (List ℕ)) (result : Status) → Leaves stop last more left waiting a b result → result ≡ NoMemory → stop ≡ stopped.NoMemory
     → Appends a b waiting × (more ≡ [])
-refused_leaves status last more left waiting a b result (inl unwritten) is wants = let e : NoMemory ≡ WriteFault = sym is ∙ unwritten.0 in absurd (cc e)
-refused_leaves status last more left waiting a b result (inr (put, inl kept)) is wants = (put, kept.2)
-refused_leaves status last more left waiting a b result (inr (put, inr (going, other, rest))) is wants = absurd (other wants)
+refused_leaves stop last more left waiting a b result (inl unwritten) is wants = let e : NoMemory ≡ WriteFault = sym is ∙ unwritten.0 in absurd (cc e)
+refused_leaves stop last more left waiting a b result (inr (put, inl kept)) is wants = (put, kept.2)
+refused_leaves stop last more left waiting a b result (inr (put, inr (going, other, rest))) is wants = absurd (other wants)
+
+-- another line that ends a run tells so
+told_so : (stop : Stop) → stop ≢ stopped.NoMemory → (stop_status stop ≡ Done) ⊎ (stop_status stop ≡ Refused) ⊎ (stop_status stop ≡ BadText)
+told_so stopped.Refused other = inr (inl refl)
+told_so stopped.BadText other = inr (inr refl)
+told_so stopped.NoMemory other = absurd (other refl)
 
 -- no cut refuses memory
 pub cut_has_memory : (why : Cut) → cut_status why ≡ NoMemory → ⊥
@@ -427,8 +440,8 @@ module _ (R : Running) (start : Path) (laws : AreLaws R) where
         let (rest, cut) = f.front (Some (end_of bytes)) from.0 in
         subst (AppendsFront a c) (ap (λ l. h.text ++ l) (sym cut) ∙ sym (ap (λ (x : Leads). x.tells.text) from.1)) (fails_then h.text waiting f.text rest a b c h.passed f.failed)
 
-    module _ (status result : Status) (more left : List ℕ) (source_after c d : Option (List ℕ)) (takes : Consumes source source_after more) (long : result ≡ TooLong → 16777216 < taken feed + length more)
-        (leaves : Leaves status (is_last feed) more source_after left c d result) where
+    module _ (stop : Stop) (result : Status) (more left : List ℕ) (source_after c d : Option (List ℕ)) (takes : Consumes source source_after more) (long : result ≡ TooLong → 16777216 < taken feed + length more)
+        (leaves : Leaves stop (is_last feed) more source_after left c d result) where
       took : (rest : List ℕ) × (source_after ≡ Some rest) × (h.rest ≡ more ++ rest)
       took = consumed h.rest more source_after (subst (λ o. Consumes o source_after more) h.is_left takes)
 
@@ -448,12 +461,12 @@ module _ (R : Running) (start : Path) (laws : AreLaws R) where
           ]
 
       -- memory was refused
-      pub line_wants : Wants (from_line feed.line.number feed.line.bytes h.point) h.text waiting left b c status → RunsOn start bytes source_after a d result
+      pub line_wants : Wants (from_line feed.line.number feed.line.bytes h.point) h.text waiting left b c stop → RunsOn start bytes source_after a d result
       line_wants w = elim leaves [
         | inl unwritten ↦ subst (RunsOn start bytes source_after a d) (sym unwritten.0) (subst (AppendsFront a d) (sym front_text.1) (fails_out h.text left front_text.0 a c d passed unwritten.1))
         | inr written ↦ elim written.1 [
           | inl kept ↦
-              subst (RunsOn start bytes source_after a d) (sym (kept.0 ∙ w.refused))
+              subst (RunsOn start bytes source_after a d) (sym (kept.0 ∙ ap stop_status w.refused))
               (before_early (passes_out h.text left a c d passed written.0), subst (AppendsFront a d) (sym front_text.1) (front_of h.text front_text.0 a d (passes_out h.text left a c d passed written.0)))
           | inr dropped ↦ absurd (dropped.1 w.refused)
         ]
@@ -469,9 +482,9 @@ module _ (R : Running) (start : Path) (laws : AreLaws R) where
               subst (AppendsFront a d) (sym (ap (λ (x : Leads). x.early) from.1 ∙ is)) (front_of h.text rest a d put)
 
       -- it was refused at this line
-      pub line_refused : (Asks : Telling → ℕ → List ℕ → Type 0) → result ≡ NoMemory → status ≡ NoMemory → left ≡ waiting → c ≡ b → Asks (tells_of h.point) feed.line.number feed.line.bytes
+      pub line_refused : (Asks : Telling → ℕ → List ℕ → Type 0) → result ≡ NoMemory → stop ≡ stopped.NoMemory → left ≡ waiting → c ≡ b → Asks (tells_of h.point) feed.line.number feed.line.bytes
           → RefusedAtLine (tells_of start) Asks bytes source_after a d
-      line_refused Asks none wants waits kept asks = by (refused_leaves status (is_last feed) more source_after left c d result leaves none wants)
+      line_refused Asks none wants waits kept asks = by (refused_leaves stop (is_last feed) more source_after left c d result leaves none wants)
         where
           by : Appends c d left × (more ≡ []) → RefusedAtLine (tells_of start) Asks bytes source_after a d
           by (put, no_more) =
@@ -493,7 +506,7 @@ module _ (R : Running) (start : Path) (laws : AreLaws R) where
               }
 
       -- an offence or a refused dump
-      module _ (e : Ends (from_line feed.line.number feed.line.bytes h.point) waiting left b c status) where
+      module _ (e : Ends (from_line feed.line.number feed.line.bytes h.point) waiting left b c stop) where
         abbrev t : Told
         t = e.telling
 
@@ -506,8 +519,8 @@ module _ (R : Running) (start : Path) (laws : AreLaws R) where
         unwritten : AppendsFront c d left → AppendsFront a d (transcript (tells_of start) bytes).text
         unwritten put = subst (AppendsFront a d) (append-nil (h.text ++ t.text) ∙ sym (ap (λ (x : Told). x.text) is)) (fails_out (h.text ++ t.text) left [] a c d passed put)
 
-        ended : Appends c d left → result ≡ status → source_after ≡ Some [] → RunsOn start bytes source_after a d result
-        ended put same read = tells_all bytes h.text source_after a d t is (passes_out (h.text ++ t.text) left a c d passed put) read result (same ∙ e.status_is) (subst (λ s. (s ≡ Done) ⊎ (s ≡ Refused) ⊎ (s ≡ BadText)) (sym same) (inr e.last))
+        ended : Appends c d left → result ≡ stop_status stop → source_after ≡ Some [] → RunsOn start bytes source_after a d result
+        ended put same read = tells_all bytes h.text source_after a d t is (passes_out (h.text ++ t.text) left a c d passed put) read result (same ∙ e.status_is) (subst (λ s. (s ≡ Done) ⊎ (s ≡ Refused) ⊎ (s ≡ BadText)) (sym same) (told_so stop e.last))
 
         known : is_last feed ≡ false → known_text (tells_of start) (h.lent ++ (h.seen ++ more)) ≡ h.text ++ t.text
         known going = elim (case bytes source feed now waiting a b h) [
@@ -518,14 +531,8 @@ module _ (R : Running) (start : Path) (laws : AreLaws R) where
           | inr last ↦ let x : false ≡ true = sym going ∙ last.0 in absurd (cc x)
         ]
 
-        no_memory : status ≡ NoMemory → (status ≡ Refused) ⊎ (status ≡ BadText) → ⊥
-        no_memory is one = elim one [
-          | inl refused ↦ let x : NoMemory ≡ Refused = sym is ∙ refused in cc x
-          | inr bad ↦ let x : NoMemory ≡ BadText = sym is ∙ bad in cc x
-        ]
-
         pub ends_with_memory : result ≡ NoMemory → ⊥
-        ends_with_memory none = no_memory (refused_line status (is_last feed) more source_after left c d result leaves none) e.last
+        ends_with_memory none = e.last (refused_line stop (is_last feed) more source_after left c d result leaves none)
 
         pub line_ends : RunsOn start bytes source_after a d result
         line_ends = elim leaves [
@@ -533,7 +540,7 @@ module _ (R : Running) (start : Path) (laws : AreLaws R) where
           | inr written ↦ elim written.1 [
             | inl kept ↦ elim kept.1 [
               | inl last ↦ ended written.0 kept.0 (nothing_left kept.2 last)
-              | inr wants ↦ absurd (no_memory wants e.last)
+              | inr wants ↦ absurd (e.last wants)
             ]
             | inr dropped ↦ elim dropped.2 [
               | inl all ↦ ended written.0 all.0 (took.1 ∙ ap Some (none_left source_after took.0 took.1 all.1))

@@ -10,10 +10,11 @@ use Rattle.mt_text.specs.declared.line.Line.{Line}
 use Rattle.mt_ports.specs.Causes.{HasCause}
 use Rattle.mt_ports.specs.declared.status.Failed.{Failed}
 use Rattle.mt_ports.specs.declared.status.Status.{Status}
-use Rattle.mt_ports.specs.declared.status.Status.TheVariants.{NoMemory}
-use Rattle.mt_stream.specs.Lines.{IfGoesOn, IsEnding, Path, Running, TakesAnywhere, early_of, tells_of}
+use Rattle.mt_stream.specs.Lines.{IfGoesOn, Path, Running, TakesAnywhere, early_of, tells_of}
 use Rattle.mt_stream.specs.Runs.{RefusedAtLine, Runs}
 use Rattle.mt_stream.specs.Told.{Telling}
+use Rattle.mt_stream.specs.declared.ending.Stop.{Stop}
+use Rattle.mt_stream.specs.declared.ending.Stop.TheVariants.{NoMemory}
 
 -- ---- a line
 
@@ -26,12 +27,11 @@ pub record Out : Type 0 where
 abbrev pub out : List ℕ → Option (List ℕ) → ℕ → Out
 out waiting taken faults = record { waiting = waiting; taken = taken; faults = faults }
 
-pub record Taken (R : Running) (was now : R.Run) (line : Line) (before after : Out) (result : Result (Option Status) Failed) : Type 0 where
+pub record Taken (R : Running) (was now : R.Run) (line : Line) (before after : Out) (result : Result (Option Stop) Failed) : Type 0 where
   pub bytes : TakesAnywhere (R.At was) (R.At now) line.number line.bytes.now before.waiting after.waiting before.taken after.taken result
   -- memory is refused at a line that asks for some, and the lines that ask stay the same
   pub asks : (so_far : List ℕ) (path : Path) → R.At was so_far path → result ≡ Ok (Some NoMemory) → R.Asks was (tells_of path) line.number line.bytes.now
   pub asks_stay : (told : Telling) (number : ℕ) (other : List ℕ) → R.Asks now told number other → R.Asks was told number other
-  pub ending : (status : Status) → result ≡ Ok (Some status) → IsEnding status
   pub ready : (most : ℕ) → R.Ready most was → IfGoesOn result (R.Ready (most + 1) now)
   pub cause : HasCause before.faults after.faults result
 
@@ -43,11 +43,11 @@ MayTake R {K} pre = (run : MutBor R.Run) (line : Bor Line) (w : MutBor (List ℕ
 
 -- what such a call leaves of the run, the writer and the sink
 abbrev pub Post : Type 0 → Type 0 → Type 1
-Post T K = MutBor T → Bor Line → MutBor (List ℕ) → MutBor K → Result (Option Status) Failed → MutBor T → MutBor (List ℕ) → MutBor K → Type 0
+Post T K = MutBor T → Bor Line → MutBor (List ℕ) → MutBor K → Result (Option Stop) Failed → MutBor T → MutBor (List ℕ) → MutBor K → Type 0
 
 abbrev pub TakesEach : (R : Running) {K : Type 0} → (K → Option (List ℕ)) → (K → ℕ) → Post R.Run K → Type 0
 TakesEach R {K} taken faults post =
-    (run : MutBor R.Run) (line : Bor Line) (w : MutBor (List ℕ)) (k : MutBor K) (result : Result (Option Status) Failed) (new : MutBor R.Run) (left : MutBor (List ℕ)) (sink : MutBor K)
+    (run : MutBor R.Run) (line : Bor Line) (w : MutBor (List ℕ)) (k : MutBor K) (result : Result (Option Stop) Failed) (new : MutBor R.Run) (left : MutBor (List ℕ)) (sink : MutBor K)
     → post run line w k result new left sink → Taken R run.now new.now line.now (out w.now (taken k.now) (faults k.now)) (out left.now (taken sink.now) (faults sink.now)) result
 
 -- ---- all lines

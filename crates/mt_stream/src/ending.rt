@@ -4,3 +4,11 @@ pub enum End {
     Done,
     BadText,
 }
+
+/// How a line ends a run.
+#[derive(Clone, Copy, PartialEq, Eq)]
+pub enum Stop {
+    Refused,
+    BadText,
+    NoMemory,
+}

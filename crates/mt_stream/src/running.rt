@@ -5,10 +5,10 @@ ghost use Rattle.mt_ports.specs.Causes.{HasCause, StatusHasCause};
 ghost use Rattle.mt_output.specs.Writing.{Adds};
 ghost use Rattle.mt_stream.specs.Handling.{MayTake, RefusesFrom, RunsFrom, TakesEach};
 ghost use Rattle.mt_stream.specs.Laws.{AreLaws};
-ghost use Rattle.mt_stream.specs.Lines.{Closes, IsEnding, Leaves, Next, Path, SinkHasCause, SourceHasCause, closed_status, cut_status, end_status, running};
+ghost use Rattle.mt_stream.specs.Lines.{Closes, Leaves, Next, Path, SinkHasCause, SourceHasCause, closed_status, cut_status, end_status, running, stop_status};
 ghost use Rattle.mt_stream.specs.Told.{told};
 
-use crate::{End, LineRun};
+use crate::{End, LineRun, Stop};
 use mt_output::Writer;
 use mt_ports::{Failed, Sink, Source, Status};
 use mt_text::{Feed, FeedFault, Line};
@@ -62,21 +62,21 @@ fn next_line<S: Source, K: Sink>(
     }
 }
 
-/// Writes a last text, and answers the status.
+/// Writes a last text, and returns how the line ends the run.
 pub fn tell<K: Sink>(
     writer: &mut Writer,
     sink: &mut K,
     text: &[u8],
-    status: Status,
-) -> Result<Option<Status>, Failed>
+    stop: Stop,
+) -> Result<Option<Stop>, Failed>
     requires { length text.now ≤ 224 }
     ensures bytes { Adds writer.old text.now writer.new (K.taken sink.old) (K.taken sink.new) result }
-    ensures status { IfOk result (λ ended. ended ≡ Some status) }
-    ensures answer { (answer : Status) → result ≡ Ok (Some answer) → answer ≡ status }
+    ensures stop { IfOk result (λ ended. ended ≡ Some stop) }
+    ensures answer { (answer : Stop) → result ≡ Ok (Some answer) → answer ≡ stop }
     ensures cause { HasCause (K.faults sink.old) (K.faults sink.new) result }
 {
     match writer.write(sink, text) {
-        Ok(()) => Ok(Some(status)),
+        Ok(()) => Ok(Some(stop)),
         Err(failed) => Err(failed),
     }
 }
@@ -116,20 +116,33 @@ fn closed_status(closed: Result<End, Failed>) -> Status
     }
 }
 
-// Ends a run with a status that a line gave it: writes all that waits, and drops what is left of
-// the source, unless that line was the last or memory was refused.
+// The status of a run that a line ends.
+fn stop_status(stop: Stop) -> Status
+    ensures value { result ≡ stop_status stop }
+    ensures usage { result ≢ Status.Usage }
+    ensures few { (result ≢ Status.TooFew) × (result ≢ Status.Disabled) }
+    ensures faults { (result ≢ Status.ReadFault) × (result ≢ Status.WriteFault) × (result ≢ Status.TooLong) }
+{
+    match stop {
+        Stop::Refused => Status::Refused,
+        Stop::BadText => Status::BadText,
+        Stop::NoMemory => Status::NoMemory,
+    }
+}
+
+// Ends a run as a line does: writes all that waits, and drops what is left of the source, unless
+// that line was the last or memory was refused.
 fn leave<S: Source, K: Sink>(
-    status: Status,
+    stop: Stop,
     last: bool,
     feed: &mut Feed,
     source: &mut S,
     writer: &mut Writer,
     sink: &mut K,
 ) -> Status
-    requires fault { feed.old.fault ≡ None }
-    requires status { IsEnding status }
+    requires { feed.old.fault ≡ None }
     ensures bytes { TakesMore (S.left source.old) (S.left source.new) (S.given source.old) (S.given source.new)
-        (λ more. (taken feed.new ≡ taken feed.old + length more) × Leaves status last more (S.left source.new) writer.old (K.taken sink.old) (K.taken sink.new) result) }
+        (λ more. (taken feed.new ≡ taken feed.old + length more) × Leaves stop last more (S.left source.new) writer.old (K.taken sink.old) (K.taken sink.new) result) }
     ensures long { (result ≡ Status.TooLong) ↔ (longest_input < taken feed.new) }
     ensures usage { result ≢ Status.Usage }
     ensures few { (result ≢ Status.TooFew) × (result ≢ Status.Disabled) }
@@ -140,17 +153,17 @@ fn leave<S: Source, K: Sink>(
     if let Err(_) = writer.flush(sink) {
         return Status::WriteFault;
     }
-    if last || status == Status::NoMemory {
-        return status;
+    if last || stop == Stop::NoMemory {
+        return stop_status(stop);
     }
     match feed.drain(source) {
-        Ok(()) => status,
+        Ok(()) => stop_status(stop),
         Err(fault) => cut_status(&Cut::Feed(fault)),
     }
 }
 
 /// Runs the lines of a source to their end, to a line that ends the run, or to a fault. Each line is
-/// taken by `take_line`, whose status ends the run.
+/// taken by `take_line`.
 pub fn run_lines<L, S, K, F>(
     take_line: F,
     run: &mut L,
@@ -162,7 +175,7 @@ where
     L: LineRun,
     S: Source,
     K: Sink,
-    F: Fn(&mut L, &Line<'_>, &mut Writer, &mut K) -> Result<Option<Status>, Failed>,
+    F: Fn(&mut L, &Line<'_>, &mut Writer, &mut K) -> Result<Option<Stop>, Failed>,
     requires waiting { writer.old ≡ [] }
     requires ready { L.ready 0 run.old }
     requires laws { AreLaws (running L.at L.ends L.asks L.ready) }
@@ -192,7 +205,7 @@ where
                     return closed_status(run.finish(feed.end(), writer, sink));
                 }
             }
-            Ok(Some(status)) => return leave(status, last, &mut feed, source, writer, sink),
+            Ok(Some(stop)) => return leave(stop, last, &mut feed, source, writer, sink),
             Err(_) => return Status::WriteFault,
         }
     }

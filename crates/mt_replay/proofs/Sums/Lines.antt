@@ -2,7 +2,7 @@
 use Rattle.std.proofs.Common.{false, ◌≡◌, ◌∙◌, ap, sym, refl, subst, arith, ℕ, ◌+◌, ◌^◌, ◌≤◌, ◌<◌, List, [], ◌∷◌, ◌++◌, append-nil, drop, Option, None, Some}
 use Rattle.mt_text.specs.Text.{end_of, lines_of}
 use Rattle.mt_text.specs.declared.place.Place.{Place}
-use Rattle.mt_ports.specs.declared.status.Status.{Status}
+use Rattle.mt_stream.specs.declared.ending.Stop.{Stop}
 use Rattle.mt_ports.specs.declared.status.Status.TheVariants.{Done}
 use Rattle.mt_output.specs.Lines.{offence_line}
 use Rattle.mt_output.specs.Writing.{Passes}
@@ -88,9 +88,9 @@ module _ (source : List ℕ) (at next number : ℕ) (bytes : List ℕ) (now : Ru
           last = h.last ∙ ap (λ ls. last_lines number ls h.last_point) cut ∙ lasts.same (lines_of (drop next source));
         }
 
-    pub summed_ends : (so_far : List ℕ) (status : Status) → Ends (leading false so_far number bytes h.point) waiting left (Some []) (Some []) status → LastsHere number bytes h.last_point later → at + 1 < 2 ^ 64
+    pub summed_ends : (so_far : List ℕ) (stop : Stop) → Ends (leading false so_far number bytes h.point) waiting left (Some []) (Some []) stop → LastsHere number bytes h.last_point later → at + 1 < 2 ^ 64
         → with_memory (with_text t left) (state_in later) ≡ summary source
-    summed_ends so_far status e lasts low =
+    summed_ends so_far stop e lasts low =
         let writes : Writes 1 e.telling.text = subst (λ (x : Told). Writes 1 x.text) (e.stops None []) (line_writes number bytes now h.point h.stands) in
         let counted : with_text t left ≡ with_text no_totals (h.text ++ e.telling.text) =
         ap (λ l. with_text t l) (waits e.telling.text waiting left none e.passed) ∙ ap (λ (x : Totals). with_text x e.telling.text) h.counted ∙ texts_both no_totals h.text e.telling.text h.whole in

@@ -1,5 +1,5 @@
 use Rattle.std.proofs.Common.{◌≡◌, ◌∙◌, ◌+◌, ap, inr, refl, sym, subst, ℕ, List, [], append-nil}
-use Rattle.mt_ports.specs.declared.status.Status.TheVariants.{BadText, NoMemory}
+use Rattle.mt_stream.specs.declared.ending.Stop.TheVariants.{BadText, NoMemory}
 use Rattle.mt_output.specs.Lines.{offence_line}
 use Rattle.mt_output.specs.Writing.{Adds}
 use Rattle.mt_output.proofs.Writing.{passes_nothing}
@@ -62,8 +62,8 @@ returns-in-Err-clause-bytes g c = λ so_far was stands.
     (λ (q : Path). Takes (StandsAt c.args.cpus (run.Dump c.take_dump_line.new.dump)) (from_line number line q) (number + 1) so_far c.args.writer.now c.tell.new.writer (g.K.Sink.taken c.args.sink.now) (g.K.Sink.taken c.tell.new.sink) c.tell.result)
     (sym is)
     (ends c.args.cpus (from_line number line (path_from c.args.cpus (in_dump before))) (number + 1) so_far (run.Dump c.take_dump_line.new.dump) c.args.writer.now c.tell.new.writer (g.K.Sink.taken c.args.sink.now) (g.K.Sink.taken c.tell.new.sink) (offence_line c.in-Err.offence) BadText c.tell.result
-    (leads_as c.args.cpus (from_line number line (path_from c.args.cpus (in_dump before))) (number + 1) (proc_step c.args.cpus number line (in_dump before)) (of_head (offends c.in-Err.offence)) (ap of_head step) (leads_by c.args.cpus (in_dump before) number line)) (inr refl)
-    (subst (λ l. Adds c.args.writer.now l c.tell.new.writer (g.K.Sink.taken c.args.sink.now) (g.K.Sink.taken c.tell.new.sink) c.tell.result) text c.tell.ensures.bytes) c.tell.ensures.status)
+    (leads_as c.args.cpus (from_line number line (path_from c.args.cpus (in_dump before))) (number + 1) (proc_step c.args.cpus number line (in_dump before)) (of_head (offends c.in-Err.offence)) (ap of_head step) (leads_by c.args.cpus (in_dump before) number line)) (λ is. cc is)
+    (subst (λ l. Adds c.args.writer.now l c.tell.new.writer (g.K.Sink.taken c.args.sink.now) (g.K.Sink.taken c.tell.new.sink) c.tell.result) text c.tell.ensures.bytes) c.tell.ensures.stop)
 
 pub returns-in-Requests-clause-bytes : goal.returns-in-Requests-clause-bytes
 returns-in-Requests-clause-bytes g c = λ so_far was stands.

@@ -1,5 +1,5 @@
 use Rattle.std.proofs.Common.{rules, ◌≡◌, ◌+◌, inr, refl, subst, Ok, Err}
-use Rattle.mt_ports.specs.declared.status.Status.TheVariants.{BadText, NoMemory}
+use Rattle.mt_stream.specs.declared.ending.Stop.TheVariants.{BadText, NoMemory}
 use Rattle.mt_output.specs.Lines.{offence_line}
 use Rattle.mt_script.specs.Accept.{Fits}
 use Rattle.mt_script.specs.Situation.{Situation}
@@ -31,8 +31,8 @@ pub returns-in-Err-clause-bytes : goal.returns-in-Err-clause-bytes
 returns-in-Err-clause-bytes g c = λ came so_far quiet.
     let is : command_of c.args.replayer.now.now c.args.line.now.number c.args.line.now.bytes.now ≡ Err c.in-Err.fault = search rules in
     takes_last (StandsAt (run.Body c.args.replayer.now)) (leading came so_far c.args.line.now.number c.args.line.now.bytes.now (in_body c.args.replayer.now)) (c.args.line.now.number + 1) so_far (offence_line (Script c.in-Err.fault)) c.args.writer.now c.tell_offence.new.writer BadText
-    (g.K.Sink.taken c.args.sink.now) (g.K.Sink.taken c.tell_offence.new.sink) c.tell_offence.result (fault_leads c.args.replayer.now c.args.line.now.number c.args.line.now.bytes.now c.in-Err.fault is) (inr refl)
-    c.tell_offence.ensures.bytes c.tell_offence.ensures.status
+    (g.K.Sink.taken c.args.sink.now) (g.K.Sink.taken c.tell_offence.new.sink) c.tell_offence.result (fault_leads c.args.replayer.now c.args.line.now.number c.args.line.now.bytes.now c.in-Err.fault is) (λ is. cc is)
+    c.tell_offence.ensures.bytes c.tell_offence.ensures.stop
 
 pub returns-in-Ok-clause-last : goal.returns-in-Ok-clause-last
 returns-in-Ok-clause-last g c =
@@ -44,7 +44,7 @@ returns-in-Ok-clause-last g c =
 pub returns-in-Err-clause-last : goal.returns-in-Err-clause-last
 returns-in-Err-clause-last g c =
     let is : command_of c.args.replayer.now.now c.args.line.now.number c.args.line.now.bytes.now ≡ Err c.in-Err.fault = search rules in
-    last_told c.args.line.now.number c.args.line.now.bytes.now (in_body c.args.replayer.now) (run.Body c.args.replayer.now) BadText c.tell_offence.result c.tell_offence.ensures.status
+    last_told c.args.line.now.number c.args.line.now.bytes.now (in_body c.args.replayer.now) (run.Body c.args.replayer.now) BadText c.tell_offence.result c.tell_offence.ensures.stop
     (fault_lasts c.args.replayer.now c.args.line.now.number c.args.line.now.bytes.now c.in-Err.fault is)
 
 pub returns-in-Ok-clause-asks : goal.returns-in-Ok-clause-asks

@@ -1,5 +1,5 @@
 use Rattle.std.proofs.Common.{◌≡◌, ◌∙◌, inr, sym, refl, subst, ◌+◌, ℕ, false, List, [], None, Ok}
-use Rattle.mt_ports.specs.declared.status.Status.TheVariants.{BadText, NoMemory}
+use Rattle.mt_stream.specs.declared.ending.Stop.TheVariants.{BadText, NoMemory}
 use Rattle.mt_output.specs.Lines.{offence_line}
 use Rattle.mt_script.specs.Head.{offends}
 use Rattle.mt_script.specs.Situation.{Situation}
@@ -56,8 +56,8 @@ returns-in-Err-clause-bytes g c = λ came so_far was at quiet.
     (sym is)
     (takes_last (StandsAt (run.Head c.take.new.self)) (leading came so_far c.args.line.now.number c.args.line.now.bytes.now (in_head c.in-Head.head.setup before)) (c.args.line.now.number + 1) so_far (offence_line c.in-Err.offence) c.args.writer.now c.tell_offence.new.writer BadText
     (g.K.Sink.taken c.args.sink.now) (g.K.Sink.taken c.tell_offence.new.sink) c.tell_offence.result
-    (head_leads c.in-Head.head.setup before c.args.line.now.number c.args.line.now.bytes.now (offends c.in-Err.offence) step) (inr refl)
-    c.tell_offence.ensures.bytes c.tell_offence.ensures.status)
+    (head_leads c.in-Head.head.setup before c.args.line.now.number c.args.line.now.bytes.now (offends c.in-Err.offence) step) (λ is. cc is)
+    c.tell_offence.ensures.bytes c.tell_offence.ensures.stop)
 
 pub returns-in-Ok-None-clause-last : goal.returns-in-Ok-None-clause-last
 returns-in-Ok-None-clause-last g c = λ was at.
@@ -80,7 +80,7 @@ returns-in-Err-clause-last g c = λ was at.
     let (before, read, is) = in_the_head c.args.run.now c.in-Head.head was c.in-Head.is at in
     let step = c.in-Err.ensures.step before read in
     subst (λ (p : Point). Lasts c.args.line.now.number c.args.line.now.bytes.now p (run.Head c.take.new.self) c.tell_offence.result) (sym is)
-    (last_told c.args.line.now.number c.args.line.now.bytes.now (in_head c.in-Head.head.setup before) (run.Head c.take.new.self) BadText c.tell_offence.result c.tell_offence.ensures.status
+    (last_told c.args.line.now.number c.args.line.now.bytes.now (in_head c.in-Head.head.setup before) (run.Head c.take.new.self) BadText c.tell_offence.result c.tell_offence.ensures.stop
     (head_offends c.in-Head.head.setup before c.args.line.now.number c.args.line.now.bytes.now c.in-Err.offence (run.Head c.take.new.self) step refl))
 
 pub returns-in-Ok-None-clause-asks : goal.returns-in-Ok-None-clause-asks

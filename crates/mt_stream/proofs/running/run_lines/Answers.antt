@@ -112,16 +112,13 @@ lines-preserved g c =
           (sym c.is_last-last.ensures ∙ c.if-last.false);
     }
 
-pub leave-requires-clause-status : goal.leave-requires-clause-status
-leave-requires-clause-status g c = (c.requires.takes _ _ _ _ _ _ _ _ c.in-Ok-Some.ensures).ending c.in-Ok-Some.status (ap Ok c.in-Ok-Some.field-0-is)
-
 pub returns-in-Ok-Some-clause-bytes : goal.returns-in-Ok-Some-clause-bytes
 returns-in-Ok-Some-clause-bytes g c = λ start at bytes known.
     let (more, takes, rises, next) = c.in-Ok-true.ensures.bytes in
     let (dropped, drains, given, (counted, leaves)) = c.leave.ensures.bytes in
     let line = c.requires.takes _ _ _ _ _ _ _ _ c.in-Ok-Some.ensures in
     ends _ start c.requires.laws bytes more _ (g.S.Source.left c.next_line.new.source) _ c.next_line.new.feed _ _ c.next_line.new.writer _ _ (g.K.Sink.taken c.next_line.new.sink) (c.lines.invariant.told start at bytes known) takes _ c.in-Ok-true.field-0-test next
-    c.take_line.new.arg2 c.take_line.new.arg4 (g.K.Sink.taken c.take_line.new.arg5) c.in-Ok-Some.status c.leave.result dropped (g.S.Source.left c.leave.new.source) (g.K.Sink.taken c.leave.new.sink) drains
+    c.take_line.new.arg2 c.take_line.new.arg4 (g.K.Sink.taken c.take_line.new.arg5) c.in-Ok-Some.stop c.leave.result dropped (g.S.Source.left c.leave.new.source) (g.K.Sink.taken c.leave.new.sink) drains
     (λ is. let many = c.leave.ensures.long.0 is in omega (arith, many, counted)) (rw c.is_last-last.ensures at leaves)
     (λ so_far was stands. rw (c.in-Ok-Some.field-0-is, c.current.ensures.bytes, c.current.ensures.number) at (line.bytes so_far was stands))
 
@@ -131,7 +128,7 @@ returns-in-Ok-Some-clause-memory g c = λ start at wants bytes known.
     let (dropped, drains, given, (counted, leaves)) = c.leave.ensures.bytes in
     let line = c.requires.takes _ _ _ _ _ _ _ _ c.in-Ok-Some.ensures in
     refuses _ start c.requires.laws bytes more _ (g.S.Source.left c.next_line.new.source) _ c.next_line.new.feed _ _ c.next_line.new.writer _ _ (g.K.Sink.taken c.next_line.new.sink) (c.lines.invariant.told start at bytes known) takes _ c.in-Ok-true.field-0-test next
-    c.take_line.new.arg2 c.take_line.new.arg4 (g.K.Sink.taken c.take_line.new.arg5) c.in-Ok-Some.status c.leave.result dropped (g.S.Source.left c.leave.new.source) (g.K.Sink.taken c.leave.new.sink) drains
+    c.take_line.new.arg2 c.take_line.new.arg4 (g.K.Sink.taken c.take_line.new.arg5) c.in-Ok-Some.stop c.leave.result dropped (g.S.Source.left c.leave.new.source) (g.K.Sink.taken c.leave.new.sink) drains
     (λ is. let many = c.leave.ensures.long.0 is in omega (arith, many, counted)) (rw c.is_last-last.ensures at leaves)
     (λ so_far was stands. rw (c.in-Ok-Some.field-0-is, c.current.ensures.bytes, c.current.ensures.number) at (line.bytes so_far was stands))
     (g.L.LineRun.asks c.args.run.now)

@@ -9,7 +9,6 @@ returns g c = record {
   bytes = c.take_line.ensures.bytes;
   asks = λ so_far was stands wants. (stands.0, ap tells_of stands.3, c.take_line.ensures.asks stands.0 stands.1 wants);
   asks_stay = λ told number other asked. asked;
-  ending = c.take_line.ensures.ending;
   ready = λ most ready. goes_with (HasCount (most + 1) c.take_line.new.run) _ c.take_line.result ready.1 (c.take_line.ensures.counts most ready.0);
   cause = c.take_line.ensures.cause;
 }

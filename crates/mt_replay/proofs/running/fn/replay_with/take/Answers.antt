@@ -12,7 +12,6 @@ returns g c = record {
       c.args.line.now.number c.args.line.now.bytes.now stands.4 (c.take_line.ensures.bytes stands.1 so_far stands.0 stands.2 stands.3);
   asks = λ so_far was stands wants. (stands.0, ap tells_of stands.4, c.take_line.ensures.asks stands.0 stands.2 wants);
   asks_stay = λ told number other asked. asked;
-  ending = c.take_line.ensures.ending;
   ready = c.take_line.ensures.eras;
   cause = c.take_line.ensures.cause;
 }
