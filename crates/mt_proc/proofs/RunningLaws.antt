@@ -1,7 +1,9 @@
 -- What a run of `proc` keeps to.
-use Rattle.std.proofs.Common.{◌≡◌, ◌∙◌, ap, sym, refl, subst, inl, inr, arith, ℕ, ◌≤◌, ◌<◌, nat_lt, true, List, [], length, None, Some, Err}
+use Rattle.std.proofs.Common.{◌≡◌, ◌∙◌, ap, sym, refl, subst, inl, inr, arith, ℕ, ◌<◌, nat_lt, true, List, [], length, Option, None, Some, Result, Ok, Err}
 use Rattle.std.specs.Prelude.{◌⊎◌}
 use Rattle.std.proofs.lemmas.Bool.Decides.{nat_tests}
+use Rattle.mt_ports.specs.declared.status.Failed.{Failed}
+use Rattle.mt_stream.specs.declared.ending.Stop.{Stop}
 use Rattle.mt_ports.specs.declared.status.Status.TheVariants.{BadText, Done}
 use Rattle.mt_text.specs.declared.place.Place.{Place}
 use Rattle.mt_dump.specs.Line.{fault_at as dump_fault_at}
@@ -9,7 +11,7 @@ use Rattle.mt_dump.specs.declared.fault.DumpReason.TheVariants as dump_reason
 use Rattle.mt_script.specs.declared.fault.Offence.TheVariants.{Dump}
 use Rattle.mt_output.specs.Lines.{offence_line}
 use Rattle.mt_stream.specs.Laws.{AreLaws, IsLongLed}
-use Rattle.mt_stream.specs.Lines.{Path}
+use Rattle.mt_stream.specs.Lines.{IfGoesOn, Path}
 use Rattle.mt_stream.proofs.Taking.{long_led}
 use Rattle.mt_stream.specs.Told.{Told, told}
 use Rattle.mt_stream.proofs.KnownLines.{TellsLong, long_told}
@@ -18,7 +20,7 @@ use Rattle.mt_proc.specs.declared.running.Run.TheVariants as run
 use Rattle.mt_proc.specs.declared.request.ProcReason.TheVariants.{BadLine}
 use Rattle.mt_proc.specs.Proc.{Point, from_point, in_dump, in_requests, proc_end, proc_step, request_fault_line}
 use Rattle.mt_proc.specs.Requests.{fault_at}
-use Rattle.mt_proc.specs.Running.{HasCount, IsAt, end_of_run, proc_running}
+use Rattle.mt_proc.specs.Running.{IsAt, end_of_run, proc_running}
 
 -- the offence of a line too long
 abbrev pub long_offence : ℕ → Point → Told
@@ -46,21 +48,18 @@ none_ends place (run.Dump reader) (in_requests now) at = absurd at
 none_ends place (run.Requests m) (in_dump before) at = absurd at
 none_ends place (run.Requests m) (in_requests now) at = ap (λ s. proc_end place (in_requests s)) (sym at)
 
-ending : (now : Run) (place : Place) → ((end_of_run now place).status ≡ Done) ⊎ ((end_of_run now place).status ≡ BadText)
-ending (run.Dump reader) place = inr refl
-ending (run.Requests m) place = inl refl
-
-pub proc_laws : (cpus : ℕ) → AreLaws (proc_running cpus)
-proc_laws cpus = record {
+pub proc_laws : AreLaws proc_running
+proc_laws = record {
   long = λ now so_far was number at.
-      subst (λ (t : Path). IsLongLed t number) (sym at.3) (long_led [] (from_point cpus at.0) number (long_told Point (proc_step cpus) proc_end long_offence (tells_long cpus) at.0 number));
+      subst (λ (t : Path). IsLongLed t number) (sym at.3)
+      (long_led [] (from_point now.cpus at.0) number (long_told Point (proc_step now.cpus) proc_end long_offence (tells_long now.cpus) at.0 number));
   unknown = λ now so_far was number at. ap (λ (t : Path). (t None number []).tells) at.3;
-  ended = λ now so_far was place number at. ap (λ (t : Path). (t (Some place) number []).tells) at.3 ∙ none_ends place now at.0 at.1;
-  ending = ending;
+  ended = λ now so_far was place number at. ap (λ (t : Path). (t (Some place) number []).tells) at.3 ∙ none_ends place now.run at.0 at.1;
 }
 
--- ---- how many requests were carried out
+-- ---- a run that goes on
 
-pub count_more : (m n : ℕ) (now : Run) → m ≤ n → HasCount m now → HasCount n now
-count_more m n (run.Dump reader) le few = tt
-count_more m n (run.Requests r) le few = omega arith
+pub goes_with : (P Q : Type 0) (result : Result (Option Stop) Failed) → Q → IfGoesOn result P → IfGoesOn result (P × Q)
+goes_with P Q (Ok None) kept holds = (holds, kept)
+goes_with P Q (Ok (Some stop)) kept holds = tt
+goes_with P Q (Err failed) kept holds = tt

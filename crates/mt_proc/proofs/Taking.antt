@@ -1,22 +1,22 @@
 -- What a run of `proc` makes of one line.
 use Rattle.std.proofs.Common.{◌≡◌, ap, sym, refl, subst, ℕ, ◌+◌, List, ◌++◌, Option, None, Some, Result, Ok, Err}
-use Rattle.std.specs.Prelude.{◌⊎◌, IfOk}
+use Rattle.std.specs.Prelude.{◌≢◌, IfOk}
 use Rattle.mt_ports.specs.Puts.{AppendsFront}
 use Rattle.mt_ports.specs.declared.status.Failed.{Failed}
-use Rattle.mt_ports.specs.declared.status.Status.{Status}
-use Rattle.mt_ports.specs.declared.status.Status.TheVariants.{BadText, Refused}
+use Rattle.mt_stream.specs.declared.ending.Stop.{Stop}
+use Rattle.mt_stream.specs.declared.ending.Stop.TheVariants.{NoMemory}
 use Rattle.mt_output.specs.Writing.{Adds, Passes}
 use Rattle.mt_machine.specs.Machine.{Machine}
 use Rattle.mt_dump.specs.Line.{Reading}
 use Rattle.mt_dump.specs.Reader.{HasRead, State}
-use Rattle.mt_stream.specs.Lines.{Fails, GoesOn, Leading, Leads, Takes, from_line}
+use Rattle.mt_stream.specs.Lines.{Fails, GoesOn, Leading, Leads, Takes, from_line, stop_status}
 use Rattle.mt_stream.specs.Told.{told}
 use Rattle.mt_stream.proofs.Taking.{takes_last}
 use Rattle.mt_proc.specs.declared.running.Run.{Run}
 use Rattle.mt_proc.specs.declared.running.Run.TheVariants as run
 use Rattle.mt_proc.specs.Proc.{Answer, Point, from_point, in_dump, in_requests, proc_step}
 use Rattle.mt_proc.specs.Serving.{served}
-use Rattle.mt_proc.specs.Running.{AllServe, IsAt, IsQuiet, LeadsBy, path_from, proc_running}
+use Rattle.mt_proc.specs.Running.{AllServe, IsAt, IsQuiet, LeadsBy, StandsAt, path_from}
 
 -- a line leads on by its step
 pub leads_by : (cpus : ℕ) (p : Point) (number : ℕ) (line : List ℕ) → LeadsBy cpus (from_line number line (path_from cpus p)) (proc_step cpus number line p) (number + 1)
@@ -28,12 +28,12 @@ leads_as cpus from number answer other is leads = subst (λ (a : Answer). LeadsB
 
 module _ (cpus : ℕ) (from : Leading) (number : ℕ) (so_far : List ℕ) (now : Run) (waiting left : List ℕ) (a b : Option (List ℕ)) where
   pub goes : (text : List ℕ) (next : Point) → LeadsBy cpus from (Ok (text, next)) number → IsAt now next → IsQuiet now (so_far ++ text) → AllServe cpus now → Passes waiting text left a b
-      → GoesOn (proc_running cpus) from number so_far now waiting left a b
+      → GoesOn (StandsAt cpus now) from number so_far waiting left a b
   goes text next leads at quiet each passed = record { next = path_from cpus next; at = (next, at, quiet, refl, each); text = text; goes = leads; passed = passed }
 
-  pub ends : (text : List ℕ) (status : Status) (result : Result (Option Status) Failed) → LeadsBy cpus from (Err (told text status)) number → (status ≡ Refused) ⊎ (status ≡ BadText) → Adds waiting text left a b result
-      → IfOk result (λ ended. ended ≡ Some status) → Takes (proc_running cpus) from number so_far now waiting left a b result
-  ends text status result leads one adds is = takes_last (proc_running cpus) from number so_far now text waiting left status a b result (λ end lines. ap (λ (x : Leads). x.tells) (leads end lines)) one adds is
+  pub ends : (text : List ℕ) (stop : Stop) (result : Result (Option Stop) Failed) → LeadsBy cpus from (Err (told text (stop_status stop))) number → stop ≢ NoMemory → Adds waiting text left a b result
+      → IfOk result (λ ended. ended ≡ Some stop) → Takes (StandsAt cpus now) from number so_far waiting left a b result
+  ends text stop result leads other adds is = takes_last (StandsAt cpus now) from number so_far text waiting left stop a b result (λ end lines. ap (λ (x : Leads). x.tells) (leads end lines)) other adds is
 
   pub fails : (text : List ℕ) (next : Point) → LeadsBy cpus from (Ok (text, next)) number → AppendsFront a b (waiting ++ text) → Fails from waiting a b
   fails text next leads failed = record {

@@ -1,28 +1,18 @@
 -- A run of `proc` between two lines, as its code keeps it (own).
-use Rattle.std.specs.Prelude.{ℕ, ◌≡◌, ◌≤◌, ◌<◌, ◌-◌, ◌^◌, List, [], length, ⊤, Option, None, Some, Result, MatchOption, MatchResult}
+use Rattle.std.specs.Prelude.{ℕ, ◌≡◌, ◌≤◌, ◌<◌, ◌-◌, ◌^◌, List, [], length, ⊤, Option, None}
 use Rattle.mt_text.specs.declared.place.Place.{Place}
-use Rattle.mt_ports.specs.declared.status.Failed.{Failed}
-use Rattle.mt_ports.specs.declared.status.Status.{Status}
-use Rattle.mt_ports.specs.declared.status.Status.TheVariants.{NoMemory}
 use Rattle.mt_regs.specs.Agreement.{first_refusal}
 use Rattle.mt_dump.specs.Dumps.{Dump}
 use Rattle.mt_dump.specs.Reader.{HasRead}
 use Rattle.mt_script.specs.Head.{ends_dump, shows, step_in_dump}
-use Rattle.mt_stream.specs.Lines.{Leading, Path, Running, early_at}
-use Rattle.mt_stream.specs.Runs.{RefusedAtLine, RefusesMemory}
+use Rattle.mt_stream.specs.Lines.{Leading, Path, Running, early_at, running}
+use Rattle.mt_stream.specs.Runs.{AsksBy, RefusesMemory}
 use Rattle.mt_stream.specs.Told.{Told, told_step}
+use Rattle.mt_proc.specs.declared.running.ProcRun.{ProcRun}
 use Rattle.mt_proc.specs.declared.running.Run.{Run}
 use Rattle.mt_proc.specs.declared.running.Run.TheVariants as run
 use Rattle.mt_proc.specs.Proc.{Answer, Point, from_point, in_dump, in_requests, proc_end, situation_of}
 use Rattle.mt_proc.specs.Serving.{Serves, served}
-
--- P of the bytes that a source holds, if it tells them
-abbrev pub IfKnown : Option (List ℕ) → (List ℕ → Type 0) → Type 0
-IfKnown held P = (bytes : List ℕ) → held ≡ Some bytes → P bytes
-
--- P, if the run goes on behind a line
-abbrev pub IfGoesOn : Result (Option Status) Failed → Type 0 → Type 0
-IfGoesOn result P = MatchResult result (λ ended. MatchOption ended P (λ _. Unit {0})) (λ _. Unit {0})
 
 -- the run stands at this point
 abbrev pub IsAt : Run → Point → Type 0
@@ -53,9 +43,6 @@ AllServe cpus (run.Requests m) = (length m.system.processors ≡ cpus) × Serves
 abbrev pub StandsAt : ℕ → Run → List ℕ → Path → Type 0
 StandsAt cpus now so_far was = (p : Point) × IsAt now p × IsQuiet now so_far × (was ≡ path_from cpus p) × AllServe cpus now
 
-abbrev pub proc_running : ℕ → Running
-proc_running cpus = record { Run = Run; At = StandsAt cpus; ends = end_of_run }
-
 -- what a line and those behind it, of which the first has this number, lead to by the line's answer
 abbrev pub LeadsBy : ℕ → Leading → Answer → ℕ → Type 0
 LeadsBy cpus from answer number = (end : Option Place) (lines : List (List ℕ)) → from end lines ≡ record { tells = told_step (λ p. from_point cpus p end number lines) answer; early = [] }
@@ -80,14 +67,15 @@ abbrev pub AsksAt : ℕ → Point → ℕ → List ℕ → Type 0
 AsksAt cpus (in_dump before) number line = (dump : Dump) × (step_in_dump (situation_of cpus) before number line (ends_dump line) ≡ shows dump) × (first_refusal dump.files ≡ None)
 AsksAt cpus (in_requests now) number line = ⊥
 
--- Memory was refused at that line.
-abbrev pub OutOfMemoryAtLine : ℕ → List ℕ → Option (List ℕ) → Option (List ℕ) → Option (List ℕ) → Type 0
-OutOfMemoryAtLine cpus bytes left before after = RefusedAtLine (from_point cpus) (in_dump []) (AsksAt cpus) bytes left before after
-
--- the same, if the run's status is that memory was refused
-abbrev pub RefusedInLines : ℕ → List ℕ → Option (List ℕ) → Option (List ℕ) → Option (List ℕ) → Status → Type 0
-RefusedInLines cpus bytes left before after status = status ≡ NoMemory → OutOfMemoryAtLine cpus bytes left before after
-
--- or before anything was read
+-- Memory was refused at that line, or before anything was read.
 abbrev pub OutOfMemory : ℕ → List ℕ → Option (List ℕ) → Option (List ℕ) → Option (List ℕ) → Type 0
-OutOfMemory cpus bytes left before after = RefusesMemory (from_point cpus) (in_dump []) (AsksAt cpus) bytes left before after
+OutOfMemory cpus bytes left before after = RefusesMemory (from_point cpus (in_dump [])) (AsksBy (from_point cpus) (AsksAt cpus)) bytes left before after
+
+-- ---- all of it
+
+abbrev pub HasCpus : ProcRun → Type 0
+HasCpus now = (0 < now.cpus) × (now.cpus ≤ 16)
+
+abbrev pub proc_running : Running
+proc_running =
+    running (λ now. StandsAt now.cpus now.run) (λ now. end_of_run now.run) (λ now. AsksBy (from_point now.cpus) (AsksAt now.cpus)) (λ most now. HasCount most now.run × HasCpus now)

@@ -7,14 +7,14 @@ ghost use Rattle.mt_regs.specs.Faults.{IsAccepted};
 ghost use Rattle.mt_regs.specs.Agreement.{first_refusal};
 ghost use Rattle.mt_dump.specs.ForProcessors.{files_for, has_each};
 ghost use Rattle.mt_machine.specs.Machine.{Machine};
-ghost use Rattle.mt_stream.specs.Lines.{Closes, IsEnding, Leading, Path, Takes, from_line};
+ghost use Rattle.mt_stream.specs.Handling.{Taken, out};
+ghost use Rattle.mt_stream.specs.Lines.{IfGoesOn, Leading, Path, Takes, from_line};
 ghost use Rattle.mt_stream.specs.Runs.{EndsAs, Runs};
 ghost use Rattle.mt_proc.specs.After.{era_line};
 ghost use Rattle.mt_proc.specs.Listing.{listing};
 ghost use Rattle.mt_proc.specs.Proc.{Point, begins, no_end, of_request, proc_told, proc_transcript, reason_text, request_fault_line};
 ghost use Rattle.mt_proc.specs.Requests.{request_of};
-ghost use Rattle.mt_proc.specs.Running.{AllServe, AsksAt, HasCount, HasRoom, IfGoesOn, IfKnown, IsAt, IsDump, LeadsBy};
-ghost use Rattle.mt_proc.specs.Running.{OutOfMemory, RefusedInLines, StandsAt, end_of_run, proc_running};
+ghost use Rattle.mt_proc.specs.Running.{AllServe, AsksAt, HasCount, HasCpus, HasRoom, IsAt, IsDump, LeadsBy, OutOfMemory, StandsAt, proc_running};
 ghost use Rattle.mt_proc.specs.Serving.{idling, served};
 
 use crate::listing::line_of;
@@ -28,8 +28,8 @@ use mt_ports::{Failed, Gate, Sink, Source, Status};
 use mt_regs::{RegFile, first_refusal};
 use mt_rendezvous::Caller;
 use mt_script::{Offence, ScriptFault, ScriptReason, take_dump_line};
-use mt_stream::{close, cut_status, leave, next_line, tell};
-use mt_text::{Feed, Line, Place};
+use mt_stream::{End, LineRun, Stop, close, run_lines, tell};
+use mt_text::{Line, Place};
 use std::alloc::Global;
 use std::sync::Wait;
 use std::thread::Threads;
@@ -39,6 +39,13 @@ use std::thread::Threads;
 pub(crate) enum Run {
     Dump(DumpReader),
     Requests(Processors),
+}
+
+/// A run on so many processors.
+#[derive(Drop)]
+pub(crate) struct ProcRun {
+    cpus: u32,
+    run: Run,
 }
 
 fn reason_text(reason: ProcReason) -> &'static [u8]
@@ -67,27 +74,26 @@ fn begin<K: Sink>(
     dump: &Dump,
     writer: &mut Writer,
     sink: &mut K,
-) -> Result<Option<Status>, Failed>
+) -> Result<Option<Stop>, Failed>
     requires some { 0 < cpus }
     requires few { cpus ≤ 16 }
     requires dump { IsDump run.old }
     requires each { has_each cpus dump.now ≡ true }
     ensures bytes { (from : Leading) (number : ℕ) → LeadsBy cpus from (begins dump.now (first_refusal dump.now.files)) number
-        → Takes (proc_running cpus) from number [] run.new writer.old writer.new (K.taken sink.old) (K.taken sink.new) result }
-    ensures asks { result ≡ Ok (Some Status.NoMemory) → first_refusal dump.now.files ≡ None }
+        → Takes (StandsAt cpus run.new) from number [] writer.old writer.new (K.taken sink.old) (K.taken sink.new) result }
+    ensures asks { result ≡ Ok (Some Stop.NoMemory) → first_refusal dump.now.files ≡ None }
     ensures starts { (m : Machine) → run.new ≡ Run.Requests m → m ≡ idling (files_for cpus dump.now) 0 }
-    ensures ending { (status : Status) → result ≡ Ok (Some status) → IsEnding status }
     ensures counts { (most : ℕ) → IfGoesOn result (HasCount most run.new) }
     ensures cause { HasCause (K.faults sink.old) (K.faults sink.new) result }
 {
     dump.is_dump(); // a fact for the proof
     if let Some((k, fault)) = first_refusal(dump.files.as_slice()) {
         let line = dump_refused_line(dump.version, k, &fault);
-        return tell(writer, sink, line.as_slice(), Status::Refused);
+        return tell(writer, sink, line.as_slice(), Stop::Refused);
     }
     let files = dump.files_for(cpus);
     let Ok(processors) = Processors::new(alloc, files.as_slice()) else {
-        return Ok(Some(Status::NoMemory));
+        return Ok(Some(Stop::NoMemory));
     };
     *run = Run::Requests(processors);
     Ok(None)
@@ -101,13 +107,12 @@ fn take_request<R: Threads + Wait + Sync, K: Sink, G: Gate>(
     line: &Line<'_>,
     writer: &mut Writer,
     sink: &mut K,
-) -> Result<Option<Status>, Failed>
+) -> Result<Option<Stop>, Failed>
     requires { (served processors.old).count < 2 ^ 64 - 1 }
     ensures bytes { (cpus : ℕ) (from : Leading) (number : ℕ) (so_far : List ℕ) → AllServe cpus (Run.Requests processors.old) →
         LeadsBy cpus from (of_request (served processors.old) (request_of line.now.number line.now.bytes.now)) number
-        → Takes (proc_running cpus) from number so_far (Run.Requests processors.new) writer.old writer.new (K.taken sink.old) (K.taken sink.new) result }
-    ensures asks { result ≢ Ok (Some Status.NoMemory) }
-    ensures ending { (status : Status) → result ≡ Ok (Some status) → IsEnding status }
+        → Takes (StandsAt cpus (Run.Requests processors.new)) from number so_far writer.old writer.new (K.taken sink.old) (K.taken sink.new) result }
+    ensures asks { result ≢ Ok (Some Stop.NoMemory) }
     ensures counts { (most : ℕ) → (served processors.old).count ≤ most → IfGoesOn result ((served processors.new).count ≤ most + 1) }
     ensures cause { HasCause (K.faults sink.old) (K.faults sink.new) result }
 {
@@ -124,12 +129,12 @@ fn take_request<R: Threads + Wait + Sync, K: Sink, G: Gate>(
             writer,
             sink,
             request_fault_line(&fault).as_slice(),
-            Status::BadText,
+            Stop::BadText,
         ),
     }
 }
 
-// Takes a line. There is a status where the run ends with it.
+// Takes a line. It returns a stop if the run ends with it.
 fn take_line<R: Threads + Wait + Sync, K: Sink, G: Gate>(
     caller: &Caller<R, G>,
     alloc: Global,
@@ -138,14 +143,13 @@ fn take_line<R: Threads + Wait + Sync, K: Sink, G: Gate>(
     line: &Line<'_>,
     writer: &mut Writer,
     sink: &mut K,
-) -> Result<Option<Status>, Failed>
+) -> Result<Option<Stop>, Failed>
     requires some { 0 < cpus }
     requires few { cpus ≤ 16 }
     requires room { HasRoom run.old }
     ensures bytes { (so_far : List ℕ) (was : Path) → StandsAt cpus run.old so_far was →
-        Takes (proc_running cpus) (from_line line.now.number line.now.bytes.now was) (line.now.number + 1) so_far run.new writer.old writer.new (K.taken sink.old) (K.taken sink.new) result }
-    ensures asks { (p : Point) → IsAt run.old p → result ≡ Ok (Some Status.NoMemory) → AsksAt cpus p line.now.number line.now.bytes.now }
-    ensures ending { (status : Status) → result ≡ Ok (Some status) → IsEnding status }
+        Takes (StandsAt cpus run.new) (from_line line.now.number line.now.bytes.now was) (line.now.number + 1) so_far writer.old writer.new (K.taken sink.old) (K.taken sink.new) result }
+    ensures asks { (p : Point) → IsAt run.old p → result ≡ Ok (Some Stop.NoMemory) → AsksAt cpus p line.now.number line.now.bytes.now }
     ensures counts { (most : ℕ) → HasCount most run.old → IfGoesOn result (HasCount (most + 1) run.new) }
     ensures cause { HasCause (K.faults sink.old) (K.faults sink.new) result }
 {
@@ -162,7 +166,7 @@ fn take_line<R: Threads + Wait + Sync, K: Sink, G: Gate>(
             writer,
             sink,
             offence_line(&offence).as_slice(),
-            Status::BadText,
+            Stop::BadText,
         ),
     }
 }
@@ -203,69 +207,41 @@ fn no_end(at: Place) -> Offence
     })
 }
 
-// Where the text ends.
-fn end_text<K: Sink>(run: &Run, feed: &Feed, writer: &mut Writer, sink: &mut K) -> Status
-    ensures bytes { Closes (end_of_run run.now feed.now.place) writer.old (K.taken sink.old) (K.taken sink.new) result }
-    ensures usage { result ≢ Status.Usage }
-    ensures few { (result ≢ Status.TooFew) × (result ≢ Status.Disabled) }
-    ensures cause { StatusHasCause Status.WriteFault (K.faults sink.old) (K.faults sink.new) result }
-{
-    let processors = match run {
-        Run::Dump(_) => {
-            let line = offence_line(&no_end(feed.end()));
-            return close(writer, sink, line.as_slice(), Status::BadText);
-        }
-        Run::Requests(processors) => processors,
-    };
-    processors.serve(); // a fact for the proof
-    match write_listing(processors.file(), writer, sink) {
-        Ok(()) => close(
-            writer,
-            sink,
-            era_line(processors.count()).as_slice(),
-            Status::Done,
-        ),
-        Err(_) => Status::WriteFault,
-    }
-}
+impl LineRun for ProcRun {
+    ghost use Rattle.mt_proc.specs.Proc.{from_point};
+    ghost use Rattle.mt_proc.specs.Running.{AsksAt, HasCount, HasCpus, StandsAt, end_of_run};
+    ghost use Rattle.mt_stream.specs.Runs.{AsksBy};
 
-// Runs the lines of a source to their end, to an offence or a refused dump, or to a fault.
-fn run_lines<R: Threads + Wait + Sync, S: Source, K: Sink, G: Gate>(
-    caller: &Caller<R, G>,
-    alloc: Global,
-    source: &mut S,
-    writer: &mut Writer,
-    sink: &mut K,
-    cpus: u32,
-) -> Status
-    requires waiting { writer.old ≡ [] }
-    requires some { 0 < cpus }
-    requires few { cpus ≤ 16 }
-    ensures bytes { IfKnown (S.left source.old) (λ bytes. Runs (proc_told cpus) [] bytes (S.left source.new) (K.taken sink.old) (K.taken sink.new) result) }
-    ensures memory { IfKnown (S.left source.old) (λ bytes. RefusedInLines cpus bytes (S.left source.new) (K.taken sink.old) (K.taken sink.new) result) }
-    ensures read_fault { StatusHasCause Status.ReadFault (S.faults source.old) (S.faults source.new) result }
-    ensures write_fault { StatusHasCause Status.WriteFault (K.faults sink.old) (K.faults sink.new) result }
-    ensures too_long { (result ≡ Status.TooLong) ↔ GaveTooMuch (S.given source.old) (S.given source.new) }
-    ensures usage { result ≢ Status.Usage }
-    ensures few { (result ≢ Status.TooFew) × (result ≢ Status.Disabled) }
-{
-    let mut feed = Feed::new();
-    let mut run = Run::Dump(DumpReader::new());
-    'lines: loop {
-        match next_line(&mut feed, source, writer, sink) {
-            Ok(true) => {}
-            Ok(false) => return end_text(&run, &feed, writer, sink),
-            Err(cut) => return cut_status(&cut),
-        }
-        let last = feed.is_last();
-        match take_line(caller, alloc, cpus, &mut run, &feed.current(), writer, sink) {
-            Ok(None) => {
-                if last {
-                    return end_text(&run, &feed, writer, sink);
-                }
+    ghost at = { λ now. StandsAt now.cpus now.run };
+
+    ghost ends = { λ now. end_of_run now.run };
+
+    ghost asks = { λ now. AsksBy (from_point now.cpus) (AsksAt now.cpus) };
+
+    ghost ready = { λ most now. HasCount most now.run × HasCpus now };
+
+    fn finish<K: Sink>(
+        &self,
+        end: Place,
+        writer: &mut Writer,
+        sink: &mut K,
+    ) -> Result<End, Failed> {
+        let processors = match &self.run {
+            Run::Dump(_) => {
+                let line = offence_line(&no_end(end));
+                return close(writer, sink, line.as_slice(), End::BadText);
             }
-            Ok(Some(status)) => return leave(status, last, &mut feed, source, writer, sink),
-            Err(_) => return Status::WriteFault,
+            Run::Requests(processors) => processors,
+        };
+        processors.serve(); // a fact for the proof
+        match write_listing(processors.file(), writer, sink) {
+            Ok(()) => close(
+                writer,
+                sink,
+                era_line(processors.count()).as_slice(),
+                End::Done,
+            ),
+            Err(failed) => Err(failed),
         }
     }
 }
@@ -300,7 +276,16 @@ pub fn proc_with<R: Threads + Wait + Sync, S: Source, K: Sink, G: Gate>(
     let Ok(mut writer) = Writer::new(alloc) else {
         return Status::NoMemory;
     };
-    run_lines(caller, alloc, source, &mut writer, sink, cpus)
+    let mut run = ProcRun {
+        cpus,
+        run: Run::Dump(DumpReader::new()),
+    };
+    let take = |run: &mut ProcRun, line: &Line<'_>, writer: &mut Writer, sink: &mut K|
+        requires { HasRoom run.old.run × HasCpus run.old }
+        ensures { Taken proc_running run.old run.new line.now
+            (out writer.old (K.taken sink.old) (K.faults sink.old)) (out writer.new (K.taken sink.new) (K.faults sink.new)) result }
+    { take_line(caller, alloc, run.cpus, &mut run.run, line, writer, sink) };
+    run_lines(take, &mut run, source, &mut writer, sink)
 }
 
 /// Reads a dump, a line `end` and requests in the form of Linux's mtrr document, carries each request

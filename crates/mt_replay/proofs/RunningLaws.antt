@@ -31,10 +31,6 @@ none_told place number (run.Head h) (in_body s) at = absurd at
 none_told place number (run.Body r) (in_head s before) at = absurd at
 none_told place number (run.Body r) (in_body s) at = ap (λ x. told_at_end (end_fault x.now.stage place)) (sym at.0)
 
-ending : (fault : Option ScriptFault) → ((told_at_end fault).status ≡ Done) ⊎ ((told_at_end fault).status ≡ BadText)
-ending None = inl refl
-ending (Some fault) = inr refl
-
 -- a line too long brings none up
 long_path : (came : Bool) (so_far : List ℕ) (p : Point) (number : ℕ) → IsSound p → IsLongLed (path_from came so_far p) number
 long_path came so_far p number sound =
@@ -54,7 +50,6 @@ replay_laws = record {
   long = λ now so_far was number at. subst (λ (t : Path). IsLongLed t number) (sym at.4) (long_path at.1 so_far at.0 number (sound_at now at.0 at.2));
   unknown = λ now so_far was number at. ap (λ (t : Path). (t None number []).tells) at.4 ∙ none_known number at.0;
   ended = λ now so_far was place number at. ap (λ (t : Path). (t (Some place) number []).tells) at.4 ∙ none_told place number now at.0 at.2;
-  ending = λ now place. ending (end_fault (setup_of now).stage place);
 }
 
 -- a line and those behind it lead to as much as from the point where the run stands

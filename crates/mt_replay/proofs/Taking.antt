@@ -3,7 +3,7 @@ use Rattle.std.proofs.Common.{◌≡◌, ◌∙◌, ap, sym, refl, subst, inr, �
 use Rattle.std.specs.Prelude.{MatchOption, MatchResult}
 use Rattle.mt_ports.specs.Puts.{AppendsFront}
 use Rattle.mt_ports.specs.declared.status.Failed.{Failed}
-use Rattle.mt_ports.specs.declared.status.Status.{Status}
+use Rattle.mt_stream.specs.declared.ending.Stop.{Stop}
 use Rattle.mt_ports.specs.declared.status.Status.TheVariants.{Refused}
 use Rattle.mt_output.specs.Writing.{Passes}
 use Rattle.mt_output.specs.Lines.{accepted_line, dump_refused_line}
@@ -28,7 +28,7 @@ use Rattle.mt_replay.specs.Parts.{AsksForMemory}
 use Rattle.mt_replay.specs.ReplayState.{ReplayState, command_text, first_state, state_after}
 use Rattle.mt_replay.specs.Newcomers.{early, is_newcomer, newcomers_from, newcomers_in, newcomers_of_dump}
 use Rattle.mt_replay.proofs.Newcomers.{body_brings, early_front, early_then, head_brings, or_true}
-use Rattle.mt_replay.specs.Running.{CarriesOut, IsAt, IsQuiet, from_line, leading, path_from, replay_running, leading_dump}
+use Rattle.mt_replay.specs.Running.{CarriesOut, IsAt, IsQuiet, StandsAt, from_line, leading, leading_dump, path_from}
 use Rattle.mt_stream.specs.Lines.{Fails, GoesOn, Leads, Takes, leads_behind}
 use Rattle.mt_replay.specs.Transcript.{Point, body_lines, head_lines, in_body, in_head, told_command, told_dump}
 use Rattle.mt_stream.specs.Told.{Told, behind, told}
@@ -62,7 +62,7 @@ pub dump_accepted : (now : Situation) (dump : Dump) (number : ℕ) → first_ref
 dump_accepted now dump number is end lines = ap (told_dump now dump (body_lines end number lines)) is
 
 pub dump_goes : (now : Situation) (dump : Dump) (number : ℕ) (r : ReplayState) (waiting text left : List ℕ) (a b : Option (List ℕ)) → first_refusal dump.files ≡ None → r ≡ first_state now dump → text ≡ accepted_line
-    → Passes waiting text left a b → GoesOn replay_running (leading_dump now dump number) number [] (run.Body r) waiting left a b
+    → Passes waiting text left a b → GoesOn (StandsAt (run.Body r)) (leading_dump now dump number) number [] waiting left a b
 dump_goes now dump number r waiting text left a b is first line passed = record {
   next = path_from false accepted_line (in_body (first_state now dump));
   at = (in_body (first_state now dump), false, (first, refl), (λ takes. refl), refl);
@@ -97,8 +97,8 @@ pub leads : (s : ReplayState) (c : Command) (number : ℕ) (line : List ℕ) →
 leads s c number line asked end lines = from_body s number line end lines ∙ ap (told_command s (body_lines end (number + 1) lines)) asked
 
 module _ (s new : ReplayState) (c : Command) (number : ℕ) (line : List ℕ) (is : IsReplayState s) (fits : Fits s.now c) (asked : command_of s.now number line ≡ Ok c) where
-  pub command_takes : (waiting left : List ℕ) (a b : Option (List ℕ)) (result : Result (Option Status) Failed) → CarriesOut s new c waiting left a b result → ((status : Status) → result ≡ Ok (Some status) → AsksForMemory s.machine c)
-      → (came : Bool) (so_far : List ℕ) → IsQuiet (run.Body s) came so_far → Takes replay_running (leading came so_far number line (in_body s)) (number + 1) so_far (run.Body new) waiting left a b result
+  pub command_takes : (waiting left : List ℕ) (a b : Option (List ℕ)) (result : Result (Option Stop) Failed) → CarriesOut s new c waiting left a b result → ((stop : Stop) → result ≡ Ok (Some stop) → AsksForMemory s.machine c)
+      → (came : Bool) (so_far : List ℕ) → IsQuiet (run.Body s) came so_far → Takes (StandsAt (run.Body new)) (leading came so_far number line (in_body s)) (number + 1) so_far waiting left a b result
   command_takes waiting left a b (Ok None) does asks came so_far quiet = record {
     next = path_from (came || is_newcomer c) (so_far ++ command_text s c) (in_body (state_after s c));
     at = (
@@ -117,10 +117,10 @@ module _ (s new : ReplayState) (c : Command) (number : ℕ) (line : List ℕ) (i
     where
       later : IsQuiet (run.Body (state_after s c)) (came || is_newcomer c) (so_far ++ command_text s c)
       later takes = let was = quiet_command s c fits takes in ap (λ l. so_far ++ l) was.1 ∙ append-nil so_far ∙ quiet was.0
-  command_takes waiting left a b (Ok (Some status)) does asks came so_far quiet =
+  command_takes waiting left a b (Ok (Some stop)) does asks came so_far quiet =
       inr (record {
         refused = does.0;
-        early = λ end lines. early_front (came || newcomers_from number (line ∷ lines) (in_body s)) so_far (from_line number line (in_body s) end lines).text (asked_early lines (asks status refl));
+        early = λ end lines. early_front (came || newcomers_from number (line ∷ lines) (in_body s)) so_far (from_line number line (in_body s) end lines).text (asked_early lines (asks stop refl));
         waits = does.1;
         kept = does.2;
       })
@@ -140,10 +140,10 @@ module _ (s new : ReplayState) (c : Command) (number : ℕ) (line : List ℕ) (i
     failed = does;
   }
 
-  pub command_eras : (most : ℕ) (waiting left : List ℕ) (a b : Option (List ℕ)) (result : Result (Option Status) Failed) → HasEras most s → CarriesOut s new c waiting left a b result
-      → MatchResult result (λ ended. MatchOption ended (HasEras (most + 1) new) (λ status. Unit {0})) (λ failed. Unit {0})
+  pub command_eras : (most : ℕ) (waiting left : List ℕ) (a b : Option (List ℕ)) (result : Result (Option Stop) Failed) → HasEras most s → CarriesOut s new c waiting left a b result
+      → MatchResult result (λ ended. MatchOption ended (HasEras (most + 1) new) (λ stop. Unit {0})) (λ failed. Unit {0})
   command_eras most waiting left a b (Ok None) eras does = subst (HasEras (most + 1)) (sym does.1) (eras_kept s c most is fits eras)
-  command_eras most waiting left a b (Ok (Some status)) eras does = tt
+  command_eras most waiting left a b (Ok (Some stop)) eras does = tt
   command_eras most waiting left a b (Err failed) eras does = tt
 
 pub fault_leads : (s : ReplayState) (number : ℕ) (line : List ℕ) (fault : ScriptFault) → command_of s.now number line ≡ Err fault → (end : Option Place) (lines : List (List ℕ))
@@ -154,7 +154,7 @@ fault_leads s number line fault asked end lines = from_body s number line end li
 
 -- the head goes on
 pub head_takes : (now next : Situation) (before after : List Reading) (number : ℕ) (line : List ℕ) (came : Bool) (so_far waiting : List ℕ) (h : HeadReader) (a : Option (List ℕ)) → head_step now before number line ≡ goes_on next after
-    → IsAt (run.Head h) (in_head next after) → (so_far ≡ []) × (came ≡ false) → GoesOn replay_running (leading came so_far number line (in_head now before)) (number + 1) so_far (run.Head h) waiting waiting a a
+    → IsAt (run.Head h) (in_head next after) → (so_far ≡ []) × (came ≡ false) → GoesOn (StandsAt (run.Head h)) (leading came so_far number line (in_head now before)) (number + 1) so_far waiting waiting a a
 head_takes now next before after number line came so_far waiting h a is at none = record {
   next = path_from (came || false) (so_far ++ []) (in_head next after);
   at = (in_head next after, (came || false), at, (append-nil so_far ∙ none.0, ap (λ b. b || false) none.1), refl);

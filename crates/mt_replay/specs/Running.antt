@@ -4,7 +4,6 @@
 use Rattle.std.specs.Prelude.{ℕ, ◌≡◌, ◌||◌, ◌++◌, Bool, true, false, List, [], ◌∷◌, ⊤, MatchOption, MatchResult, Option, Result, None, Ok}
 use Rattle.mt_text.specs.declared.place.Place.{Place}
 use Rattle.mt_ports.specs.declared.status.Status.{Status}
-use Rattle.mt_ports.specs.declared.status.Status.TheVariants.{NoMemory}
 use Rattle.mt_ports.specs.declared.status.Failed.{Failed}
 use Rattle.mt_ports.specs.Puts.{AppendsFront}
 use Rattle.mt_output.specs.Lines.{accepted_line}
@@ -18,9 +17,11 @@ use Rattle.mt_script.specs.Head.{head_step, shows}
 use Rattle.mt_machine.specs.Start.{HasEraRoom}
 use Rattle.mt_regs.specs.Agreement.{first_refusal}
 use Rattle.mt_dump.specs.Dumps.{Dump}
-use Rattle.mt_stream.specs.Lines.{Leading, Path, Running}
-use Rattle.mt_stream.specs.Runs.{RefusedAtLine, RefusesMemory, RunsAs}
+use Rattle.mt_stream.specs.Lines.{Leading, Path, Running, running}
+use Rattle.mt_stream.specs.Runs.{AsksBy, RefusesMemory, RunsAs}
 use Rattle.mt_stream.specs.Told.{Told}
+use Rattle.mt_stream.specs.declared.ending.Stop.{Stop}
+use Rattle.mt_stream.specs.declared.ending.Stop.TheVariants.{NoMemory}
 use Rattle.mt_replay.specs.Kept.{HasEras}
 use Rattle.mt_replay.specs.Parts.{AsksForMemory}
 use Rattle.mt_replay.specs.ReplayState.{ReplayState, command_text, state_after}
@@ -44,13 +45,9 @@ abbrev pub AsksAt : Point → ℕ → List ℕ → Type 0
 AsksAt (in_head now before) number line = (dump : Dump) × (head_step now before number line ≡ shows dump) × (first_refusal dump.files ≡ None)
 AsksAt (in_body s) number line = (c : Command) × (command_of s.now number line ≡ Ok c) × AsksForMemory s.machine c
 
--- Memory was refused at such a line.
-abbrev pub OutOfMemoryAtLine : List ℕ → Option (List ℕ) → Option (List ℕ) → Option (List ℕ) → Type 0
-OutOfMemoryAtLine bytes left before after = RefusedAtLine from_point (in_head at_start []) AsksAt bytes left before after
-
--- or before anything was read
+-- Memory was refused at such a line, or before anything was read.
 abbrev pub OutOfMemory : List ℕ → Option (List ℕ) → Option (List ℕ) → Option (List ℕ) → Type 0
-OutOfMemory bytes left before after = RefusesMemory from_point (in_head at_start []) AsksAt bytes left before after
+OutOfMemory bytes left before after = RefusesMemory (from_point (in_head at_start [])) (AsksBy from_point AsksAt) bytes left before after
 
 -- ---- between two lines
 
@@ -76,16 +73,16 @@ IsQuiet (run.Head h) came text = (text ≡ []) × (came ≡ false)
 IsQuiet (run.Body r) came text = takes_windows r.now.stage ≡ true → text ≡ accepted_line
 
 -- A text went through the writer, and the run goes on; or a write failed, and a front of it was taken.
-abbrev pub Writes : List ℕ → List ℕ → List ℕ → Option (List ℕ) → Option (List ℕ) → Result (Option Status) Failed → Type 0
+abbrev pub Writes : List ℕ → List ℕ → List ℕ → Option (List ℕ) → Option (List ℕ) → Result (Option Stop) Failed → Type 0
 Writes waiting text left before after result =
     MatchResult result (λ ended. (ended ≡ None) × Passes waiting text left before after) (λ _. AppendsFront before after (waiting ++ text))
 
 -- A command was done: its text went through the writer, and its state stands. For want of memory nothing was done, and
 -- after a failed write a front of the text was taken.
-abbrev pub CarriesOut : ReplayState → ReplayState → Command → List ℕ → List ℕ → Option (List ℕ) → Option (List ℕ) → Result (Option Status) Failed → Type 0
+abbrev pub CarriesOut : ReplayState → ReplayState → Command → List ℕ → List ℕ → Option (List ℕ) → Option (List ℕ) → Result (Option Stop) Failed → Type 0
 CarriesOut s new c waiting left before after result =
     MatchResult result
-    (λ ended. MatchOption ended (Passes waiting (command_text s c) left before after × (new ≡ state_after s c)) (λ status. (status ≡ NoMemory) × (left ≡ waiting) × (after ≡ before)))
+    (λ ended. MatchOption ended (Passes waiting (command_text s c) left before after × (new ≡ state_after s c)) (λ stop. (stop ≡ NoMemory) × (left ≡ waiting) × (after ≡ before)))
     (λ failed. AppendsFront before after (waiting ++ command_text s c))
 
 -- where lines stand at this point, behind a text, and whether a processor came up before
@@ -97,9 +94,6 @@ path_from came so_far p end number lines = record {
 
 abbrev pub StandsAt : Run → List ℕ → Path → Type 0
 StandsAt now so_far was = (p : Point) × (came : Bool) × IsAt now p × IsQuiet now came so_far × (was ≡ path_from came so_far p)
-
-abbrev pub replay_running : Running
-replay_running = record { Run = Run; At = StandsAt; ends = end_of_run }
 
 -- what a line of this number at a point, and those behind it, tell
 abbrev pub from_line : ℕ → List ℕ → Point → Option Place → List (List ℕ) → Told
@@ -124,3 +118,6 @@ HasErasAt most (run.Body r) = HasEras most r
 abbrev pub HasEraRoomAt : Run → Type 0
 HasEraRoomAt (run.Head h) = ⊤
 HasEraRoomAt (run.Body r) = HasEraRoom r.machine
+
+abbrev pub replay_running : Running
+replay_running = running StandsAt end_of_run (λ now. AsksBy from_point AsksAt) HasErasAt

@@ -5,8 +5,8 @@ use Rattle.std.specs.Prelude.{ℕ, ◌≡◌, ◌≢◌, ◌+◌, ◌-◌, ◌%�
 use Rattle.std.specs.Option.{option_map}
 use Rattle.mt_text.specs.Text.{lines_of}
 use Rattle.mt_ports.specs.declared.status.Failed.{Failed}
-use Rattle.mt_ports.specs.declared.status.Status.{Status}
-use Rattle.mt_ports.specs.declared.status.Status.TheVariants.{NoMemory}
+use Rattle.mt_stream.specs.declared.ending.Stop.{Stop}
+use Rattle.mt_stream.specs.declared.ending.Stop.TheVariants.{NoMemory}
 use Rattle.mt_regs.specs.declared.fault.Fault.{Fault}
 use Rattle.mt_regs.specs.Agreement.{first_refusal}
 use Rattle.mt_dump.specs.Dumps.{Dump}
@@ -66,17 +66,17 @@ abbrev pub LastsHere : ℕ → List ℕ → Point → Run → Type 0
 LastsHere number line was now = (lines : List (List ℕ)) → last_lines number (line ∷ lines) was ≡ state_in now
 
 -- what a run makes of one line
-abbrev pub Lasts : ℕ → List ℕ → Point → Run → Result (Option Status) Failed → Type 0
+abbrev pub Lasts : ℕ → List ℕ → Point → Run → Result (Option Stop) Failed → Type 0
 Lasts number line was now result =
     MatchResult result
-    (λ ended. MatchOption ended (LastsOn number line was now) (λ status. status ≢ NoMemory → LastsHere number line was now))
+    (λ ended. MatchOption ended (LastsOn number line was now) (λ stop. stop ≢ NoMemory → LastsHere number line was now))
     (λ _. ⊤)
 
 -- what a run in the head makes of the dump that is shown
-abbrev pub Begins : Situation → Dump → Run → Result (Option Status) Failed → Type 0
+abbrev pub Begins : Situation → Dump → Run → Result (Option Stop) Failed → Type 0
 Begins now dump new result =
     MatchResult result
     (λ ended. MatchOption ended
     ((first_refusal dump.files ≡ None) × (new ≡ run.Body (first_state now dump)))
-    (λ status. status ≢ NoMemory → (refusal : ℕ × Fault) × (first_refusal dump.files ≡ Some refusal) × (state_in new ≡ None)))
+    (λ stop. stop ≢ NoMemory → (refusal : ℕ × Fault) × (first_refusal dump.files ≡ Some refusal) × (state_in new ≡ None)))
     (λ _. ⊤)

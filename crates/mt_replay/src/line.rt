@@ -10,8 +10,8 @@ ghost use Rattle.mt_dump.specs.ForProcessors.{has_each};
 ghost use Rattle.mt_replay.specs.Kept.{HasEras};
 ghost use Rattle.mt_replay.specs.Parts.{AsksForMemory};
 ghost use Rattle.mt_replay.specs.ReplayState.{ReplayState, command_text, may_come, state_after, task_of};
-ghost use Rattle.mt_replay.specs.Running.{AsksAt, CarriesOut, HasEraRoomAt, HasErasAt, IsAt, IsQuiet, Writes, leading, leading_dump, replay_running, setup_of};
-ghost use Rattle.mt_stream.specs.Lines.{IsEnding, Takes};
+ghost use Rattle.mt_replay.specs.Running.{AsksAt, CarriesOut, HasEraRoomAt, HasErasAt, IsAt, IsQuiet, Writes, StandsAt, leading, leading_dump, setup_of};
+ghost use Rattle.mt_stream.specs.Lines.{IfGoesOn, Takes};
 ghost use Rattle.mt_replay.specs.Summing.{Begins, Lasts, state_in};
 ghost use Rattle.mt_replay.specs.Transcript.{Point, in_body};
 
@@ -20,11 +20,11 @@ use crate::replayer::Replayer;
 use crate::task::{Act, Task};
 use mt_dump::Dump;
 use mt_output::{LineBuffer, Writer, accepted_line, dump_refused_line, offence_line};
-use mt_ports::{Failed, Gate, NoMemory, Sink, Status};
+use mt_ports::{Failed, Gate, NoMemory, Sink};
 use mt_regs::first_refusal;
 use mt_rendezvous::Caller;
 use mt_script::{Command, Head, Offence, Setup, read_command};
-use mt_stream::tell;
+use mt_stream::{Stop, tell};
 use mt_text::Line;
 use std::alloc::Global;
 use std::mem;
@@ -56,17 +56,17 @@ fn tell_offence<K: Sink>(
     writer: &mut Writer,
     sink: &mut K,
     offence: &Offence,
-) -> Result<Option<Status>, Failed>
+) -> Result<Option<Stop>, Failed>
     ensures bytes { Adds writer.old (offence_line offence.now) writer.new (K.taken sink.old) (K.taken sink.new) result }
-    ensures status { IfOk result (λ ended. ended ≡ Some Status.BadText) }
-    ensures answer { (answer : Status) → result ≡ Ok (Some answer) → answer ≡ Status.BadText }
+    ensures stop { IfOk result (λ ended. ended ≡ Some Stop.BadText) }
+    ensures answer { (answer : Stop) → result ≡ Ok (Some answer) → answer ≡ Stop.BadText }
     ensures cause { HasCause (K.faults sink.old) (K.faults sink.new) result }
 {
     tell(
         writer,
         sink,
         offence_line(offence).as_slice(),
-        Status::BadText,
+        Stop::BadText,
     )
 }
 
@@ -79,15 +79,14 @@ fn begin<K: Sink>(
     dump: Dump,
     writer: &mut Writer,
     sink: &mut K,
-) -> Result<Option<Status>, Failed>
+) -> Result<Option<Stop>, Failed>
     requires stage { is_in_dump setup.stage ≡ true }
     requires each { has_each setup.cpus dump ≡ true }
     requires head { state_in run.old ≡ None }
     ensures bytes { (number : ℕ) →
-        Takes replay_running (leading_dump setup dump number) number [] run.new writer.old writer.new (K.taken sink.old) (K.taken sink.new) result }
-    ensures ending { (status : Status) → result ≡ Ok (Some status) → IsEnding status }
-    ensures eras { (most : ℕ) → MatchResult result (λ ended. MatchOption ended (HasErasAt most run.new) (λ _. Unit {0})) (λ _. Unit {0}) }
-    ensures asks { result ≡ Ok (Some Status.NoMemory) → first_refusal dump.files ≡ None }
+        Takes (StandsAt run.new) (leading_dump setup dump number) number [] writer.old writer.new (K.taken sink.old) (K.taken sink.new) result }
+    ensures eras { (most : ℕ) → IfGoesOn result (HasErasAt most run.new) }
+    ensures asks { result ≡ Ok (Some Stop.NoMemory) → first_refusal dump.files ≡ None }
     ensures state { Begins setup dump run.new result }
     ensures cause { HasCause (K.faults sink.old) (K.faults sink.new) result }
 {
@@ -95,10 +94,10 @@ fn begin<K: Sink>(
     let files = dump.files.as_slice();
     if let Some((k, fault)) = first_refusal(files) {
         let line = dump_refused_line(dump.version, k, &fault);
-        return tell(writer, sink, line.as_slice(), Status::Refused);
+        return tell(writer, sink, line.as_slice(), Stop::Refused);
     }
     let Ok(replayer) = Replayer::begin(alloc, setup, dump) else {
-        return Ok(Some(Status::NoMemory));
+        return Ok(Some(Stop::NoMemory));
     };
     *run = Run::Body(replayer);
     match writer.write(sink, accepted_line()) {
@@ -138,9 +137,9 @@ fn write_newcomer<K: Sink>(
     line: Result<LineBuffer, NoMemory>,
     writer: &mut Writer,
     sink: &mut K,
-) -> Result<Option<Status>, Failed>
+) -> Result<Option<Stop>, Failed>
     ensures told { IfOk line (λ text. Writes writer.old text.items writer.new (K.taken sink.old) (K.taken sink.new) result) }
-    ensures refused { OnErr line ((result ≡ Ok (Some Status.NoMemory)) × (writer.new ≡ writer.old) × (K.taken sink.new ≡ K.taken sink.old)) }
+    ensures refused { OnErr line ((result ≡ Ok (Some Stop.NoMemory)) × (writer.new ≡ writer.old) × (K.taken sink.new ≡ K.taken sink.old)) }
     ensures cause { HasCause (K.faults sink.old) (K.faults sink.new) result }
 {
     match line {
@@ -148,22 +147,22 @@ fn write_newcomer<K: Sink>(
             Ok(()) => Ok(None),
             Err(failed) => Err(failed),
         },
-        Err(_) => Ok(Some(Status::NoMemory)),
+        Err(_) => Ok(Some(Stop::NoMemory)),
     }
 }
 
-// Brings a processor up and writes the line of it. There is a status where memory is refused.
+// Brings a processor up and writes the line of it. It returns a stop if memory is refused.
 #[inline(never)]
 fn bring_up<K: Sink>(
     replayer: &mut Replayer,
     writer: &mut Writer,
     sink: &mut K,
-) -> Result<Option<Status>, Failed>
+) -> Result<Option<Stop>, Failed>
     requires fits { Fits replayer.old.now Command.Up }
     requires room { HasEraRoom replayer.old.machine }
     ensures bytes { CarriesOut replayer.old replayer.new Command.Up writer.old writer.new (K.taken sink.old) (K.taken sink.new) result }
-    ensures asks { (status : Status) → result ≡ Ok (Some status) → may_come replayer.old.machine ≡ true }
-    ensures refused { (status : Status) → result ≡ Ok (Some status) → status ≡ Status.NoMemory }
+    ensures asks { (stop : Stop) → result ≡ Ok (Some stop) → may_come replayer.old.machine ≡ true }
+    ensures refused { (stop : Stop) → result ≡ Ok (Some stop) → stop ≡ Stop.NoMemory }
     ensures cause { HasCause (K.faults sink.old) (K.faults sink.new) result }
 {
     write_newcomer(replayer.bring_up(), writer, sink)
@@ -175,18 +174,18 @@ fn admit<K: Sink>(
     replayer: &mut Replayer,
     writer: &mut Writer,
     sink: &mut K,
-) -> Result<Option<Status>, Failed>
+) -> Result<Option<Stop>, Failed>
     requires fits { Fits replayer.old.now Command.Join }
     requires room { HasEraRoom replayer.old.machine }
     ensures bytes { CarriesOut replayer.old replayer.new Command.Join writer.old writer.new (K.taken sink.old) (K.taken sink.new) result }
-    ensures asks { (status : Status) → result ≡ Ok (Some status) → may_come replayer.old.machine ≡ true }
-    ensures refused { (status : Status) → result ≡ Ok (Some status) → status ≡ Status.NoMemory }
+    ensures asks { (stop : Stop) → result ≡ Ok (Some stop) → may_come replayer.old.machine ≡ true }
+    ensures refused { (stop : Stop) → result ≡ Ok (Some stop) → stop ≡ Stop.NoMemory }
     ensures cause { HasCause (K.faults sink.old) (K.faults sink.new) result }
 {
     write_newcomer(replayer.admit(), writer, sink)
 }
 
-// Does a command and writes what it says. There is a status where memory is refused.
+// Does a command and writes what it says. It returns a stop if memory is refused.
 fn do_command<R: Threads + Wait + Sync, K: Sink, G: Gate>(
     caller: &Caller<R, G>,
     alloc: Global,
@@ -194,12 +193,12 @@ fn do_command<R: Threads + Wait + Sync, K: Sink, G: Gate>(
     c: &Command,
     writer: &mut Writer,
     sink: &mut K,
-) -> Result<Option<Status>, Failed>
+) -> Result<Option<Stop>, Failed>
     requires fits { Fits replayer.old.now c.now }
     requires room { HasEraRoom replayer.old.machine }
     ensures bytes { CarriesOut replayer.old replayer.new c.now writer.old writer.new (K.taken sink.old) (K.taken sink.new) result }
-    ensures asks { (status : Status) → result ≡ Ok (Some status) → AsksForMemory replayer.old.machine c.now }
-    ensures refused { (status : Status) → result ≡ Ok (Some status) → status ≡ Status.NoMemory }
+    ensures asks { (stop : Stop) → result ≡ Ok (Some stop) → AsksForMemory replayer.old.machine c.now }
+    ensures refused { (stop : Stop) → result ≡ Ok (Some stop) → stop ≡ Stop.NoMemory }
     ensures cause { HasCause (K.faults sink.old) (K.faults sink.new) result }
 {
     match task_of(c) {
@@ -209,7 +208,7 @@ fn do_command<R: Threads + Wait + Sync, K: Sink, G: Gate>(
         },
         Task::Window(base, lines) => match replayer.add_window(base, lines) {
             Ok(()) => Ok(None),
-            Err(_) => Ok(Some(Status::NoMemory)),
+            Err(_) => Ok(Some(Stop::NoMemory)),
         },
         Task::Up => bring_up(replayer, writer, sink),
         Task::Join => admit(replayer, writer, sink),
@@ -228,14 +227,12 @@ fn take_command<R: Threads + Wait + Sync, K: Sink, G: Gate>(
     line: &Line<'_>,
     writer: &mut Writer,
     sink: &mut K,
-) -> Result<Option<Status>, Failed>
+) -> Result<Option<Stop>, Failed>
     requires { HasEraRoom replayer.old.machine }
     ensures bytes { (came : Bool) (so_far : List ℕ) → IsQuiet (Run.Body replayer.old) came so_far →
-        Takes replay_running (leading came so_far line.now.number line.now.bytes.now (in_body replayer.old)) (line.now.number + 1) so_far
-        (Run.Body replayer.new) writer.old writer.new (K.taken sink.old) (K.taken sink.new) result }
-    ensures ending { (status : Status) → result ≡ Ok (Some status) → IsEnding status }
-    ensures eras { (most : ℕ) → HasEras most replayer.old → MatchResult result (λ ended. MatchOption ended (HasEras (most + 1) replayer.new) (λ _. Unit {0})) (λ _. Unit {0}) }
-    ensures asks { result ≡ Ok (Some Status.NoMemory) → AsksAt (in_body replayer.old) line.now.number line.now.bytes.now }
+        Takes (StandsAt (Run.Body replayer.new)) (leading came so_far line.now.number line.now.bytes.now (in_body replayer.old)) (line.now.number + 1) so_far writer.old writer.new (K.taken sink.old) (K.taken sink.new) result }
+    ensures eras { (most : ℕ) → HasEras most replayer.old → IfGoesOn result (HasEras (most + 1) replayer.new) }
+    ensures asks { result ≡ Ok (Some Stop.NoMemory) → AsksAt (in_body replayer.old) line.now.number line.now.bytes.now }
     ensures last { Lasts line.now.number line.now.bytes.now (in_body replayer.old) (Run.Body replayer.new) result }
     ensures cause { HasCause (K.faults sink.old) (K.faults sink.new) result }
 {
@@ -254,13 +251,12 @@ fn take_in_head<K: Sink>(
     line: &Line<'_>,
     writer: &mut Writer,
     sink: &mut K,
-) -> Result<Option<Status>, Failed>
+) -> Result<Option<Stop>, Failed>
     requires { (replayer : ReplayState) → run.old ≢ Run.Body replayer }
     ensures bytes { (came : Bool) (so_far : List ℕ) (was : Point) → IsAt run.old was → IsQuiet run.old came so_far →
-        Takes replay_running (leading came so_far line.now.number line.now.bytes.now was) (line.now.number + 1) so_far run.new writer.old writer.new (K.taken sink.old) (K.taken sink.new) result }
-    ensures ending { (status : Status) → result ≡ Ok (Some status) → IsEnding status }
-    ensures eras { (most : ℕ) → HasErasAt most run.old → MatchResult result (λ ended. MatchOption ended (HasErasAt (most + 1) run.new) (λ _. Unit {0})) (λ _. Unit {0}) }
-    ensures asks { (was : Point) → IsAt run.old was → result ≡ Ok (Some Status.NoMemory) → AsksAt was line.now.number line.now.bytes.now }
+        Takes (StandsAt run.new) (leading came so_far line.now.number line.now.bytes.now was) (line.now.number + 1) so_far writer.old writer.new (K.taken sink.old) (K.taken sink.new) result }
+    ensures eras { (most : ℕ) → HasErasAt most run.old → IfGoesOn result (HasErasAt (most + 1) run.new) }
+    ensures asks { (was : Point) → IsAt run.old was → result ≡ Ok (Some Stop.NoMemory) → AsksAt was line.now.number line.now.bytes.now }
     ensures last { (was : Point) → IsAt run.old was → Lasts line.now.number line.now.bytes.now was run.new result }
     ensures cause { HasCause (K.faults sink.old) (K.faults sink.new) result }
 {
@@ -278,7 +274,7 @@ fn take_in_head<K: Sink>(
     }
 }
 
-/// Takes a line. There is a status where the replay ends with it.
+/// Takes a line. It returns a stop if the replay ends with it.
 pub(crate) fn take_line<R: Threads + Wait + Sync, K: Sink, G: Gate>(
     caller: &Caller<R, G>,
     alloc: Global,
@@ -286,13 +282,12 @@ pub(crate) fn take_line<R: Threads + Wait + Sync, K: Sink, G: Gate>(
     line: &Line<'_>,
     writer: &mut Writer,
     sink: &mut K,
-) -> Result<Option<Status>, Failed>
+) -> Result<Option<Stop>, Failed>
     requires { HasEraRoomAt run.old }
     ensures bytes { (came : Bool) (so_far : List ℕ) (was : Point) → IsAt run.old was → IsQuiet run.old came so_far →
-        Takes replay_running (leading came so_far line.now.number line.now.bytes.now was) (line.now.number + 1) so_far run.new writer.old writer.new (K.taken sink.old) (K.taken sink.new) result }
-    ensures ending { (status : Status) → result ≡ Ok (Some status) → IsEnding status }
-    ensures eras { (most : ℕ) → HasErasAt most run.old → MatchResult result (λ ended. MatchOption ended (HasErasAt (most + 1) run.new) (λ _. Unit {0})) (λ _. Unit {0}) }
-    ensures asks { (was : Point) → IsAt run.old was → result ≡ Ok (Some Status.NoMemory) → AsksAt was line.now.number line.now.bytes.now }
+        Takes (StandsAt run.new) (leading came so_far line.now.number line.now.bytes.now was) (line.now.number + 1) so_far writer.old writer.new (K.taken sink.old) (K.taken sink.new) result }
+    ensures eras { (most : ℕ) → HasErasAt most run.old → IfGoesOn result (HasErasAt (most + 1) run.new) }
+    ensures asks { (was : Point) → IsAt run.old was → result ≡ Ok (Some Stop.NoMemory) → AsksAt was line.now.number line.now.bytes.now }
     ensures last { (was : Point) → IsAt run.old was → Lasts line.now.number line.now.bytes.now was run.new result }
     ensures cause { HasCause (K.faults sink.old) (K.faults sink.new) result }
 {

@@ -1,72 +1,47 @@
 ghost use Rattle.std.specs.Prelude.{◌≡◌, ◌≢◌, ◌↔◌, ℕ, List, [], Some};
 ghost use Rattle.mt_text.specs.Feed.{GaveTooMuch};
 ghost use Rattle.mt_ports.specs.Causes.{StatusHasCause};
-ghost use Rattle.mt_replay.specs.Running.{OutOfMemory, OutOfMemoryAtLine, Replays, end_of_run};
+ghost use Rattle.mt_replay.specs.Running.{HasEraRoomAt, OutOfMemory, Replays, replay_running};
 ghost use Rattle.mt_replay.specs.Transcript.{transcript};
-ghost use Rattle.mt_stream.specs.Lines.{Closes};
+ghost use Rattle.mt_stream.specs.Handling.{Taken, out};
 ghost use Rattle.mt_stream.specs.Runs.{EndsAs};
 
 use crate::line::{Run, take_line};
 use mt_output::{Writer, offence_line};
-use mt_ports::{Gate, Sink, Source, Status};
+use mt_ports::{Failed, Gate, Sink, Source, Status};
 use mt_rendezvous::Caller;
 use mt_script::{Head, Offence, read_end};
-use mt_stream::{close, cut_status, leave, next_line};
-use mt_text::Feed;
+use mt_stream::{End, LineRun, close, run_lines};
+use mt_text::{Line, Place};
 use std::alloc::Global;
 use std::sync::Wait;
 use std::thread::Threads;
 
-// Where the text ends.
-fn end_text<K: Sink>(run: &Run, feed: &Feed, writer: &mut Writer, sink: &mut K) -> Status
-    ensures bytes { Closes (end_of_run run.now feed.now.place) writer.old (K.taken sink.old) (K.taken sink.new) result }
-    ensures usage { result ≢ Status.Usage }
-    ensures few { (result ≢ Status.TooFew) × (result ≢ Status.Disabled) }
-    ensures cause { StatusHasCause Status.WriteFault (K.faults sink.old) (K.faults sink.new) result }
-{
-    match read_end(run.setup(), feed.end()) {
-        Ok(()) => close(writer, sink, b"", Status::Done),
-        Err(fault) => {
-            let line = offence_line(&Offence::Script(fault));
-            close(writer, sink, line.as_slice(), Status::BadText)
-        }
-    }
-}
+impl LineRun for Run {
+    ghost use Rattle.mt_replay.specs.Running.{AsksAt, HasErasAt, StandsAt, end_of_run};
+    ghost use Rattle.mt_replay.specs.Transcript.{from_point};
+    ghost use Rattle.mt_stream.specs.Runs.{AsksBy};
 
-// Runs the lines of a source to their end, to an offence or a refused dump, or to a fault.
-fn run_lines<R: Threads + Wait + Sync, S: Source, K: Sink, G: Gate>(
-    caller: &Caller<R, G>,
-    alloc: Global,
-    source: &mut S,
-    writer: &mut Writer,
-    sink: &mut K,
-) -> Status
-    requires { writer.old ≡ [] }
-    ensures bytes { (bytes : List ℕ) → S.left source.old ≡ Some bytes → Replays bytes (S.left source.new) (K.taken sink.old) (K.taken sink.new) result }
-    ensures memory { (bytes : List ℕ) → S.left source.old ≡ Some bytes → result ≡ Status.NoMemory → OutOfMemoryAtLine bytes (S.left source.new) (K.taken sink.old) (K.taken sink.new) }
-    ensures read_fault { StatusHasCause Status.ReadFault (S.faults source.old) (S.faults source.new) result }
-    ensures write_fault { StatusHasCause Status.WriteFault (K.faults sink.old) (K.faults sink.new) result }
-    ensures too_long { (result ≡ Status.TooLong) ↔ GaveTooMuch (S.given source.old) (S.given source.new) }
-    ensures usage { result ≢ Status.Usage }
-    ensures few { (result ≢ Status.TooFew) × (result ≢ Status.Disabled) }
-{
-    let mut feed = Feed::new();
-    let mut run = Run::Head(Head::new());
-    'lines: loop {
-        match next_line(&mut feed, source, writer, sink) {
-            Ok(true) => {}
-            Ok(false) => return end_text(&run, &feed, writer, sink),
-            Err(cut) => return cut_status(&cut),
-        }
-        let last = feed.is_last();
-        match take_line(caller, alloc, &mut run, &feed.current(), writer, sink) {
-            Ok(None) => {
-                if last {
-                    return end_text(&run, &feed, writer, sink);
-                }
+    ghost at = { StandsAt };
+
+    ghost ends = { end_of_run };
+
+    ghost asks = { λ now. AsksBy from_point AsksAt };
+
+    ghost ready = { HasErasAt };
+
+    fn finish<K: Sink>(
+        &self,
+        end: Place,
+        writer: &mut Writer,
+        sink: &mut K,
+    ) -> Result<End, Failed> {
+        match read_end(self.setup(), end) {
+            Ok(()) => close(writer, sink, b"", End::Done),
+            Err(fault) => {
+                let line = offence_line(&Offence::Script(fault));
+                close(writer, sink, line.as_slice(), End::BadText)
             }
-            Ok(Some(status)) => return leave(status, last, &mut feed, source, writer, sink),
-            Err(_) => return Status::WriteFault,
         }
     }
 }
@@ -97,7 +72,13 @@ pub fn replay_with<R: Threads + Wait + Sync, S: Source, K: Sink, G: Gate>(
     let Ok(mut writer) = Writer::new(alloc) else {
         return Status::NoMemory;
     };
-    run_lines(caller, alloc, source, &mut writer, sink)
+    let mut run = Run::Head(Head::new());
+    let take = |run: &mut Run, line: &Line<'_>, writer: &mut Writer, sink: &mut K|
+        requires { HasEraRoomAt run.old }
+        ensures { Taken replay_running run.old run.new line.now
+            (out writer.old (K.taken sink.old) (K.faults sink.old)) (out writer.new (K.taken sink.new) (K.faults sink.new)) result }
+    { take_line(caller, alloc, run, line, writer, sink) };
+    run_lines(take, &mut run, source, &mut writer, sink)
 }
 
 /// Runs a script on one machine and writes its transcript, with the transcript's status. The script

@@ -5,10 +5,11 @@ ghost use Rattle.mt_replay.specs.Summing.{state_in, with_line, with_memory, with
 
 use crate::line::{Run, take_line};
 use mt_output::{Writer, offence_line};
-use mt_ports::{Failed, Gate, NoMemory, Sink, Status};
+use mt_ports::{Failed, Gate, NoMemory, Sink};
 use mt_ram::Ram;
 use mt_rendezvous::Caller;
 use mt_script::{Head, Offence, read_end};
+use mt_stream::Stop;
 use mt_text::{end_place, hex64, next_line};
 use std::alloc::Global;
 use std::sync::Wait;
@@ -157,8 +158,8 @@ fn sum_lines<R: Threads + Wait + Sync, G: Gate>(
     'lines: while let Some(line) = next_line(source, at, number) {
         match take_line(caller, alloc, &mut run, &line, writer, &mut sink) {
             Ok(None) => add_waiting(&mut totals, writer),
-            Ok(Some(status)) => {
-                if status == Status::NoMemory {
+            Ok(Some(stop)) => {
+                if stop == Stop::NoMemory {
                     return Err(NoMemory);
                 }
                 add_waiting(&mut totals, writer);

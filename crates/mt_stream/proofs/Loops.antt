@@ -1,5 +1,5 @@
 -- What a loop over lines keeps over one of them, and what it leaves where it ends with one.
-use Rattle.std.proofs.Common.{◌≡◌, inl, inr, ℕ, ◌+◌, ◌<◌, true, false, List, [], ◌++◌, length, Option, None, Some, Ok, Err}
+use Rattle.std.proofs.Common.{◌≡◌, subst, inl, inr, ℕ, ◌+◌, ◌<◌, Bool, true, false, List, [], ◌++◌, length, Option, None, Some, Result, Ok, Err}
 use Rattle.std.specs.Io.KnownBytes.{Consumes}
 use Rattle.mt_ports.specs.Puts.{AppendsFront}
 use Rattle.mt_ports.specs.declared.status.Failed.{Failed}
@@ -7,44 +7,48 @@ use Rattle.mt_ports.specs.declared.status.Status.{Status}
 use Rattle.mt_ports.specs.declared.status.Status.TheVariants.{NoMemory, TooLong}
 use Rattle.mt_output.specs.Writing.{Passes}
 use Rattle.mt_text.specs.Feed.{Feeding, Moves, is_last, taken}
+use Rattle.mt_stream.specs.Handling.{RunsOn}
 use Rattle.mt_stream.specs.Laws.{AreLaws}
-use Rattle.mt_stream.specs.Lines.{Closes, Leaves, Path, Running, TakesAnywhere, tells_of}
+use Rattle.mt_stream.specs.Lines.{Closes, Leaves, Path, Running, TakesAnywhere, closed_status, tells_of}
 use Rattle.mt_stream.specs.Runs.{RefusedAtLine}
 use Rattle.mt_stream.specs.Told.{Telling, transcript}
-use Rattle.mt_stream.proofs.Telling.{HasLine, RunsOn, UnderWay, closes, ends_with_memory, line_ends, line_fails, line_goes_last, line_goes_on, line_refused, line_wants, moves_line}
+use Rattle.mt_stream.specs.declared.ending.End.{End}
+use Rattle.mt_stream.specs.declared.ending.Stop.{Stop}
+use Rattle.mt_stream.specs.declared.ending.Stop.TheVariants as stopped
+use Rattle.mt_stream.proofs.Telling.{HasLine, UnderWay, closes, ends_with_memory, line_ends, line_fails, line_goes_last, line_goes_on, line_refused, line_wants, moves_line}
 
 -- A loop has moved on to a line.
 module _ (R : Running) (start : Path) (laws : AreLaws R) (bytes more : List ℕ) (source left : Option (List ℕ)) (old new : Feeding) (now : R.Run) (waiting later : List ℕ) (a b c : Option (List ℕ))
-    (told : UnderWay R start bytes source old now waiting a b) (takes : Consumes source left more) (moves : Moves old new (old.pending ++ more) left true) (passed : Passes waiting [] later b c) where
+    (told : UnderWay R start bytes source old now waiting a b) (takes : Consumes source left more)
+    (moved : Bool) (is : moved ≡ true) (next : Moves old new (old.pending ++ more) left moved × Passes waiting [] later b c) where
   here : HasLine R start bytes left new now later a c
-  here = moves_line R start laws bytes more source left old new now waiting later a b c told takes moves passed
+  here = moves_line R start laws bytes more source left old new now waiting later a b c told takes (subst (Moves old new (old.pending ++ more) left) is next.0) next.1
 
   module _ (run : R.Run) (after : List ℕ) (d : Option (List ℕ)) where
-    pub goes_on : TakesAnywhere R now run new.line.number new.line.bytes later after c d (Ok None) → is_last new ≡ false → UnderWay R start bytes left new run after a d
+    pub goes_on : TakesAnywhere (R.At now) (R.At run) new.line.number new.line.bytes later after c d (Ok None) → is_last new ≡ false → UnderWay R start bytes left new run after a d
     goes_on does going = line_goes_on R start laws bytes left new now later a c here run after d (does here.text here.point here.at) going
 
-    pub goes_last : TakesAnywhere R now run new.line.number new.line.bytes later after c d (Ok None) → is_last new ≡ true → (e : Option (List ℕ)) (status : Status) → Closes (R.ends run new.place) after d e status → RunsOn start bytes left a e status
-    goes_last does last e status put =
-        closes R start laws bytes left new.place run after a d e status (line_goes_last R start laws bytes left new now later a c here run after d (does here.text here.point here.at) last) put
+    pub goes_last : TakesAnywhere (R.At now) (R.At run) new.line.number new.line.bytes later after c d (Ok None) → is_last new ≡ true → (e : Option (List ℕ)) (result : Result End Failed) → Closes (R.ends run new.place) after d e result → RunsOn start bytes left a e (closed_status result)
+    goes_last does last e result put =
+        closes R start laws bytes left new.place run after a d e result (line_goes_last R start laws bytes left new now later a c here run after d (does here.text here.point here.at) last) put
 
-    pub fails : (failed : Failed) → TakesAnywhere R now run new.line.number new.line.bytes later after c d (Err failed) → AppendsFront a d (transcript (tells_of start) bytes).text
+    pub fails : (failed : Failed) → TakesAnywhere (R.At now) (R.At run) new.line.number new.line.bytes later after c d (Err failed) → AppendsFront a d (transcript (tells_of start) bytes).text
     fails failed does = line_fails R start laws bytes left new now later a c here d (does here.text here.point here.at)
 
     -- it ends with that line
-    module _ (status result : Status) (dropped : List ℕ) (source_after e : Option (List ℕ)) (drains : Consumes left source_after dropped) (long : result ≡ TooLong → 16777216 < taken new + length dropped)
-        (leaves : Leaves status (is_last new) dropped source_after after d e result) (does : TakesAnywhere R now run new.line.number new.line.bytes later after c d (Ok (Some status))) where
+    module _ (stop : Stop) (result : Status) (dropped : List ℕ) (source_after e : Option (List ℕ)) (drains : Consumes left source_after dropped) (long : result ≡ TooLong → 16777216 < taken new + length dropped)
+        (leaves : Leaves stop (is_last new) dropped source_after after d e result) (does : TakesAnywhere (R.At now) (R.At run) new.line.number new.line.bytes later after c d (Ok (Some stop))) where
       pub ends : RunsOn start bytes source_after a e result
       ends = elim (does here.text here.point here.at) [
-        | inl ended ↦ line_ends R start laws bytes left new now later a c here status result dropped after source_after d e drains long leaves ended
-        | inr wants ↦ line_wants R start laws bytes left new now later a c here status result dropped after source_after d e drains long leaves wants
+        | inl ended ↦ line_ends R start laws bytes left new now later a c here stop result dropped after source_after d e drains long leaves ended
+        | inr wants ↦ line_wants R start laws bytes left new now later a c here stop result dropped after source_after d e drains long leaves wants
       ]
 
-      pub refuses : {P : Type 0} (tell : P → Telling) (first : P) (Asks : P → ℕ → List ℕ → Type 0) → tells_of start ≡ tell first
-          → (status ≡ NoMemory → (so_far : List ℕ) (was : Path) → R.At now so_far was → (p : P) × (tells_of was ≡ tell p) × Asks p new.line.number new.line.bytes)
-          → result ≡ NoMemory → RefusedAtLine tell first Asks bytes source_after a e
-      refuses tell first Asks begins asks none = elim (does here.text here.point here.at) [
-        | inl ended ↦ absurd (ends_with_memory R start laws bytes left new now later a c here status result dropped after source_after d e drains long leaves ended none)
+      pub refuses : (Asks : Telling → ℕ → List ℕ → Type 0) → (stop ≡ stopped.NoMemory → (so_far : List ℕ) (was : Path) → R.At now so_far was → Asks (tells_of was) new.line.number new.line.bytes)
+          → result ≡ NoMemory → RefusedAtLine (tells_of start) Asks bytes source_after a e
+      refuses Asks asks none = elim (does here.text here.point here.at) [
+        | inl ended ↦ absurd (ends_with_memory R start laws bytes left new now later a c here stop result dropped after source_after d e drains long leaves ended none)
         | inr wants ↦
-            let (p, stands, asked) = asks wants.refused here.text here.point here.at in
-            line_refused R start laws bytes left new now later a c here status result dropped after source_after d e drains long leaves tell first p Asks begins stands none wants.refused wants.waits wants.kept asked
+            line_refused R start laws bytes left new now later a c here stop result dropped after source_after d e drains long leaves Asks none wants.refused wants.waits wants.kept
+            (asks wants.refused here.text here.point here.at)
       ]

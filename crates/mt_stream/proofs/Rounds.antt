@@ -1,6 +1,7 @@
 -- What a round of a loop over lines keeps, whether or not the source tells its bytes.
-use Rattle.std.proofs.Common.{◌≡◌, ◌∙◌, ap, sym, refl, subst, arith, inl, inr, ℕ, ◌+◌, ◌≤◌, ◌<◌, Bool, true, false, List, ◌++◌, length, Option, None, Some}
+use Rattle.std.proofs.Common.{◌≡◌, ◌∙◌, ap, sym, refl, subst, arith, inl, inr, ℕ, ◌+◌, ◌≤◌, ◌<◌, nat_lt, Bool, true, false, List, ◌++◌, length, Option, None, Some}
 use Rattle.std.specs.Prelude.{◌≢◌, ◌↔◌, ◌⊎◌}
+use Rattle.std.proofs.lemmas.Bool.Decides.{nat_tests}
 use Rattle.std.proofs.lemmas.List.{length-append, length-drop}
 use Rattle.mt_ports.specs.declared.status.Status.{Status}
 use Rattle.mt_ports.specs.declared.status.Status.TheVariants.{BadText, Disabled, Done, NoMemory, ReadFault, Refused, TooFew, TooLong, Usage, WriteFault}
@@ -23,8 +24,9 @@ front_bounds seen left (count, false) (inl known) = let many : count ≡ 4097 = 
 front_bounds seen left front (inr last) = let is : with_end front ≡ length seen + 0 = ap (λ (f : ℕ × Bool). with_end f) last.3 in (omega (arith, is, last.2), omega (arith, is))
 
 module _ (old new : Feeding) (more : List ℕ) (left : Option (List ℕ)) where
-  pub moved_taken : Moves old new (old.pending ++ more) left true → (taken new ≡ taken old + length more) × (old.offset + 1 ≤ new.offset) × (new.fault ≡ old.fault)
-  moved_taken moves =
+  pub moved_taken : (moved : Bool) → moved ≡ true → Moves old new (old.pending ++ more) left moved → (taken new ≡ taken old + length more) × (old.offset + 1 ≤ new.offset) × (new.fault ≡ old.fault)
+  moved_taken false none moves = absurd (cc none)
+  moved_taken true some moves =
       let (front, is, moved) = moves in
       let bounds = front_bounds (old.pending ++ more) left front is in
       let offset : new.offset ≡ old.offset + with_end front = ap (λ f. f.offset) moved in
@@ -42,14 +44,14 @@ module _ (old new : Feeding) (more : List ℕ) (left : Option (List ℕ)) where
 pub not_much : (feed : Feeding) → IsLong feed → feed.fault ≡ None → 16777216 < taken feed → ⊥
 not_much feed long none many = let e : None ≡ Some fault.TooLong = sym none ∙ long.1 many in cc e
 
--- ---- statuses
+pub few_taken : (feed : Feeding) → IsLong feed → feed.fault ≡ None → taken feed ≤ 16777216
+few_taken feed long none = by (nat_lt 16777216 (taken feed)) refl
+  where
+    by : (much : Bool) → nat_lt 16777216 (taken feed) ≡ much → taken feed ≤ 16777216
+    by true many = absurd (not_much feed long none (grind (arith, nat_tests, many)))
+    by false few = grind (arith, nat_tests, few)
 
-pub close_statuses : (t : Told) (waiting : List ℕ) (a b : Option (List ℕ)) (status : Status) → (t.status ≡ Done) ⊎ (t.status ≡ BadText) → Closes t waiting a b status → (status ≢ TooLong) × (status ≢ ReadFault)
-close_statuses t waiting a b status (inl done) (inl all) =
-    (λ is. let e : Done ≡ TooLong = sym done ∙ sym all.0 ∙ is in cc e, λ is. let e : Done ≡ ReadFault = sym done ∙ sym all.0 ∙ is in cc e)
-close_statuses t waiting a b status (inr bad) (inl all) =
-    (λ is. let e : BadText ≡ TooLong = sym bad ∙ sym all.0 ∙ is in cc e, λ is. let e : BadText ≡ ReadFault = sym bad ∙ sym all.0 ∙ is in cc e)
-close_statuses t waiting a b status one (inr failed) = (λ is. let e : WriteFault ≡ TooLong = sym failed.0 ∙ is in cc e, λ is. let e : WriteFault ≡ ReadFault = sym failed.0 ∙ is in cc e)
+-- ---- statuses
 
 pub never_much : (status : Status) (before now : ℕ) (feed : Feeding) → status ≢ TooLong → now ≡ before + taken feed → IsLong feed → feed.fault ≡ None → (status ≡ TooLong) ↔ GaveTooMuch before now
 never_much status before now feed other given long none = (λ is. absurd (other is), λ much. absurd (not_much feed long none (omega (arith, given, much))))

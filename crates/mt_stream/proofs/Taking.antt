@@ -1,42 +1,44 @@
 -- What a run makes of one line.
 use Rattle.std.proofs.Common.{◌≡◌, ◌∙◌, ap, sym, subst, inl, inr, ℕ, List, [], ◌++◌, Option, None, Some, Result, Ok, Err, append-nil, append_assoc}
-use Rattle.std.specs.Prelude.{◌⊎◌, IfOk}
+use Rattle.std.specs.Prelude.{◌≢◌, IfOk}
 use Rattle.std.specs.Io.KnownBytes.{Appends}
 use Rattle.std.proofs.KnownBytes.{Appends-trans}
 use Rattle.mt_ports.specs.declared.status.Failed.{Failed}
 use Rattle.mt_ports.specs.declared.status.Status.{Status}
-use Rattle.mt_ports.specs.declared.status.Status.TheVariants.{BadText, Refused}
 use Rattle.mt_output.specs.Writing.{Adds, Passes}
 use Rattle.mt_output.proofs.Writing.{adds_after}
 use Rattle.mt_text.specs.declared.place.Place.{Place}
 use Rattle.mt_stream.specs.Laws.{IsLongLed, IsLongTold}
-use Rattle.mt_stream.specs.Lines.{Closes, Leading, Leads, Running, Takes, early_at}
+use Rattle.mt_stream.specs.Lines.{Closes, Leading, Leads, Path, Takes, early_at, stop_status}
 use Rattle.mt_stream.specs.Told.{Telling, Told, told}
+use Rattle.mt_stream.specs.declared.ending.End.{End}
+use Rattle.mt_stream.specs.declared.ending.Stop.{Stop}
+use Rattle.mt_stream.specs.declared.ending.Stop.TheVariants.{NoMemory}
 
 -- a last text was written, or failed
-pub takes_last : (R : Running) (from : Leading) (number : ℕ) (so_far : List ℕ) (now : R.Run) (text waiting left : List ℕ) (status : Status) (a b : Option (List ℕ)) (result : Result (Option Status) Failed)
-    → ((end : Option Place) (lines : List (List ℕ)) → (from end lines).tells ≡ told text status) → (status ≡ Refused) ⊎ (status ≡ BadText) → Adds waiting text left a b result → IfOk result (λ ended. ended ≡ Some status)
-    → Takes R from number so_far now waiting left a b result
-takes_last R from number so_far now text waiting left status a b (Ok None) stops one adds is = absurd (cc is)
-takes_last R from number so_far now text waiting left status a b (Ok (Some answer)) stops one adds is =
-    let same : answer ≡ status = cc is in
-    inl (record { telling = told text status; stops = stops; status_is = same; last = subst (λ (s : Status). (s ≡ Refused) ⊎ (s ≡ BadText)) (sym same) one; passed = adds })
-takes_last R from number so_far now text waiting left status a b (Err failed) stops one adds is = record {
+pub takes_last : (At : List ℕ → Path → Type 0) (from : Leading) (number : ℕ) (so_far text waiting left : List ℕ) (stop : Stop) (a b : Option (List ℕ)) (result : Result (Option Stop) Failed)
+    → ((end : Option Place) (lines : List (List ℕ)) → (from end lines).tells ≡ told text (stop_status stop)) → stop ≢ NoMemory → Adds waiting text left a b result → IfOk result (λ ended. ended ≡ Some stop)
+    → Takes At from number so_far waiting left a b result
+takes_last At from number so_far text waiting left stop a b (Ok None) stops last adds is = absurd (cc is)
+takes_last At from number so_far text waiting left stop a b (Ok (Some answer)) stops last adds is =
+    let same : answer ≡ stop = cc is in
+    inl (record { telling = told text (stop_status stop); stops = stops; status_is = ap stop_status same; last = λ none. last (sym same ∙ none); passed = adds })
+takes_last At from number so_far text waiting left stop a b (Err failed) stops last adds is = record {
   text = text;
   front = λ end lines. ([], ap (λ (t : Told). t.text) (stops end lines) ∙ sym (append-nil text));
   failed = adds;
 }
 
 -- the same, where the line and those behind it lead to as much
-pub takes_same : (R : Running) (from other : Leading) (number : ℕ) (so_far : List ℕ) (now : R.Run) (waiting left : List ℕ) (a b : Option (List ℕ)) (result : Result (Option Status) Failed)
-    → ((end : Option Place) (lines : List (List ℕ)) → other end lines ≡ from end lines) → Takes R from number so_far now waiting left a b result → Takes R other number so_far now waiting left a b result
-takes_same R from other number so_far now waiting left a b (Ok None) same g =
+pub takes_same : (At : List ℕ → Path → Type 0) (from other : Leading) (number : ℕ) (so_far waiting left : List ℕ) (a b : Option (List ℕ)) (result : Result (Option Stop) Failed)
+    → ((end : Option Place) (lines : List (List ℕ)) → other end lines ≡ from end lines) → Takes At from number so_far waiting left a b result → Takes At other number so_far waiting left a b result
+takes_same At from other number so_far waiting left a b (Ok None) same g =
     record { next = g.next; at = g.at; text = g.text; goes = λ end lines. same end lines ∙ g.goes end lines; passed = g.passed }
-takes_same R from other number so_far now waiting left a b (Ok (Some status)) same (inl e) =
+takes_same At from other number so_far waiting left a b (Ok (Some stop)) same (inl e) =
     inl (record { telling = e.telling; stops = λ end lines. ap (λ (x : Leads). x.tells) (same end lines) ∙ e.stops end lines; status_is = e.status_is; last = e.last; passed = e.passed })
-takes_same R from other number so_far now waiting left a b (Ok (Some status)) same (inr w) =
+takes_same At from other number so_far waiting left a b (Ok (Some stop)) same (inr w) =
     inr (record { refused = w.refused; early = λ end lines. let (rest, is) = w.early end lines in (rest, ap (λ (x : Leads). x.early) (same end lines) ∙ is); waits = w.waits; kept = w.kept })
-takes_same R from other number so_far now waiting left a b (Err failed) same f = record {
+takes_same At from other number so_far waiting left a b (Err failed) same f = record {
   text = f.text;
   front = λ end lines. let (rest, cut) = f.front end lines in (rest, ap (λ (x : Leads). x.tells.text) (same end lines) ∙ cut);
   failed = f.failed;
@@ -45,12 +47,12 @@ takes_same R from other number so_far now waiting left a b (Err failed) same f =
 -- ---- the end
 
 -- a text was passed, and then a last one was written, or a front of it
-pub closes_after : (waiting first middle second : List ℕ) (last status : Status) (a b c : Option (List ℕ)) → Passes waiting first middle a b → Closes (told second last) middle b c status → Closes (told (first ++ second) last) waiting a c status
-closes_after waiting first middle second last status a b c p (inl all) =
+pub closes_after : (waiting first middle second : List ℕ) (last : Status) (result : Result End Failed) (a b c : Option (List ℕ)) → Passes waiting first middle a b → Closes (told second last) middle b c result → Closes (told (first ++ second) last) waiting a c result
+closes_after waiting first middle second last (Ok end) a b c p all =
     let joined : p.front ++ (middle ++ second) ≡ waiting ++ (first ++ second) =
     sym (append_assoc p.front middle second) ∙ ap (λ (l : List ℕ). l ++ second) (sym p.cut) ∙ append_assoc waiting first second in
-    inl (all.0, subst (Appends a c) joined (Appends-trans a b c p.front (middle ++ second) p.taken all.1))
-closes_after waiting first middle second last status a b c p (inr failed) = inr (failed.0, adds_after {T = Unit {0}} {E = Unit {0}} waiting first middle second [] a b c (Err tt) p failed.1)
+    (all.0, subst (Appends a c) joined (Appends-trans a b c p.front (middle ++ second) p.taken all.1))
+closes_after waiting first middle second last (Err failed) a b c p front = adds_after {T = Unit {0}} {E = Unit {0}} waiting first middle second [] a b c (Err tt) p front
 
 -- ---- a line too long
 

@@ -1,12 +1,13 @@
 -- What a run tells, line by line.
-use Rattle.std.proofs.Common.{◌≡◌, ◌∙◌, ap, sym, refl, subst, arith, inl, inr, ℕ, ◌+◌, ◌≤◌, ◌<◌, nat_lt, Bool, true, false, List, [], ◌∷◌, ◌++◌, length, take, drop, Option, None, Some, append_assoc, append-nil, ◌==◌}
-use Rattle.std.specs.Prelude.{◌⊎◌, ◌&&◌, not}
+use Rattle.std.proofs.Common.{◌≡◌, ◌∙◌, ap, sym, refl, subst, arith, inl, inr, ℕ, ◌+◌, ◌≤◌, ◌<◌, nat_lt, Bool, true, false, List, [], ◌∷◌, ◌++◌, length, take, drop, Option, None, Some, Result, Ok, Err, append_assoc, append-nil, ◌==◌}
+use Rattle.std.specs.Prelude.{◌≢◌, ◌⊎◌, ◌&&◌, not}
 use Rattle.std.specs.Io.KnownBytes.{Appends, Consumes, IsAtEnd}
 use Rattle.std.proofs.KnownBytes.{Appends-nil, Appends-trans}
 use Rattle.std.proofs.lemmas.Bool.Decides.{nat_tests}
 use Rattle.std.proofs.lemmas.List.{length-append, length-drop, length-take-le, take-append-drop}
 use Rattle.std.proofs.Math.Seq.{take-length}
 use Rattle.mt_ports.specs.Puts.{AppendsFront}
+use Rattle.mt_ports.specs.declared.status.Failed.{Failed}
 use Rattle.mt_ports.specs.declared.status.Status.{Status}
 use Rattle.mt_ports.specs.declared.status.Status.TheVariants.{BadText, Done, NoMemory, ReadFault, Refused, TooLong, WriteFault}
 use Rattle.mt_output.specs.Writing.{Passes}
@@ -19,9 +20,14 @@ use Rattle.mt_text.proofs.Feeding.{front_within, unknown_few}
 use Rattle.mt_text.proofs.Fronts.{last_front, long_front, place_of_front}
 use Rattle.mt_stream.specs.Known.{known_part, known_text}
 use Rattle.mt_stream.specs.Laws.{AreLaws, IsLongLed}
-use Rattle.mt_stream.specs.Lines.{Closes, CutShort, Ends, Fails, GoesOn, Leads, Leaves, Path, Running, Wants, cut_status, early_of, from_line, leads_behind, tells_of}
-use Rattle.mt_stream.specs.Runs.{RefusedAtLine, Runs}
+use Rattle.mt_stream.specs.Lines.{Closes, CutShort, Ends, Fails, GoesOn, Leads, Leaves, Path, Running, Wants, closed_status, cut_status, early_of, from_line, leads_behind, stop_status, tells_of}
+use Rattle.mt_stream.specs.Handling.{RunsOn}
+use Rattle.mt_stream.specs.Runs.{RefusedAtLine}
 use Rattle.mt_stream.specs.Told.{Telling, Told, behind, transcript}
+use Rattle.mt_stream.specs.declared.ending.End.{End}
+use Rattle.mt_stream.specs.declared.ending.End.TheVariants as text_end
+use Rattle.mt_stream.specs.declared.ending.Stop.{Stop}
+use Rattle.mt_stream.specs.declared.ending.Stop.TheVariants as stopped
 use Rattle.mt_stream.specs.declared.running.Cut.{Cut}
 use Rattle.mt_stream.specs.declared.running.Cut.TheVariants as cut
 use Rattle.mt_stream.proofs.Fronts.{ended_known, ended_lines, long_lines, unknown_part}
@@ -64,30 +70,36 @@ pub none_left : (left : Option (List ℕ)) (rest : List ℕ) → left ≡ Some r
 none_left left rest is end = subst IsAtEnd is end
 
 -- memory is refused where the line that ends a run was
-pub refused_line : (status : Status) (last : Bool) (more : List ℕ) (left : Option (List ℕ)) (waiting : List ℕ) (a b : Option (List ℕ)) (result : Status) → Leaves status last more left waiting a b result → result ≡ NoMemory → status ≡ NoMemory
-refused_line status last more left waiting a b result (inl unwritten) is = let e : NoMemory ≡ WriteFault = sym is ∙ unwritten.0 in absurd (cc e)
-refused_line status last more left waiting a b result (inr (put, inl kept)) is = sym kept.0 ∙ is
-refused_line status last more left waiting a b result (inr (put, inr (going, other, inl all))) is = sym all.0 ∙ is
-refused_line status last more left waiting a b result (inr (put, inr (going, other, inr (inl read)))) is = let e : NoMemory ≡ ReadFault = sym is ∙ read in absurd (cc e)
-refused_line status last more left waiting a b result (inr (put, inr (going, other, inr (inr much)))) is = let e : NoMemory ≡ TooLong = sym is ∙ much in absurd (cc e)
+wants_memory : (stop : Stop) → stop_status stop ≡ NoMemory → stop ≡ stopped.NoMemory
+wants_memory stopped.Refused is = cc is
+wants_memory stopped.BadText is = cc is
+wants_memory stopped.NoMemory is = refl
+
+pub refused_line : (stop : Stop) (last : Bool) (more : List ℕ) (left : Option (List ℕ)) (waiting : List ℕ) (a b : Option (List ℕ)) (result : Status) → Leaves stop last more left waiting a b result → result ≡ NoMemory → stop ≡ stopped.NoMemory
+refused_line stop last more left waiting a b result (inl unwritten) is = let e : NoMemory ≡ WriteFault = sym is ∙ unwritten.0 in absurd (cc e)
+refused_line stop last more left waiting a b result (inr (put, inl kept)) is = wants_memory stop (sym kept.0 ∙ is)
+refused_line stop last more left waiting a b result (inr (put, inr (going, other, inl all))) is = wants_memory stop (sym all.0 ∙ is)
+refused_line stop last more left waiting a b result (inr (put, inr (going, other, inr (inl read)))) is = let e : NoMemory ≡ ReadFault = sym is ∙ read in absurd (cc e)
+refused_line stop last more left waiting a b result (inr (put, inr (going, other, inr (inr much)))) is = let e : NoMemory ≡ TooLong = sym is ∙ much in absurd (cc e)
 
 -- all that waited went to the sink then, and nothing more was read
-refused_leaves : (status : Status) (last : Bool) (more : List ℕ) (left : Option (List ℕ)) (waiting : List ℕ) (a b : Option (List ℕ)) (result : Status) → Leaves status last more left waiting a b result → result ≡ NoMemory → status ≡ NoMemory
+refused_leaves : (stop : Stop) (last : Bool) (more : List ℕ) (left : Option (List ℕ)) (waiting : List ℕ) (a b : Option (List ℕ)) (result : Status) → Leaves stop last more left waiting a b result → result ≡ NoMemory → stop ≡ stopped.NoMemory
     → Appends a b waiting × (more ≡ [])
-refused_leaves status last more left waiting a b result (inl unwritten) is wants = let e : NoMemory ≡ WriteFault = sym is ∙ unwritten.0 in absurd (cc e)
-refused_leaves status last more left waiting a b result (inr (put, inl kept)) is wants = (put, kept.2)
-refused_leaves status last more left waiting a b result (inr (put, inr (going, other, rest))) is wants = absurd (other wants)
+refused_leaves stop last more left waiting a b result (inl unwritten) is wants = let e : NoMemory ≡ WriteFault = sym is ∙ unwritten.0 in absurd (cc e)
+refused_leaves stop last more left waiting a b result (inr (put, inl kept)) is wants = (put, kept.2)
+refused_leaves stop last more left waiting a b result (inr (put, inr (going, other, rest))) is wants = absurd (other wants)
 
--- neither a cut nor the end refuses memory
+-- another line that ends a run tells so
+told_so : (stop : Stop) → stop ≢ stopped.NoMemory → (stop_status stop ≡ Done) ⊎ (stop_status stop ≡ Refused) ⊎ (stop_status stop ≡ BadText)
+told_so stopped.Refused other = inr (inl refl)
+told_so stopped.BadText other = inr (inr refl)
+told_so stopped.NoMemory other = absurd (other refl)
+
+-- no cut refuses memory
 pub cut_has_memory : (why : Cut) → cut_status why ≡ NoMemory → ⊥
 cut_has_memory cut.Write is = cc is
 cut_has_memory (cut.Feed fault.ReadFault) is = cc is
 cut_has_memory (cut.Feed fault.TooLong) is = cc is
-
-pub close_has_memory : (t : Told) (waiting : List ℕ) (a b : Option (List ℕ)) (status : Status) → (t.status ≡ Done) ⊎ (t.status ≡ BadText) → Closes t waiting a b status → status ≡ NoMemory → ⊥
-close_has_memory t waiting a b status (inl done) (inl all) is = let e : Done ≡ NoMemory = sym done ∙ sym all.0 ∙ is in cc e
-close_has_memory t waiting a b status (inr bad) (inl all) is = let e : BadText ≡ NoMemory = sym bad ∙ sym all.0 ∙ is in cc e
-close_has_memory t waiting a b status one (inr failed) is = let e : WriteFault ≡ NoMemory = sym failed.0 ∙ is in cc e
 
 -- what a whole text or a front of it tells, and what lines tell from a point on
 abbrev told_of : Path → Option Place → List ℕ → Leads
@@ -95,10 +107,6 @@ told_of start end text = start end 1 (lines_of text)
 
 abbrev told_lines : Option Place → ℕ → List (List ℕ) → Path → Leads
 told_lines end number lines was = was end number lines
-
--- what a run leaves whose lines lead to this
-abbrev pub RunsOn : Path → List ℕ → Option (List ℕ) → Option (List ℕ) → Option (List ℕ) → Status → Type 0
-RunsOn start bytes left before after status = Runs (tells_of start) (early_of start bytes) bytes left before after status
 
 -- ---- between two lines
 
@@ -299,7 +307,7 @@ module _ (R : Running) (start : Path) (laws : AreLaws R) where
     ]
 
     -- a run doesn't go on behind a line too long
-    long_never_goes : (later : R.Run) (left : List ℕ) (c : Option (List ℕ)) → GoesOn R Leading (feed.line.number + 1) h.text later waiting left b c → 4096 < length feed.line.bytes → ⊥
+    long_never_goes : (later : R.Run) (left : List ℕ) (c : Option (List ℕ)) → GoesOn (R.At later) Leading (feed.line.number + 1) h.text waiting left b c → 4096 < length feed.line.bytes → ⊥
     long_never_goes later left c g long =
         let none = laws.unknown later (h.text ++ g.text) g.next (feed.line.number + 1) g.at in
         let e : BadText ≡ Done = sym long_told.bad ∙ ap (λ (t : Leads). t.tells.status) (sym (long_told.is feed.line.bytes None [] long) ∙ g.goes None []) ∙ ap (λ (t : Told). t.status) none in
@@ -307,7 +315,7 @@ module _ (R : Running) (start : Path) (laws : AreLaws R) where
 
     -- ---- it goes on
 
-    module _ (later : R.Run) (left : List ℕ) (c : Option (List ℕ)) (g : GoesOn R Leading (feed.line.number + 1) h.text later waiting left b c) where
+    module _ (later : R.Run) (left : List ℕ) (c : Option (List ℕ)) (g : GoesOn (R.At later) Leading (feed.line.number + 1) h.text waiting left b c) where
       goes_ended : (count : ℕ) → h.front ≡ (count, true) → known_front h.seen ≡ Some (count, true) → UnderWay R start bytes source feed later left a c
       goes_ended count is known =
           let ended : List ℕ = take (count + 1) h.seen in
@@ -348,7 +356,7 @@ module _ (R : Running) (start : Path) (laws : AreLaws R) where
   -- ---- the text ends
 
   module _ (bytes : List ℕ) (source : Option (List ℕ)) (feed : Feeding) (now : R.Run) (waiting : List ℕ) (a b : Option (List ℕ)) (h : HasLine R start bytes source feed now waiting a b)
-      (later : R.Run) (left : List ℕ) (c : Option (List ℕ)) (g : GoesOn R (from_line feed.line.number feed.line.bytes h.point) (feed.line.number + 1) h.text later waiting left b c) where
+      (later : R.Run) (left : List ℕ) (c : Option (List ℕ)) (g : GoesOn (R.At later) (from_line feed.line.number feed.line.bytes h.point) (feed.line.number + 1) h.text waiting left b c) where
     last_ends : IsAtEnd source → known_front h.seen ≡ None → 1 ≤ length h.seen → h.front ≡ (length h.seen, false) → AtEnd R start bytes source feed.place later left a c
     last_ends end unknown some front =
         let none : h.rest ≡ [] = none_left source h.rest h.is_left end in
@@ -407,19 +415,15 @@ module _ (R : Running) (start : Path) (laws : AreLaws R) where
         taken : Appends a b (transcript (tells_of start) bytes).text
         taken = subst (Appends a b) (sym (ap (λ (x : Told). x.text) is)) put
 
-  pub closes : (bytes : List ℕ) (source : Option (List ℕ)) (place : Place) (now : R.Run) (waiting : List ℕ) (a b c : Option (List ℕ)) (status : Status) → AtEnd R start bytes source place now waiting a b
-      → Closes (R.ends now place) waiting b c status → RunsOn start bytes source a c status
-  closes bytes source place now waiting a b c status h (inl all) =
-      tells_all bytes h.text source a c (R.ends now place) h.tells (passes_then h.text waiting (R.ends now place).text a b c h.passed all.1) h.is_left status all.0
-      (one (laws.ending now place))
-    where
-      one : ((R.ends now place).status ≡ Done) ⊎ ((R.ends now place).status ≡ BadText) → (status ≡ Done) ⊎ (status ≡ Refused) ⊎ (status ≡ BadText)
-      one (inl done) = inl (all.0 ∙ done)
-      one (inr bad) = inr (inr (all.0 ∙ bad))
-  closes bytes source place now waiting a b c status h (inr front) =
+  pub closes : (bytes : List ℕ) (source : Option (List ℕ)) (place : Place) (now : R.Run) (waiting : List ℕ) (a b c : Option (List ℕ)) (result : Result End Failed) → AtEnd R start bytes source place now waiting a b
+      → Closes (R.ends now place) waiting b c result → RunsOn start bytes source a c (closed_status result)
+  closes bytes source place now waiting a b c (Ok text_end.Done) h all =
+      tells_all bytes h.text source a c (R.ends now place) h.tells (passes_then h.text waiting (R.ends now place).text a b c h.passed all.1) h.is_left Done all.0 (inl refl)
+  closes bytes source place now waiting a b c (Ok text_end.BadText) h all =
+      tells_all bytes h.text source a c (R.ends now place) h.tells (passes_then h.text waiting (R.ends now place).text a b c h.passed all.1) h.is_left BadText all.0 (inr (inr refl))
+  closes bytes source place now waiting a b c (Err failed) h front =
       let t = R.ends now place in
-      subst (RunsOn start bytes source a c) (sym front.0)
-      (subst (AppendsFront a c) (ap (λ l. h.text ++ l) (append-nil t.text) ∙ sym (ap (λ (x : Told). x.text) h.tells)) (fails_then h.text waiting t.text [] a b c h.passed front.1))
+      subst (AppendsFront a c) (ap (λ l. h.text ++ l) (append-nil t.text) ∙ sym (ap (λ (x : Told). x.text) h.tells)) (fails_then h.text waiting t.text [] a b c h.passed front)
 
   -- ---- the line ends the transcript
 
@@ -436,8 +440,8 @@ module _ (R : Running) (start : Path) (laws : AreLaws R) where
         let (rest, cut) = f.front (Some (end_of bytes)) from.0 in
         subst (AppendsFront a c) (ap (λ l. h.text ++ l) (sym cut) ∙ sym (ap (λ (x : Leads). x.tells.text) from.1)) (fails_then h.text waiting f.text rest a b c h.passed f.failed)
 
-    module _ (status result : Status) (more left : List ℕ) (source_after c d : Option (List ℕ)) (takes : Consumes source source_after more) (long : result ≡ TooLong → 16777216 < taken feed + length more)
-        (leaves : Leaves status (is_last feed) more source_after left c d result) where
+    module _ (stop : Stop) (result : Status) (more left : List ℕ) (source_after c d : Option (List ℕ)) (takes : Consumes source source_after more) (long : result ≡ TooLong → 16777216 < taken feed + length more)
+        (leaves : Leaves stop (is_last feed) more source_after left c d result) where
       took : (rest : List ℕ) × (source_after ≡ Some rest) × (h.rest ≡ more ++ rest)
       took = consumed h.rest more source_after (subst (λ o. Consumes o source_after more) h.is_left takes)
 
@@ -457,12 +461,12 @@ module _ (R : Running) (start : Path) (laws : AreLaws R) where
           ]
 
       -- memory was refused
-      pub line_wants : Wants (from_line feed.line.number feed.line.bytes h.point) h.text waiting left b c status → RunsOn start bytes source_after a d result
+      pub line_wants : Wants (from_line feed.line.number feed.line.bytes h.point) h.text waiting left b c stop → RunsOn start bytes source_after a d result
       line_wants w = elim leaves [
         | inl unwritten ↦ subst (RunsOn start bytes source_after a d) (sym unwritten.0) (subst (AppendsFront a d) (sym front_text.1) (fails_out h.text left front_text.0 a c d passed unwritten.1))
         | inr written ↦ elim written.1 [
           | inl kept ↦
-              subst (RunsOn start bytes source_after a d) (sym (kept.0 ∙ w.refused))
+              subst (RunsOn start bytes source_after a d) (sym (kept.0 ∙ ap stop_status w.refused))
               (before_early (passes_out h.text left a c d passed written.0), subst (AppendsFront a d) (sym front_text.1) (front_of h.text front_text.0 a d (passes_out h.text left a c d passed written.0)))
           | inr dropped ↦ absurd (dropped.1 w.refused)
         ]
@@ -478,11 +482,11 @@ module _ (R : Running) (start : Path) (laws : AreLaws R) where
               subst (AppendsFront a d) (sym (ap (λ (x : Leads). x.early) from.1 ∙ is)) (front_of h.text rest a d put)
 
       -- it was refused at this line
-      pub line_refused : {P : Type 0} (tell : P → Telling) (first p : P) (Asks : P → ℕ → List ℕ → Type 0) → tells_of start ≡ tell first → tells_of h.point ≡ tell p → result ≡ NoMemory → status ≡ NoMemory → left ≡ waiting → c ≡ b
-          → Asks p feed.line.number feed.line.bytes → RefusedAtLine tell first Asks bytes source_after a d
-      line_refused tell first p Asks begins stands none wants waits kept asks = by (refused_leaves status (is_last feed) more source_after left c d result leaves none wants)
+      pub line_refused : (Asks : Telling → ℕ → List ℕ → Type 0) → result ≡ NoMemory → stop ≡ stopped.NoMemory → left ≡ waiting → c ≡ b → Asks (tells_of h.point) feed.line.number feed.line.bytes
+          → RefusedAtLine (tells_of start) Asks bytes source_after a d
+      line_refused Asks none wants waits kept asks = by (refused_leaves stop (is_last feed) more source_after left c d result leaves none wants)
         where
-          by : Appends c d left × (more ≡ []) → RefusedAtLine tell first Asks bytes source_after a d
+          by : Appends c d left × (more ≡ []) → RefusedAtLine (tells_of start) Asks bytes source_after a d
           by (put, no_more) =
               let rest : h.rest ≡ took.0 = took.2 ∙ ap (λ (l : List ℕ). l ++ took.0) no_more in
               let is_left : source_after ≡ Some h.rest = took.1 ∙ ap Some (sym rest) in
@@ -493,18 +497,16 @@ module _ (R : Running) (start : Path) (laws : AreLaws R) where
                 cut = h.cut;
                 is_left = is_left;
                 text = h.text;
-                point = p;
-                leads = λ end tail.
-                    ap (λ (t : Telling). t end 1 (lines_of (h.lent ++ tail))) (sym begins) ∙ ap (λ (x : Leads). x.tells) (h.led end tail)
-                    ∙ ap (λ (t : Telling). behind h.text (t end feed.line.number (lines_of tail))) stands ∙ ap (λ (n : ℕ). behind h.text (tell p end n (lines_of tail))) h.number;
+                point = tells_of h.point;
+                leads = λ end tail. ap (λ (x : Leads). x.tells) (h.led end tail) ∙ ap (λ (n : ℕ). behind h.text (tells_of h.point end n (lines_of tail))) h.number;
                 front = h.front;
                 is = subst (λ (s : Option (List ℕ)). IsFront h.seen s h.front) (h.is_left ∙ sym is_left) h.is;
-                asks = subst (λ (n : ℕ). Asks p n (take h.front.0 h.seen)) h.number (subst (Asks p feed.line.number) h.line asks);
+                asks = subst (λ (n : ℕ). Asks (tells_of h.point) n (take h.front.0 h.seen)) h.number (subst (Asks (tells_of h.point) feed.line.number) h.line asks);
                 taken = passes_out h.text left a c d (subst (λ (l : List ℕ). Passes [] h.text l a c) (sym waits) (subst (λ (o : Option (List ℕ)). Passes [] h.text waiting a o) (sym kept) h.passed)) put;
               }
 
       -- an offence or a refused dump
-      module _ (e : Ends (from_line feed.line.number feed.line.bytes h.point) waiting left b c status) where
+      module _ (e : Ends (from_line feed.line.number feed.line.bytes h.point) waiting left b c stop) where
         abbrev t : Told
         t = e.telling
 
@@ -517,8 +519,8 @@ module _ (R : Running) (start : Path) (laws : AreLaws R) where
         unwritten : AppendsFront c d left → AppendsFront a d (transcript (tells_of start) bytes).text
         unwritten put = subst (AppendsFront a d) (append-nil (h.text ++ t.text) ∙ sym (ap (λ (x : Told). x.text) is)) (fails_out (h.text ++ t.text) left [] a c d passed put)
 
-        ended : Appends c d left → result ≡ status → source_after ≡ Some [] → RunsOn start bytes source_after a d result
-        ended put same read = tells_all bytes h.text source_after a d t is (passes_out (h.text ++ t.text) left a c d passed put) read result (same ∙ e.status_is) (subst (λ s. (s ≡ Done) ⊎ (s ≡ Refused) ⊎ (s ≡ BadText)) (sym same) (inr e.last))
+        ended : Appends c d left → result ≡ stop_status stop → source_after ≡ Some [] → RunsOn start bytes source_after a d result
+        ended put same read = tells_all bytes h.text source_after a d t is (passes_out (h.text ++ t.text) left a c d passed put) read result (same ∙ e.status_is) (subst (λ s. (s ≡ Done) ⊎ (s ≡ Refused) ⊎ (s ≡ BadText)) (sym same) (told_so stop e.last))
 
         known : is_last feed ≡ false → known_text (tells_of start) (h.lent ++ (h.seen ++ more)) ≡ h.text ++ t.text
         known going = elim (case bytes source feed now waiting a b h) [
@@ -529,14 +531,8 @@ module _ (R : Running) (start : Path) (laws : AreLaws R) where
           | inr last ↦ let x : false ≡ true = sym going ∙ last.0 in absurd (cc x)
         ]
 
-        no_memory : status ≡ NoMemory → (status ≡ Refused) ⊎ (status ≡ BadText) → ⊥
-        no_memory is one = elim one [
-          | inl refused ↦ let x : NoMemory ≡ Refused = sym is ∙ refused in cc x
-          | inr bad ↦ let x : NoMemory ≡ BadText = sym is ∙ bad in cc x
-        ]
-
         pub ends_with_memory : result ≡ NoMemory → ⊥
-        ends_with_memory none = no_memory (refused_line status (is_last feed) more source_after left c d result leaves none) e.last
+        ends_with_memory none = e.last (refused_line stop (is_last feed) more source_after left c d result leaves none)
 
         pub line_ends : RunsOn start bytes source_after a d result
         line_ends = elim leaves [
@@ -544,7 +540,7 @@ module _ (R : Running) (start : Path) (laws : AreLaws R) where
           | inr written ↦ elim written.1 [
             | inl kept ↦ elim kept.1 [
               | inl last ↦ ended written.0 kept.0 (nothing_left kept.2 last)
-              | inr wants ↦ absurd (no_memory wants e.last)
+              | inr wants ↦ absurd (e.last wants)
             ]
             | inr dropped ↦ elim dropped.2 [
               | inl all ↦ ended written.0 all.0 (took.1 ∙ ap Some (none_left source_after took.0 took.1 all.1))

@@ -1,5 +1,5 @@
 -- What a run between two lines keeps to (own), for proofs.
-use Rattle.std.specs.Prelude.{ℕ, ◌≡◌, ◌<◌, ◌⊎◌, List, [], ◌∷◌, length, Option, Some, None}
+use Rattle.std.specs.Prelude.{ℕ, ◌≡◌, ◌<◌, List, [], ◌∷◌, length, Option, Some, None}
 use Rattle.mt_text.specs.Text.{longest_line}
 use Rattle.mt_text.specs.declared.place.Place.{Place}
 use Rattle.mt_ports.specs.declared.status.Status.TheVariants.{BadText, Done}
@@ -22,4 +22,3 @@ pub record AreLaws (R : Running) : Type 0 where
   pub long : (now : R.Run) (so_far : List ℕ) (was : Path) (number : ℕ) → R.At now so_far was → IsLongLed was number
   pub unknown : (now : R.Run) (so_far : List ℕ) (was : Path) (number : ℕ) → R.At now so_far was → (was None number []).tells ≡ told [] Done
   pub ended : (now : R.Run) (so_far : List ℕ) (was : Path) (place : Place) (number : ℕ) → R.At now so_far was → (was (Some place) number []).tells ≡ R.ends now place
-  pub ending : (now : R.Run) (place : Place) → ((R.ends now place).status ≡ Done) ⊎ ((R.ends now place).status ≡ BadText)

@@ -1,3 +1,4 @@
+pub mod Handling
 pub mod Known
 pub mod Laws
 pub mod Lines

@@ -1,7 +1,7 @@
 -- What a run over a text leaves in the source and the sink (own).
 --     Runs start early bytes left before after status      of a source that held these bytes
 --     RunsAs telling start early ..      where this is its transcript
---     RefusesMemory tell start asks bytes left before after      where memory was refused, by which lines ask for some
+--     RefusesMemory start asks bytes left before after      where memory was refused, by which lines ask for some
 use Rattle.std.specs.Prelude.{ℕ, ◌≡◌, ◌⊎◌, ◌<◌, Bool, List, [], ◌++◌, length, take, Option, Some}
 use Rattle.std.specs.Io.KnownBytes.{Appends}
 use Rattle.mt_text.specs.Feed.{IsFront}
@@ -55,20 +55,24 @@ LeadTo start lines text point = (end : Option Place) (tail : List ℕ) → start
 
 -- Memory was refused at a line that asks for some. The sink took what the lines before it tell, and the line is the first of what
 -- was taken of the source behind them.
-pub record RefusedAtLine {P : Type 0} (tell : P → Telling) (start : P) (Asks : P → ℕ → List ℕ → Type 0) (bytes : List ℕ) (left before after : Option (List ℕ)) : Type 0 where
+pub record RefusedAtLine (start : Telling) (Asks : Telling → ℕ → List ℕ → Type 0) (bytes : List ℕ) (left before after : Option (List ℕ)) : Type 0 where
   pub lines : List ℕ  -- before it, each with its LF
   pub seen : List ℕ
   pub rest : List ℕ
   pub cut : bytes ≡ lines ++ (seen ++ rest)
   pub is_left : left ≡ Some rest
   pub text : List ℕ
-  pub point : P
-  pub leads : LeadTo (tell start) lines text (tell point)
+  pub point : Telling
+  pub leads : LeadTo start lines text point
   pub front : ℕ × Bool
   pub is : IsFront seen left front
   pub asks : Asks point (end_of lines).line (take front.0 seen)
   pub taken : Appends before after text
 
 -- Memory was refused before anything was read or written, or at such a line.
-abbrev pub RefusesMemory : {P : Type 0} → (P → Telling) → P → (P → ℕ → List ℕ → Type 0) → List ℕ → Option (List ℕ) → Option (List ℕ) → Option (List ℕ) → Type 0
-RefusesMemory tell start Asks bytes left before after = ((left ≡ Some bytes) × (after ≡ before)) ⊎ RefusedAtLine tell start Asks bytes left before after
+abbrev pub RefusesMemory : Telling → (Telling → ℕ → List ℕ → Type 0) → List ℕ → Option (List ℕ) → Option (List ℕ) → Option (List ℕ) → Type 0
+RefusesMemory start Asks bytes left before after = ((left ≡ Some bytes) × (after ≡ before)) ⊎ RefusedAtLine start Asks bytes left before after
+
+-- a line at which a point asks for memory, from which on lines tell this
+abbrev pub AsksBy : {P : Type 0} → (P → Telling) → (P → ℕ → List ℕ → Type 0) → Telling → ℕ → List ℕ → Type 0
+AsksBy {P} tell Asks told number line = (p : P) × (told ≡ tell p) × Asks p number line

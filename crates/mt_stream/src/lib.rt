@@ -1,6 +1,10 @@
 //! Texts that are run line by line out of a feed, and what is told of their lines.
 #![tactic(auto)]
 
+mod ending;
+mod run;
 mod running;
 
-pub use running::{Cut, close, cut_status, leave, next_line, tell};
+pub use ending::{End, Stop};
+pub use run::LineRun;
+pub use running::{close, run_lines, tell};

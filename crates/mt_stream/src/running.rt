@@ -1,24 +1,27 @@
-ghost use Rattle.std.specs.Prelude.{◌≡◌, ◌≢◌, ◌⊎◌, ◌≤◌, ◌<◌, ◌+◌, ◌↔◌, ◌++◌, [], length, None, Some, Ok, IfOk};
+ghost use Rattle.std.specs.Prelude.{◌≡◌, ◌≢◌, ◌⊎◌, ◌≤◌, ◌<◌, ◌+◌, ◌↔◌, ◌++◌, ℕ, [], length, None, Some, Ok, IfOk};
 ghost use Rattle.mt_text.specs.Text.{longest_input};
-ghost use Rattle.mt_text.specs.Feed.{IsLong, TakesMore, taken};
+ghost use Rattle.mt_text.specs.Feed.{GaveTooMuch, IsLong, TakesMore, taken};
 ghost use Rattle.mt_ports.specs.Causes.{HasCause, StatusHasCause};
 ghost use Rattle.mt_output.specs.Writing.{Adds};
-ghost use Rattle.mt_stream.specs.Lines.{Closes, IsEnding, Leaves, Next, SinkHasCause, SourceHasCause, cut_status};
+ghost use Rattle.mt_stream.specs.Handling.{MayTake, RefusesFrom, RunsFrom, TakesEach};
+ghost use Rattle.mt_stream.specs.Laws.{AreLaws};
+ghost use Rattle.mt_stream.specs.Lines.{Closes, Leaves, Next, Path, SinkHasCause, SourceHasCause, closed_status, cut_status, end_status, running, stop_status};
 ghost use Rattle.mt_stream.specs.Told.{told};
 
+use crate::{End, LineRun, Stop};
 use mt_output::Writer;
 use mt_ports::{Failed, Sink, Source, Status};
-use mt_text::{Feed, FeedFault};
+use mt_text::{Feed, FeedFault, Line};
 
 /// Why a run ends before its text does.
 #[derive(Drop)]
-pub enum Cut {
+pub(crate) enum Cut {
     Feed(FeedFault),
     Write,
 }
 
-/// The status of a run that was cut.
-pub fn cut_status(cut: &Cut) -> Status
+// The status of a run that was cut.
+fn cut_status(cut: &Cut) -> Status
     ensures value { result ≡ cut_status cut.now }
     ensures usage { result ≢ Status.Usage }
     ensures few { (result ≢ Status.TooFew) × (result ≢ Status.Disabled) }
@@ -30,10 +33,10 @@ pub fn cut_status(cut: &Cut) -> Status
     }
 }
 
-/// Moves on to the next line, and says whether there is one. All that waits is written before the
-/// source is asked.
+// Moves on to the next line, and says whether there is one. All that waits is written before the
+// source is asked.
 #[inline(always)]
-pub fn next_line<S: Source, K: Sink>(
+fn next_line<S: Source, K: Sink>(
     feed: &mut Feed,
     source: &mut S,
     writer: &mut Writer,
@@ -59,56 +62,87 @@ pub fn next_line<S: Source, K: Sink>(
     }
 }
 
-/// Writes a last text, and answers the status.
+/// Writes a last text, and returns how the line ends the run.
 pub fn tell<K: Sink>(
     writer: &mut Writer,
     sink: &mut K,
     text: &[u8],
-    status: Status,
-) -> Result<Option<Status>, Failed>
+    stop: Stop,
+) -> Result<Option<Stop>, Failed>
     requires { length text.now ≤ 224 }
     ensures bytes { Adds writer.old text.now writer.new (K.taken sink.old) (K.taken sink.new) result }
-    ensures status { IfOk result (λ ended. ended ≡ Some status) }
-    ensures answer { (answer : Status) → result ≡ Ok (Some answer) → answer ≡ status }
+    ensures stop { IfOk result (λ ended. ended ≡ Some stop) }
+    ensures answer { (answer : Stop) → result ≡ Ok (Some answer) → answer ≡ stop }
     ensures cause { HasCause (K.faults sink.old) (K.faults sink.new) result }
 {
     match writer.write(sink, text) {
-        Ok(()) => Ok(Some(status)),
+        Ok(()) => Ok(Some(stop)),
         Err(failed) => Err(failed),
     }
 }
 
-/// Writes a last text with all that waits, and answers the status.
-pub fn close<K: Sink>(writer: &mut Writer, sink: &mut K, text: &[u8], status: Status) -> Status
-    requires few { length text.now ≤ 224 }
-    requires status { status ≢ Status.WriteFault }
-    ensures bytes { Closes (told text.now status) writer.old (K.taken sink.old) (K.taken sink.new) result }
-    ensures statuses { (result ≡ status) ⊎ (result ≡ Status.WriteFault) }
-    ensures cause { StatusHasCause Status.WriteFault (K.faults sink.old) (K.faults sink.new) result }
+/// Writes a last text with all that waits, and returns how the text ends.
+pub fn close<K: Sink>(
+    writer: &mut Writer,
+    sink: &mut K,
+    text: &[u8],
+    end: End,
+) -> Result<End, Failed>
+    requires { length text.now ≤ 224 }
+    ensures bytes { Closes (told text.now (end_status end)) writer.old (K.taken sink.old) (K.taken sink.new) result }
+    ensures cause { HasCause (K.faults sink.old) (K.faults sink.new) result }
 {
-    if let Err(_) = writer.write(sink, text) {
-        return Status::WriteFault;
+    if let Err(failed) = writer.write(sink, text) {
+        return Err(failed);
     }
     match writer.flush(sink) {
-        Ok(()) => status,
+        Ok(()) => Ok(end),
+        Err(failed) => Err(failed),
+    }
+}
+
+// The status of a run that came to the end of its text.
+fn closed_status(closed: Result<End, Failed>) -> Status
+    ensures value { result ≡ closed_status closed }
+    ensures usage { result ≢ Status.Usage }
+    ensures few { (result ≢ Status.TooFew) × (result ≢ Status.Disabled) }
+    ensures others { (result ≢ Status.NoMemory) × (result ≢ Status.ReadFault) × (result ≢ Status.TooLong) }
+    ensures cause { (before : ℕ) (now : ℕ) → HasCause before now closed → StatusHasCause Status.WriteFault before now result }
+{
+    match closed {
+        Ok(End::Done) => Status::Done,
+        Ok(End::BadText) => Status::BadText,
         Err(_) => Status::WriteFault,
     }
 }
 
-/// Ends a run with a status that a line gave it: writes all that waits, and drops what is left of
-/// the source, unless that line was the last or memory was refused.
-pub fn leave<S: Source, K: Sink>(
-    status: Status,
+// The status of a run that a line ends.
+fn stop_status(stop: Stop) -> Status
+    ensures value { result ≡ stop_status stop }
+    ensures usage { result ≢ Status.Usage }
+    ensures few { (result ≢ Status.TooFew) × (result ≢ Status.Disabled) }
+    ensures faults { (result ≢ Status.ReadFault) × (result ≢ Status.WriteFault) × (result ≢ Status.TooLong) }
+{
+    match stop {
+        Stop::Refused => Status::Refused,
+        Stop::BadText => Status::BadText,
+        Stop::NoMemory => Status::NoMemory,
+    }
+}
+
+// Ends a run as a line does: writes all that waits, and drops what is left of the source, unless
+// that line was the last or memory was refused.
+fn leave<S: Source, K: Sink>(
+    stop: Stop,
     last: bool,
     feed: &mut Feed,
     source: &mut S,
     writer: &mut Writer,
     sink: &mut K,
 ) -> Status
-    requires fault { feed.old.fault ≡ None }
-    requires status { IsEnding status }
+    requires { feed.old.fault ≡ None }
     ensures bytes { TakesMore (S.left source.old) (S.left source.new) (S.given source.old) (S.given source.new)
-        (λ more. (taken feed.new ≡ taken feed.old + length more) × Leaves status last more (S.left source.new) writer.old (K.taken sink.old) (K.taken sink.new) result) }
+        (λ more. (taken feed.new ≡ taken feed.old + length more) × Leaves stop last more (S.left source.new) writer.old (K.taken sink.old) (K.taken sink.new) result) }
     ensures long { (result ≡ Status.TooLong) ↔ (longest_input < taken feed.new) }
     ensures usage { result ≢ Status.Usage }
     ensures few { (result ≢ Status.TooFew) × (result ≢ Status.Disabled) }
@@ -119,11 +153,60 @@ pub fn leave<S: Source, K: Sink>(
     if let Err(_) = writer.flush(sink) {
         return Status::WriteFault;
     }
-    if last || status == Status::NoMemory {
-        return status;
+    if last || stop == Stop::NoMemory {
+        return stop_status(stop);
     }
     match feed.drain(source) {
-        Ok(()) => status,
+        Ok(()) => stop_status(stop),
         Err(fault) => cut_status(&Cut::Feed(fault)),
+    }
+}
+
+/// Runs the lines of a source to their end, to a line that ends the run, or to a fault. Each line is
+/// taken by `take_line`.
+pub fn run_lines<L, S, K, F>(
+    take_line: F,
+    run: &mut L,
+    source: &mut S,
+    writer: &mut Writer,
+    sink: &mut K,
+) -> Status
+where
+    L: LineRun,
+    S: Source,
+    K: Sink,
+    F: Fn(&mut L, &Line<'_>, &mut Writer, &mut K) -> Result<Option<Stop>, Failed>,
+    requires waiting { writer.old ≡ [] }
+    requires ready { L.ready 0 run.old }
+    requires laws { AreLaws (running L.at L.ends L.asks L.ready) }
+    requires may { MayTake (running L.at L.ends L.asks L.ready) (F.pre take_line) }
+    requires takes { TakesEach (running L.at L.ends L.asks L.ready) K.taken K.faults (F.post take_line) }
+    ensures bytes { (start : Path) → L.at run.old [] start
+        → RunsFrom start (S.left source.old) (S.left source.new) (K.taken sink.old) (K.taken sink.new) result }
+    ensures memory { (start : Path) → L.at run.old [] start → result ≡ Status.NoMemory
+        → RefusesFrom start (L.asks run.old) (S.left source.old) (S.left source.new) (K.taken sink.old) (K.taken sink.new) }
+    ensures read_fault { StatusHasCause Status.ReadFault (S.faults source.old) (S.faults source.new) result }
+    ensures write_fault { StatusHasCause Status.WriteFault (K.faults sink.old) (K.faults sink.new) result }
+    ensures too_long { (result ≡ Status.TooLong) ↔ GaveTooMuch (S.given source.old) (S.given source.new) }
+    ensures usage { result ≢ Status.Usage }
+    ensures few { (result ≢ Status.TooFew) × (result ≢ Status.Disabled) }
+{
+    let mut feed = Feed::new();
+    'lines: loop {
+        match next_line(&mut feed, source, writer, sink) {
+            Ok(true) => {}
+            Ok(false) => return closed_status(run.finish(feed.end(), writer, sink)),
+            Err(cut) => return cut_status(&cut),
+        }
+        let last = feed.is_last();
+        match take_line(run, &feed.current(), writer, sink) {
+            Ok(None) => {
+                if last {
+                    return closed_status(run.finish(feed.end(), writer, sink));
+                }
+            }
+            Ok(Some(stop)) => return leave(stop, last, &mut feed, source, writer, sink),
+            Err(_) => return Status::WriteFault,
+        }
     }
 }

@@ -3,7 +3,7 @@ use Rattle.std.proofs.Common.{◌≡◌, ◌∙◌, ap, sym, refl, subst, ℕ, �
 use Rattle.std.specs.Prelude.{IfOk}
 use Rattle.std.specs.Option.{option_map}
 use Rattle.mt_ports.specs.declared.status.Failed.{Failed}
-use Rattle.mt_ports.specs.declared.status.Status.{Status}
+use Rattle.mt_stream.specs.declared.ending.Stop.{Stop}
 use Rattle.mt_regs.specs.declared.fault.Fault.{Fault}
 use Rattle.mt_regs.specs.Agreement.{first_refusal}
 use Rattle.mt_dump.specs.Line.{Reading}
@@ -58,7 +58,7 @@ module _ (now : Situation) (before : List Reading) (number : ℕ) (line : List �
   head_offends o later is none lines = from_step (offends o) is lines ∙ sym none
 
   -- the dump's end
-  pub head_shows : (dump : Dump) (later : Run) (result : Result (Option Status) Failed) → head_step now before number line ≡ shows dump → (found : Situation) → found ≡ now → Begins found dump later result
+  pub head_shows : (dump : Dump) (later : Run) (result : Result (Option Stop) Failed) → head_step now before number line ≡ shows dump → (found : Situation) → found ≡ now → Begins found dump later result
       → Lasts number line (in_head now before) later result
   head_shows dump later (Ok None) is found same begun =
       let state : later ≡ run.Body (first_state now dump) = begun.1 ∙ ap (λ n. run.Body (first_state n dump)) same in
@@ -67,7 +67,7 @@ module _ (now : Situation) (before : List Reading) (number : ℕ) (line : List �
         at = stands_in now dump later state;
         same = λ lines. from_step (shows dump) is lines ∙ ap (λ r. option_map last_from (begins_with now dump (number + 1) lines r)) begun.0;
       }
-  head_shows dump later (Ok (Some status)) is found same begun = λ other lines.
+  head_shows dump later (Ok (Some stop)) is found same begun = λ other lines.
       let (refusal, first, none) = begun other in
       from_step (shows dump) is lines ∙ ap (λ r. option_map last_from (begins_with now dump (number + 1) lines r)) first ∙ sym none
   head_shows dump later (Err failed) is found same begun = tt
@@ -75,28 +75,28 @@ module _ (now : Situation) (before : List Reading) (number : ℕ) (line : List �
 -- ---- commands
 
 module _ (s new : ReplayState) (c : Command) (number : ℕ) (line : List ℕ) (is : IsReplayState s) (fits : Fits s.now c) (asked : command_of s.now number line ≡ Ok c) where
-  pub command_lasts : (waiting left : List ℕ) (a b : Option (List ℕ)) (result : Result (Option Status) Failed) → CarriesOut s new c waiting left a b result → Lasts number line (in_body s) (run.Body new) result
+  pub command_lasts : (waiting left : List ℕ) (a b : Option (List ℕ)) (result : Result (Option Stop) Failed) → CarriesOut s new c waiting left a b result → Lasts number line (in_body s) (run.Body new) result
   command_lasts waiting left a b (Ok None) does = record {
     next = in_body (state_after s c);
     at = (does.1, (state_kept s c is fits).past);
     same = λ lines. ap (λ r. Some (last_of s (steps_of s number (steps_in (number + 1) lines) r))) asked;
   }
-  command_lasts waiting left a b (Ok (Some status)) does = λ other. absurd (other does.0)
+  command_lasts waiting left a b (Ok (Some stop)) does = λ other. absurd (other does.0)
   command_lasts waiting left a b (Err failed) does = tt
 
 pub fault_lasts : (s : ReplayState) (number : ℕ) (line : List ℕ) (fault : ScriptFault) → command_of s.now number line ≡ Err fault → LastsHere number line (in_body s) (run.Body s)
 fault_lasts s number line fault asked lines = ap (λ r. Some (last_of s (steps_of s number (steps_in (number + 1) lines) r))) asked
 
 -- a last text was written, or failed
-pub last_told : (number : ℕ) (line : List ℕ) (was : Point) (now : Run) (told : Status) (result : Result (Option Status) Failed) → IfOk result (λ ended. ended ≡ Some told)
+pub last_told : (number : ℕ) (line : List ℕ) (was : Point) (now : Run) (told : Stop) (result : Result (Option Stop) Failed) → IfOk result (λ ended. ended ≡ Some told)
     → LastsHere number line was now → Lasts number line was now result
 last_told number line was now told (Ok None) is here = absurd (cc is)
-last_told number line was now told (Ok (Some status)) is here = λ other. here
+last_told number line was now told (Ok (Some stop)) is here = λ other. here
 last_told number line was now told (Err failed) is here = tt
 
 -- a file was refused
-pub begins_refused : (now : Situation) (dump : Dump) (refusal : ℕ × Fault) (old : Run) (told : Status) (result : Result (Option Status) Failed) → IfOk result (λ ended. ended ≡ Some told) → first_refusal dump.files ≡ Some refusal
+pub begins_refused : (now : Situation) (dump : Dump) (refusal : ℕ × Fault) (old : Run) (told : Stop) (result : Result (Option Stop) Failed) → IfOk result (λ ended. ended ≡ Some told) → first_refusal dump.files ≡ Some refusal
     → state_in old ≡ None → Begins now dump old result
 begins_refused now dump refusal old told (Ok None) is first none = absurd (cc is)
-begins_refused now dump refusal old told (Ok (Some status)) is first none = λ other. (refusal, first, none)
+begins_refused now dump refusal old told (Ok (Some stop)) is first none = λ other. (refusal, first, none)
 begins_refused now dump refusal old told (Err failed) is first none = tt

@@ -2,7 +2,7 @@
 use Rattle.std.proofs.Common.{false, ◌≡◌, ◌∙◌, ap, sym, refl, subst, arith, ℕ, ◌+◌, ◌^◌, ◌≤◌, ◌<◌, List, [], ◌∷◌, ◌++◌, append-nil, drop, Option, None, Some}
 use Rattle.mt_text.specs.Text.{end_of, lines_of}
 use Rattle.mt_text.specs.declared.place.Place.{Place}
-use Rattle.mt_ports.specs.declared.status.Status.{Status}
+use Rattle.mt_stream.specs.declared.ending.Stop.{Stop}
 use Rattle.mt_ports.specs.declared.status.Status.TheVariants.{Done}
 use Rattle.mt_output.specs.Lines.{offence_line}
 use Rattle.mt_output.specs.Writing.{Passes}
@@ -10,7 +10,7 @@ use Rattle.mt_script.specs.Situation.{at_start}
 use Rattle.mt_script.specs.Commands.{end_fault}
 use Rattle.mt_script.specs.declared.fault.ScriptFault.{ScriptFault}
 use Rattle.mt_script.specs.declared.fault.Offence.TheVariants.{Script}
-use Rattle.mt_replay.specs.Running.{IsAt, from_line, leading, replay_running, setup_of}
+use Rattle.mt_replay.specs.Running.{IsAt, StandsAt, from_line, leading, setup_of}
 use Rattle.mt_stream.specs.Lines.{Ends, GoesOn, Leads, Path}
 use Rattle.mt_replay.specs.Summary.{last_state, summary, totals, updates_in}
 use Rattle.mt_replay.specs.Summing.{LastsHere, LastsOn, last_lines, no_totals, state_in, with_memory, with_text}
@@ -67,7 +67,7 @@ module _ (source : List ℕ) (at next number : ℕ) (bytes : List ℕ) (now : Ru
   from_here = h.led ∙ ap (λ ls. behind h.text (told_lines (Some (end_of source)) number ls h.point)) cut
 
   module _ (later : Run) where
-    pub summed_on : (so_far : List ℕ) → GoesOn replay_running (leading false so_far number bytes h.point) (number + 1) so_far later waiting left (Some []) (Some []) → LastsOn number bytes h.last_point later → at + 1 ≤ next → Summed source next (number + 1) later (with_text t left)
+    pub summed_on : (so_far : List ℕ) → GoesOn (StandsAt later) (leading false so_far number bytes h.point) (number + 1) so_far waiting left (Some []) (Some []) → LastsOn number bytes h.last_point later → at + 1 ≤ next → Summed source next (number + 1) later (with_text t left)
     summed_on so_far g lasts on =
         let (next_point, came, stands, quiet, same) = g.at in
         let goes : (end : Option Place) (lines : List (List ℕ)) → from_line number bytes h.point end lines ≡ behind g.text (told_lines end (number + 1) lines next_point) =
@@ -88,9 +88,9 @@ module _ (source : List ℕ) (at next number : ℕ) (bytes : List ℕ) (now : Ru
           last = h.last ∙ ap (λ ls. last_lines number ls h.last_point) cut ∙ lasts.same (lines_of (drop next source));
         }
 
-    pub summed_ends : (so_far : List ℕ) (status : Status) → Ends (leading false so_far number bytes h.point) waiting left (Some []) (Some []) status → LastsHere number bytes h.last_point later → at + 1 < 2 ^ 64
+    pub summed_ends : (so_far : List ℕ) (stop : Stop) → Ends (leading false so_far number bytes h.point) waiting left (Some []) (Some []) stop → LastsHere number bytes h.last_point later → at + 1 < 2 ^ 64
         → with_memory (with_text t left) (state_in later) ≡ summary source
-    summed_ends so_far status e lasts low =
+    summed_ends so_far stop e lasts low =
         let writes : Writes 1 e.telling.text = subst (λ (x : Told). Writes 1 x.text) (e.stops None []) (line_writes number bytes now h.point h.stands) in
         let counted : with_text t left ≡ with_text no_totals (h.text ++ e.telling.text) =
         ap (λ l. with_text t l) (waits e.telling.text waiting left none e.passed) ∙ ap (λ (x : Totals). with_text x e.telling.text) h.counted ∙ texts_both no_totals h.text e.telling.text h.whole in

@@ -1,6 +1,6 @@
 use Rattle.std.proofs.Common.{◌≡◌, ◌∙◌, ℕ, List, ap, arith, inl, length, refl, sym, subst, [], None, Some}
 use Rattle.std.proofs.lemmas.List.{length-map}
-use Rattle.mt_ports.specs.declared.status.Status.TheVariants.{NoMemory, Refused}
+use Rattle.mt_stream.specs.declared.ending.Stop.TheVariants.{NoMemory, Refused}
 use Rattle.mt_regs.specs.RegisterFile.{RegisterFile}
 use Rattle.mt_regs.specs.StartFiles.{AreStartFiles}
 use Rattle.mt_regs.specs.Agreement.{first_refusal}
@@ -35,8 +35,8 @@ returns-in-Some-clause-bytes g c = λ from number leads.
     c.as_slice-in-Some.ensures.value ∙ c.dump_refused_line-line.ensures ∙ ap (λ (d : Dump). dump_refused_line d.version k fault) c.dump.view_is in
     let refused : first_refusal dump.files ≡ Some (k, fault) = ap first_refusal (sym (c.as_slice.ensures.value ∙ ap (λ (d : Dump). d.files) c.dump.view_is)) ∙ sym c.in-Some.ensures.refusal in
     ends c.args.cpus from number [] c.args.run.now c.args.writer.now c.tell.new.writer (g.K.Sink.taken c.args.sink.now) (g.K.Sink.taken c.tell.new.sink) (dump_refused_line dump.version k fault) Refused c.tell.result
-    (leads_as c.args.cpus from number (begins dump (first_refusal dump.files)) (begins dump (Some (k, fault))) (ap (begins dump) refused) leads) (inl refl)
-    (subst (λ l. Adds c.args.writer.now l c.tell.new.writer (g.K.Sink.taken c.args.sink.now) (g.K.Sink.taken c.tell.new.sink) c.tell.result) line c.tell.ensures.bytes) c.tell.ensures.status
+    (leads_as c.args.cpus from number (begins dump (first_refusal dump.files)) (begins dump (Some (k, fault))) (ap (begins dump) refused) leads) (λ is. cc is)
+    (subst (λ l. Adds c.args.writer.now l c.tell.new.writer (g.K.Sink.taken c.args.sink.now) (g.K.Sink.taken c.tell.new.sink) c.tell.result) line c.tell.ensures.bytes) c.tell.ensures.stop
 
 pub returns-clause-bytes : goal.returns-clause-bytes
 returns-clause-bytes g c = λ from number leads.

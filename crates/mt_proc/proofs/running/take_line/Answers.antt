@@ -1,5 +1,5 @@
 use Rattle.std.proofs.Common.{◌≡◌, ◌∙◌, ◌+◌, ap, inr, refl, sym, subst, ℕ, List, [], append-nil}
-use Rattle.mt_ports.specs.declared.status.Status.TheVariants.{BadText, NoMemory}
+use Rattle.mt_stream.specs.declared.ending.Stop.TheVariants.{BadText, NoMemory}
 use Rattle.mt_output.specs.Lines.{offence_line}
 use Rattle.mt_output.specs.Writing.{Adds}
 use Rattle.mt_output.proofs.Writing.{passes_nothing}
@@ -7,7 +7,7 @@ use Rattle.mt_regs.specs.Agreement.{first_refusal}
 use Rattle.mt_script.specs.Head.{goes_on, offends}
 use Rattle.mt_stream.specs.Lines.{GoesOn, Path, Takes, from_line}
 use Rattle.mt_proc.specs.Proc.{Point, begins, in_dump, in_requests, of_head, proc_step, situation_of}
-use Rattle.mt_proc.specs.Running.{AllServe, AsksAt, IsQuiet, path_from, proc_running}
+use Rattle.mt_proc.specs.Running.{AllServe, AsksAt, IsQuiet, StandsAt, path_from}
 use Rattle.mt_proc.specs.Serving.{served}
 use Rattle.mt_proc.specs.declared.running.Run.{Run}
 use Rattle.mt_proc.specs.declared.running.Run.TheVariants as run
@@ -24,7 +24,7 @@ returns-in-Ok-None-clause-bytes g c = λ so_far was stands.
     let number = c.args.line.now.number in
     let line = c.args.line.now.bytes.now in
     subst
-    (λ (q : Path). GoesOn (proc_running c.args.cpus) (from_line number line q) (number + 1) so_far (run.Dump c.take_dump_line.new.dump) c.args.writer.now c.args.writer.now (g.K.Sink.taken c.args.sink.now) (g.K.Sink.taken c.args.sink.now))
+    (λ (q : Path). GoesOn (StandsAt c.args.cpus (run.Dump c.take_dump_line.new.dump)) (from_line number line q) (number + 1) so_far c.args.writer.now c.args.writer.now (g.K.Sink.taken c.args.sink.now) (g.K.Sink.taken c.args.sink.now))
     (sym is)
     (goes c.args.cpus (from_line number line (path_from c.args.cpus (in_dump before))) (number + 1) so_far (run.Dump c.take_dump_line.new.dump) c.args.writer.now c.args.writer.now (g.K.Sink.taken c.args.sink.now) (g.K.Sink.taken c.args.sink.now) [] (in_dump after)
     (leads_as c.args.cpus (from_line number line (path_from c.args.cpus (in_dump before))) (number + 1) (proc_step c.args.cpus number line (in_dump before)) (of_head (goes_on (situation_of c.args.cpus) after)) (ap of_head step) (leads_by c.args.cpus (in_dump before) number line))
@@ -41,10 +41,10 @@ returns-in-Ok-Some-clause-bytes g c = λ so_far was stands.
     let line = c.args.line.now.bytes.now in
     let leads = leads_as c.args.cpus (from_line number line (path_from c.args.cpus (in_dump before))) (number + 1) (proc_step c.args.cpus number line (in_dump before)) (begins c.in-Ok-Some.dump (first_refusal c.in-Ok-Some.dump.files)) (ap of_head step) (leads_by c.args.cpus (in_dump before) number line) in
     subst
-    (λ (q : Path). Takes (proc_running c.args.cpus) (from_line number line q) (number + 1) so_far c.begin.new.run c.args.writer.now c.begin.new.writer (g.K.Sink.taken c.args.sink.now) (g.K.Sink.taken c.begin.new.sink) c.begin.result)
+    (λ (q : Path). Takes (StandsAt c.args.cpus c.begin.new.run) (from_line number line q) (number + 1) so_far c.args.writer.now c.begin.new.writer (g.K.Sink.taken c.args.sink.now) (g.K.Sink.taken c.begin.new.sink) c.begin.result)
     (sym is)
     (subst
-    (λ (l : List ℕ). Takes (proc_running c.args.cpus) (from_line number line (path_from c.args.cpus (in_dump before))) (number + 1) l c.begin.new.run c.args.writer.now c.begin.new.writer (g.K.Sink.taken c.args.sink.now) (g.K.Sink.taken c.begin.new.sink) c.begin.result)
+    (λ (l : List ℕ). Takes (StandsAt c.args.cpus c.begin.new.run) (from_line number line (path_from c.args.cpus (in_dump before))) (number + 1) l c.args.writer.now c.begin.new.writer (g.K.Sink.taken c.args.sink.now) (g.K.Sink.taken c.begin.new.sink) c.begin.result)
     (sym none)
     (c.begin.ensures.bytes (from_line number line (path_from c.args.cpus (in_dump before))) (number + 1) leads))
 
@@ -59,11 +59,11 @@ returns-in-Err-clause-bytes g c = λ so_far was stands.
     let line = c.args.line.now.bytes.now in
     let text : c.as_slice.result.now ≡ offence_line c.in-Err.offence = c.as_slice.ensures.value ∙ c.offence_line.ensures in
     subst
-    (λ (q : Path). Takes (proc_running c.args.cpus) (from_line number line q) (number + 1) so_far (run.Dump c.take_dump_line.new.dump) c.args.writer.now c.tell.new.writer (g.K.Sink.taken c.args.sink.now) (g.K.Sink.taken c.tell.new.sink) c.tell.result)
+    (λ (q : Path). Takes (StandsAt c.args.cpus (run.Dump c.take_dump_line.new.dump)) (from_line number line q) (number + 1) so_far c.args.writer.now c.tell.new.writer (g.K.Sink.taken c.args.sink.now) (g.K.Sink.taken c.tell.new.sink) c.tell.result)
     (sym is)
     (ends c.args.cpus (from_line number line (path_from c.args.cpus (in_dump before))) (number + 1) so_far (run.Dump c.take_dump_line.new.dump) c.args.writer.now c.tell.new.writer (g.K.Sink.taken c.args.sink.now) (g.K.Sink.taken c.tell.new.sink) (offence_line c.in-Err.offence) BadText c.tell.result
-    (leads_as c.args.cpus (from_line number line (path_from c.args.cpus (in_dump before))) (number + 1) (proc_step c.args.cpus number line (in_dump before)) (of_head (offends c.in-Err.offence)) (ap of_head step) (leads_by c.args.cpus (in_dump before) number line)) (inr refl)
-    (subst (λ l. Adds c.args.writer.now l c.tell.new.writer (g.K.Sink.taken c.args.sink.now) (g.K.Sink.taken c.tell.new.sink) c.tell.result) text c.tell.ensures.bytes) c.tell.ensures.status)
+    (leads_as c.args.cpus (from_line number line (path_from c.args.cpus (in_dump before))) (number + 1) (proc_step c.args.cpus number line (in_dump before)) (of_head (offends c.in-Err.offence)) (ap of_head step) (leads_by c.args.cpus (in_dump before) number line)) (λ is. cc is)
+    (subst (λ l. Adds c.args.writer.now l c.tell.new.writer (g.K.Sink.taken c.args.sink.now) (g.K.Sink.taken c.tell.new.sink) c.tell.result) text c.tell.ensures.bytes) c.tell.ensures.stop)
 
 pub returns-in-Requests-clause-bytes : goal.returns-in-Requests-clause-bytes
 returns-in-Requests-clause-bytes g c = λ so_far was stands.
@@ -74,7 +74,7 @@ returns-in-Requests-clause-bytes g c = λ so_far was stands.
     let is : was ≡ path_from c.args.cpus (in_requests (served m)) = from ∙ ap (path_from c.args.cpus) (in_the_requests c.args.run.now m p c.in-Requests.is at) in
     let serve : AllServe c.args.cpus (run.Requests m) = subst (AllServe c.args.cpus) c.in-Requests.is each in
     subst
-    (λ (q : Path). Takes (proc_running c.args.cpus) (from_line number line q) (number + 1) so_far (run.Requests c.take_request.new.processors) c.args.writer.now c.take_request.new.writer (g.K.Sink.taken c.args.sink.now) (g.K.Sink.taken c.take_request.new.sink) c.take_request.result)
+    (λ (q : Path). Takes (StandsAt c.args.cpus (run.Requests c.take_request.new.processors)) (from_line number line q) (number + 1) so_far c.args.writer.now c.take_request.new.writer (g.K.Sink.taken c.args.sink.now) (g.K.Sink.taken c.take_request.new.sink) c.take_request.result)
     (sym is)
     (c.take_request.ensures.bytes c.args.cpus (from_line number line (path_from c.args.cpus (in_requests (served m)))) (number + 1) so_far serve (leads_by c.args.cpus (in_requests (served m)) number line))
 

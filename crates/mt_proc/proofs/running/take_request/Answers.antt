@@ -1,6 +1,6 @@
 use Rattle.std.proofs.Common.{◌≡◌, ◌∙◌, ◌++◌, ap, inr, refl, sym, subst, [], None, Some, Ok, Err}
 use Rattle.mt_ports.specs.Puts.{AppendsFront}
-use Rattle.mt_ports.specs.declared.status.Status.TheVariants.{BadText, NoMemory}
+use Rattle.mt_stream.specs.declared.ending.Stop.TheVariants.{BadText, NoMemory}
 use Rattle.mt_output.specs.Writing.{Adds, Passes}
 use Rattle.mt_output.proofs.Writing.{passes_nothing}
 use Rattle.mt_proc.specs.After.{answer_text, asked}
@@ -45,8 +45,8 @@ returns-in-Err-clause-bytes g c = λ cpus from number so_far each leads.
     let now = served c.args.processors.now in
     let line : c.as_slice-in-Err.result.now ≡ request_fault_line c.in-Err.fault = c.as_slice-in-Err.ensures.value ∙ c.request_fault_line.ensures in
     ends cpus from number so_far (run.Requests c.args.processors.now) c.args.writer.now c.tell.new.writer (g.K.Sink.taken c.args.sink.now) (g.K.Sink.taken c.tell.new.sink) (request_fault_line c.in-Err.fault) BadText c.tell.result
-    (leads_as cpus from number (of_request now (request_of c.args.line.now.number c.args.line.now.bytes.now)) (of_request now (Err c.in-Err.fault)) (ap (of_request now) (sym c.in-Err.ensures.answer)) leads) (inr refl)
-    (subst (λ l. Adds c.args.writer.now l c.tell.new.writer (g.K.Sink.taken c.args.sink.now) (g.K.Sink.taken c.tell.new.sink) c.tell.result) line c.tell.ensures.bytes) c.tell.ensures.status
+    (leads_as cpus from number (of_request now (request_of c.args.line.now.number c.args.line.now.bytes.now)) (of_request now (Err c.in-Err.fault)) (ap (of_request now) (sym c.in-Err.ensures.answer)) leads) (λ is. cc is)
+    (subst (λ l. Adds c.args.writer.now l c.tell.new.writer (g.K.Sink.taken c.args.sink.now) (g.K.Sink.taken c.tell.new.sink) c.tell.result) line c.tell.ensures.bytes) c.tell.ensures.stop
 
 pub returns-in-Err-clause-asks : goal.returns-in-Err-clause-asks
 returns-in-Err-clause-asks g c = λ wants. let e : NoMemory ≡ BadText = c.tell.ensures.answer NoMemory wants in cc e

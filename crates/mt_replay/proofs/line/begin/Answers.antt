@@ -2,12 +2,12 @@ use Rattle.std.proofs.Common.{◌≡◌, ◌∙◌, ap, inl, refl, subst, sym, �
 use Rattle.mt_regs.specs.Agreement.{first_refusal}
 use Rattle.mt_output.specs.Lines.{dump_refused_line}
 use Rattle.mt_output.specs.Writing.{Adds}
-use Rattle.mt_ports.specs.declared.status.Status.TheVariants.{NoMemory, Refused}
+use Rattle.mt_stream.specs.declared.ending.Stop.TheVariants.{NoMemory, Refused}
 use Rattle.mt_dump.specs.Dumps.{Dump}
 use Rattle.mt_dump.specs.ForProcessors.{files_for}
 use Rattle.mt_replay.specs.Kept.{HasEras}
 use Rattle.mt_replay.specs.ReplayState.{ReplayState}
-use Rattle.mt_replay.specs.Running.{leading_dump, replay_running}
+use Rattle.mt_replay.specs.Running.{StandsAt, leading_dump}
 use Rattle.mt_stream.proofs.Taking.{takes_last}
 use Rattle.mt_replay.proofs.Files.{none_finished}
 use Rattle.mt_replay.proofs.Taking.{dump_fails, dump_goes, dump_refused}
@@ -26,9 +26,9 @@ returns-in-Some-clause-bytes g c = λ number.
     let refused : first_refusal c.args.dump.files ≡ Some (c.in-Some.k, c.in-Some.fault) = ap first_refusal (sym (c.as_slice-files.ensures.value ∙ ap (λ (d : Dump). d.files) c.dump.view_is)) ∙ sym c.in-Some.ensures.refusal in
     let line : c.as_slice.result.now ≡ dump_refused_line c.args.dump.version c.in-Some.k c.in-Some.fault =
     c.as_slice.ensures.value ∙ c.dump_refused_line-line.ensures ∙ ap (λ (d : Dump). dump_refused_line d.version c.in-Some.k c.in-Some.fault) c.dump.view_is in
-    takes_last replay_running (leading_dump c.args.setup c.args.dump number) number [] c.args.run.now (dump_refused_line c.args.dump.version c.in-Some.k c.in-Some.fault) c.args.writer.now c.tell.new.writer Refused
-    (g.K.Sink.taken c.args.sink.now) (g.K.Sink.taken c.tell.new.sink) c.tell.result (dump_refused c.args.setup c.args.dump number (c.in-Some.k, c.in-Some.fault) refused) (inl refl)
-    (subst (λ (l : List ℕ). Adds c.args.writer.now l c.tell.new.writer (g.K.Sink.taken c.args.sink.now) (g.K.Sink.taken c.tell.new.sink) c.tell.result) line c.tell.ensures.bytes) c.tell.ensures.status
+    takes_last (StandsAt c.args.run.now) (leading_dump c.args.setup c.args.dump number) number [] (dump_refused_line c.args.dump.version c.in-Some.k c.in-Some.fault) c.args.writer.now c.tell.new.writer Refused
+    (g.K.Sink.taken c.args.sink.now) (g.K.Sink.taken c.tell.new.sink) c.tell.result (dump_refused c.args.setup c.args.dump number (c.in-Some.k, c.in-Some.fault) refused) (λ is. cc is)
+    (subst (λ (l : List ℕ). Adds c.args.writer.now l c.tell.new.writer (g.K.Sink.taken c.args.sink.now) (g.K.Sink.taken c.tell.new.sink) c.tell.result) line c.tell.ensures.bytes) c.tell.ensures.stop
 
 pub returns-in-Ok-write-clause-bytes : goal.returns-in-Ok-write-clause-bytes
 returns-in-Ok-write-clause-bytes g c = λ number.
@@ -46,7 +46,7 @@ returns-in-Ok-write-clause-eras g c = λ most. subst (λ (r : ReplayState). HasE
 pub returns-in-Some-clause-state : goal.returns-in-Some-clause-state
 returns-in-Some-clause-state g c =
     let refused : first_refusal c.args.dump.files ≡ Some (c.in-Some.k, c.in-Some.fault) = ap first_refusal (sym (c.as_slice-files.ensures.value ∙ ap (λ (d : Dump). d.files) c.dump.view_is)) ∙ sym c.in-Some.ensures.refusal in
-    begins_refused c.args.setup c.args.dump (c.in-Some.k, c.in-Some.fault) c.args.run.now Refused c.tell.result c.tell.ensures.status refused c.requires.head
+    begins_refused c.args.setup c.args.dump (c.in-Some.k, c.in-Some.fault) c.args.run.now Refused c.tell.result c.tell.ensures.stop refused c.requires.head
 
 pub returns-in-Ok-write-clause-state : goal.returns-in-Ok-write-clause-state
 returns-in-Ok-write-clause-state g c =

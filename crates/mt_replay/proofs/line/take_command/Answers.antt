@@ -1,11 +1,11 @@
 use Rattle.std.proofs.Common.{rules, ◌≡◌, ◌+◌, inr, refl, subst, Ok, Err}
-use Rattle.mt_ports.specs.declared.status.Status.TheVariants.{BadText, NoMemory}
+use Rattle.mt_stream.specs.declared.ending.Stop.TheVariants.{BadText, NoMemory}
 use Rattle.mt_output.specs.Lines.{offence_line}
 use Rattle.mt_script.specs.Accept.{Fits}
 use Rattle.mt_script.specs.Situation.{Situation}
 use Rattle.mt_script.specs.Commands.{command_of}
 use Rattle.mt_script.specs.declared.fault.Offence.TheVariants.{Script}
-use Rattle.mt_replay.specs.Running.{leading, replay_running}
+use Rattle.mt_replay.specs.Running.{StandsAt, leading}
 use Rattle.mt_replay.specs.Transcript.{in_body}
 use Rattle.mt_replay.proofs.Taking.{command_eras, command_takes, fault_leads}
 use Rattle.mt_stream.proofs.Taking.{takes_last}
@@ -30,9 +30,9 @@ returns-in-Ok-clause-eras g c = λ most eras.
 pub returns-in-Err-clause-bytes : goal.returns-in-Err-clause-bytes
 returns-in-Err-clause-bytes g c = λ came so_far quiet.
     let is : command_of c.args.replayer.now.now c.args.line.now.number c.args.line.now.bytes.now ≡ Err c.in-Err.fault = search rules in
-    takes_last replay_running (leading came so_far c.args.line.now.number c.args.line.now.bytes.now (in_body c.args.replayer.now)) (c.args.line.now.number + 1) so_far (run.Body c.args.replayer.now) (offence_line (Script c.in-Err.fault)) c.args.writer.now c.tell_offence.new.writer BadText
-    (g.K.Sink.taken c.args.sink.now) (g.K.Sink.taken c.tell_offence.new.sink) c.tell_offence.result (fault_leads c.args.replayer.now c.args.line.now.number c.args.line.now.bytes.now c.in-Err.fault is) (inr refl)
-    c.tell_offence.ensures.bytes c.tell_offence.ensures.status
+    takes_last (StandsAt (run.Body c.args.replayer.now)) (leading came so_far c.args.line.now.number c.args.line.now.bytes.now (in_body c.args.replayer.now)) (c.args.line.now.number + 1) so_far (offence_line (Script c.in-Err.fault)) c.args.writer.now c.tell_offence.new.writer BadText
+    (g.K.Sink.taken c.args.sink.now) (g.K.Sink.taken c.tell_offence.new.sink) c.tell_offence.result (fault_leads c.args.replayer.now c.args.line.now.number c.args.line.now.bytes.now c.in-Err.fault is) (λ is. cc is)
+    c.tell_offence.ensures.bytes c.tell_offence.ensures.stop
 
 pub returns-in-Ok-clause-last : goal.returns-in-Ok-clause-last
 returns-in-Ok-clause-last g c =
@@ -44,7 +44,7 @@ returns-in-Ok-clause-last g c =
 pub returns-in-Err-clause-last : goal.returns-in-Err-clause-last
 returns-in-Err-clause-last g c =
     let is : command_of c.args.replayer.now.now c.args.line.now.number c.args.line.now.bytes.now ≡ Err c.in-Err.fault = search rules in
-    last_told c.args.line.now.number c.args.line.now.bytes.now (in_body c.args.replayer.now) (run.Body c.args.replayer.now) BadText c.tell_offence.result c.tell_offence.ensures.status
+    last_told c.args.line.now.number c.args.line.now.bytes.now (in_body c.args.replayer.now) (run.Body c.args.replayer.now) BadText c.tell_offence.result c.tell_offence.ensures.stop
     (fault_lasts c.args.replayer.now c.args.line.now.number c.args.line.now.bytes.now c.in-Err.fault is)
 
 pub returns-in-Ok-clause-asks : goal.returns-in-Ok-clause-asks

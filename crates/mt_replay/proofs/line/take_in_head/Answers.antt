@@ -1,9 +1,9 @@
 use Rattle.std.proofs.Common.{◌≡◌, ◌∙◌, inr, sym, refl, subst, ◌+◌, ℕ, false, List, [], None, Ok}
-use Rattle.mt_ports.specs.declared.status.Status.TheVariants.{BadText, NoMemory}
+use Rattle.mt_stream.specs.declared.ending.Stop.TheVariants.{BadText, NoMemory}
 use Rattle.mt_output.specs.Lines.{offence_line}
 use Rattle.mt_script.specs.Head.{offends}
 use Rattle.mt_script.specs.Situation.{Situation}
-use Rattle.mt_replay.specs.Running.{AsksAt, IsQuiet, leading, leading_dump, replay_running}
+use Rattle.mt_replay.specs.Running.{AsksAt, IsQuiet, StandsAt, leading, leading_dump}
 use Rattle.mt_replay.specs.Transcript.{Point, in_head}
 use Rattle.mt_stream.specs.Lines.{Takes}
 use Rattle.mt_replay.specs.declared.line.Run.{Run}
@@ -21,7 +21,7 @@ returns-in-Ok-None-clause-bytes g c = λ came so_far was at quiet.
     let none : (so_far ≡ []) × (came ≡ false) = subst (λ (r : Run). IsQuiet r came so_far) c.in-Head.is quiet in
     let (after, holds, step) = rw c.in-Ok-None.field-0-is at (c.in-Ok-None.ensures.step before read) in
     subst
-    (λ (p : Point). Takes replay_running (leading came so_far c.args.line.now.number c.args.line.now.bytes.now p) (c.args.line.now.number + 1) so_far (run.Head c.take.new.self) c.args.writer.now c.args.writer.now (g.K.Sink.taken c.args.sink.now) (g.K.Sink.taken c.args.sink.now) (Ok None))
+    (λ (p : Point). Takes (StandsAt (run.Head c.take.new.self)) (leading came so_far c.args.line.now.number c.args.line.now.bytes.now p) (c.args.line.now.number + 1) so_far c.args.writer.now c.args.writer.now (g.K.Sink.taken c.args.sink.now) (g.K.Sink.taken c.args.sink.now) (Ok None))
     (sym is)
     (head_takes c.in-Head.head.setup c.take.new.self.setup before after c.args.line.now.number c.args.line.now.bytes.now came so_far c.args.writer.now c.take.new.self (g.K.Sink.taken c.args.sink.now) step (refl, holds) none)
 
@@ -34,16 +34,16 @@ returns-in-Ok-Some-clause-bytes g c = λ came so_far was at quiet.
     let setup : c.replace-setup.result ≡ c.in-Head.head.setup = c.replace-setup.ensures.value ∙ same in
     let begun =
     subst
-    (λ (now : Situation). Takes replay_running (leading_dump now c.in-Ok-Some.dump (c.args.line.now.number + 1)) (c.args.line.now.number + 1) [] c.begin.new.run c.args.writer.now c.begin.new.writer (g.K.Sink.taken c.args.sink.now) (g.K.Sink.taken c.begin.new.sink) c.begin.result)
+    (λ (now : Situation). Takes (StandsAt c.begin.new.run) (leading_dump now c.in-Ok-Some.dump (c.args.line.now.number + 1)) (c.args.line.now.number + 1) [] c.args.writer.now c.begin.new.writer (g.K.Sink.taken c.args.sink.now) (g.K.Sink.taken c.begin.new.sink) c.begin.result)
     setup (c.begin.ensures.bytes (c.args.line.now.number + 1)) in
     let here =
     subst
-    (λ (l : List ℕ). Takes replay_running (leading_dump c.in-Head.head.setup c.in-Ok-Some.dump (c.args.line.now.number + 1)) (c.args.line.now.number + 1) l c.begin.new.run c.args.writer.now c.begin.new.writer (g.K.Sink.taken c.args.sink.now) (g.K.Sink.taken c.begin.new.sink) c.begin.result)
+    (λ (l : List ℕ). Takes (StandsAt c.begin.new.run) (leading_dump c.in-Head.head.setup c.in-Ok-Some.dump (c.args.line.now.number + 1)) (c.args.line.now.number + 1) l c.args.writer.now c.begin.new.writer (g.K.Sink.taken c.args.sink.now) (g.K.Sink.taken c.begin.new.sink) c.begin.result)
     (sym none.0) begun in
     subst
-    (λ (p : Point). Takes replay_running (leading came so_far c.args.line.now.number c.args.line.now.bytes.now p) (c.args.line.now.number + 1) so_far c.begin.new.run c.args.writer.now c.begin.new.writer (g.K.Sink.taken c.args.sink.now) (g.K.Sink.taken c.begin.new.sink) c.begin.result)
+    (λ (p : Point). Takes (StandsAt c.begin.new.run) (leading came so_far c.args.line.now.number c.args.line.now.bytes.now p) (c.args.line.now.number + 1) so_far c.args.writer.now c.begin.new.writer (g.K.Sink.taken c.args.sink.now) (g.K.Sink.taken c.begin.new.sink) c.begin.result)
     (sym is)
-    (takes_same replay_running (leading_dump c.in-Head.head.setup c.in-Ok-Some.dump (c.args.line.now.number + 1)) (leading came so_far c.args.line.now.number c.args.line.now.bytes.now (in_head c.in-Head.head.setup before)) (c.args.line.now.number + 1) so_far c.begin.new.run
+    (takes_same (StandsAt c.begin.new.run) (leading_dump c.in-Head.head.setup c.in-Ok-Some.dump (c.args.line.now.number + 1)) (leading came so_far c.args.line.now.number c.args.line.now.bytes.now (in_head c.in-Head.head.setup before)) (c.args.line.now.number + 1) so_far
     c.args.writer.now c.begin.new.writer (g.K.Sink.taken c.args.sink.now) (g.K.Sink.taken c.begin.new.sink) c.begin.result
     (dump_leads c.in-Head.head.setup c.in-Ok-Some.dump before c.args.line.now.number c.args.line.now.bytes.now came so_far step none) here)
 
@@ -52,12 +52,12 @@ returns-in-Err-clause-bytes g c = λ came so_far was at quiet.
     let (before, read, is) = in_the_head c.args.run.now c.in-Head.head was c.in-Head.is at in
     let step = c.in-Err.ensures.step before read in
     subst
-    (λ (p : Point). Takes replay_running (leading came so_far c.args.line.now.number c.args.line.now.bytes.now p) (c.args.line.now.number + 1) so_far (run.Head c.take.new.self) c.args.writer.now c.tell_offence.new.writer (g.K.Sink.taken c.args.sink.now) (g.K.Sink.taken c.tell_offence.new.sink) c.tell_offence.result)
+    (λ (p : Point). Takes (StandsAt (run.Head c.take.new.self)) (leading came so_far c.args.line.now.number c.args.line.now.bytes.now p) (c.args.line.now.number + 1) so_far c.args.writer.now c.tell_offence.new.writer (g.K.Sink.taken c.args.sink.now) (g.K.Sink.taken c.tell_offence.new.sink) c.tell_offence.result)
     (sym is)
-    (takes_last replay_running (leading came so_far c.args.line.now.number c.args.line.now.bytes.now (in_head c.in-Head.head.setup before)) (c.args.line.now.number + 1) so_far (run.Head c.take.new.self) (offence_line c.in-Err.offence) c.args.writer.now c.tell_offence.new.writer BadText
+    (takes_last (StandsAt (run.Head c.take.new.self)) (leading came so_far c.args.line.now.number c.args.line.now.bytes.now (in_head c.in-Head.head.setup before)) (c.args.line.now.number + 1) so_far (offence_line c.in-Err.offence) c.args.writer.now c.tell_offence.new.writer BadText
     (g.K.Sink.taken c.args.sink.now) (g.K.Sink.taken c.tell_offence.new.sink) c.tell_offence.result
-    (head_leads c.in-Head.head.setup before c.args.line.now.number c.args.line.now.bytes.now (offends c.in-Err.offence) step) (inr refl)
-    c.tell_offence.ensures.bytes c.tell_offence.ensures.status)
+    (head_leads c.in-Head.head.setup before c.args.line.now.number c.args.line.now.bytes.now (offends c.in-Err.offence) step) (λ is. cc is)
+    c.tell_offence.ensures.bytes c.tell_offence.ensures.stop)
 
 pub returns-in-Ok-None-clause-last : goal.returns-in-Ok-None-clause-last
 returns-in-Ok-None-clause-last g c = λ was at.
@@ -80,7 +80,7 @@ returns-in-Err-clause-last g c = λ was at.
     let (before, read, is) = in_the_head c.args.run.now c.in-Head.head was c.in-Head.is at in
     let step = c.in-Err.ensures.step before read in
     subst (λ (p : Point). Lasts c.args.line.now.number c.args.line.now.bytes.now p (run.Head c.take.new.self) c.tell_offence.result) (sym is)
-    (last_told c.args.line.now.number c.args.line.now.bytes.now (in_head c.in-Head.head.setup before) (run.Head c.take.new.self) BadText c.tell_offence.result c.tell_offence.ensures.status
+    (last_told c.args.line.now.number c.args.line.now.bytes.now (in_head c.in-Head.head.setup before) (run.Head c.take.new.self) BadText c.tell_offence.result c.tell_offence.ensures.stop
     (head_offends c.in-Head.head.setup before c.args.line.now.number c.args.line.now.bytes.now c.in-Err.offence (run.Head c.take.new.self) step refl))
 
 pub returns-in-Ok-None-clause-asks : goal.returns-in-Ok-None-clause-asks

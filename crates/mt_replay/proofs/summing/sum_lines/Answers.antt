@@ -1,6 +1,6 @@
 use Rattle.std.proofs.Common.{◌≡◌, ◌∙◌, ap, sym, refl, inl, inr, arith, [], ◌+◌, ◌^◌, ◌<◌, drop, length, drop_of_length-le, false, true, None, Some}
 use Rattle.mt_text.specs.Text.{end_of, lines_of}
-use Rattle.mt_ports.specs.declared.status.Status.TheVariants.{NoMemory}
+use Rattle.mt_stream.specs.declared.ending.Stop.TheVariants.{NoMemory}
 use Rattle.mt_output.specs.Lines.{offence_line}
 use Rattle.mt_script.specs.Commands.{end_fault}
 use Rattle.mt_script.specs.declared.fault.Offence.TheVariants.{Script}
@@ -27,11 +27,11 @@ returns-in-Ok-Some g c =
     let h = c.lines.invariant.summed in
     let takes = rw (c.in-Ok-Some.field-0-is, c.in-Some.ensures.rest.1) at (c.in-Ok-Some.ensures.bytes false (quiet_text c.lines.run) h.point h.stands (is_quiet c.lines.run)) in
     let lasts = rw (c.in-Ok-Some.field-0-is, c.in-Some.ensures.rest.1) at (c.in-Ok-Some.ensures.last h.last_point h.last_stands) in
-    let other : c.in-Ok-Some.status ≡ NoMemory → ⊥ = λ is. let same : c.eq.result ≡ true = rw is at c.eq.ensures in let e : true ≡ false = sym same ∙ c.if-eq.false in cc e in
+    let other : c.in-Ok-Some.stop ≡ NoMemory → ⊥ = λ is. let same : c.eq.result ≡ true = rw is at c.eq.ensures in let e : true ≡ false = sym same ∙ c.if-eq.false in cc e in
     let low : c.lines.at + 1 < 2 ^ 64 = omega (arith, c.in-Some.ensures.rest.2) in
     elim takes [
       | inl e ↦ c.with_memory.ensures ∙ ap (λ (t : Totals). with_memory t (state_in c.take_line.new.run)) c.add_waiting-in-Ok-Some.ensures.totals
-          ∙ summed_ends c.args.source.now c.lines.at c.in-Some.line.next c.lines.number c.in-Some.line.bytes.now c.lines.run c.lines.totals h c.in-Some.ensures.lines c.lines.writer c.take_line.new.writer c.lines.invariant.waiting c.take_line.new.run (quiet_text c.lines.run) c.in-Ok-Some.status e (lasts other) low
+          ∙ summed_ends c.args.source.now c.lines.at c.in-Some.line.next c.lines.number c.in-Some.line.bytes.now c.lines.run c.lines.totals h c.in-Some.ensures.lines c.lines.writer c.take_line.new.writer c.lines.invariant.waiting c.take_line.new.run (quiet_text c.lines.run) c.in-Ok-Some.stop e (lasts other) low
       | inr w ↦ absurd (other w.refused)
     ]
 

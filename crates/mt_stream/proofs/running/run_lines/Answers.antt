@@ -1,0 +1,155 @@
+use Rattle.std.proofs.Common.{◌≡◌, ◌∙◌, ◌+◌, ◌++◌, arith, sym, refl, subst, ap, List, ℕ, None, Some, Ok, Err, []}
+use Rattle.mt_ports.specs.Causes.{StatusHasCause}
+use Rattle.mt_ports.specs.declared.status.Status.TheVariants.{WriteFault}
+use Rattle.mt_text.specs.Feed.{Feeding, IsLong, Moves, taken}
+use Rattle.mt_stream.specs.Handling.{RunsOn}
+use Rattle.mt_stream.specs.Lines.{running}
+use Rattle.mt_stream.proofs.Loops.{ends, fails, goes_last, goes_on, refuses}
+use Rattle.mt_stream.proofs.Rounds.{cut_enough, cut_long, few_taken, moved_taken, never_much}
+use Rattle.mt_stream.proofs.Telling.{UnderWay, closes, cut_has_memory, cuts, no_line, starts}
+use Rattle.mt_stream.proofs.running.run_lines.Goals as goal
+
+pub lines-init : goal.lines-init
+lines-init g c = record {
+  no_fault = ap (λ f. f.fault) c.new-feed.ensures;
+  long = subst IsLong (sym c.new-feed.ensures) (λ is. absurd (cc is), λ many. absurd (omega (arith, many)));
+  given = omega (arith, ap taken c.new-feed.ensures);
+  source = refl;
+  sink = refl;
+  ready = (0, omega arith, c.requires.ready);
+  asks = λ was number line asked. asked;
+  told = λ start at bytes known.
+      subst
+      (λ (f : Feeding). UnderWay (running g.L.LineRun.at g.L.LineRun.ends g.L.LineRun.asks g.L.LineRun.ready) start bytes (g.S.Source.left c.args.source.now) f c.args.run.now c.args.writer.now (g.K.Sink.taken c.args.sink.now) (g.K.Sink.taken c.args.sink.now))
+      (sym c.new-feed.ensures)
+      (starts _ start c.requires.laws bytes (g.S.Source.left c.args.source.now) c.args.run.now c.args.writer.now (g.K.Sink.taken c.args.sink.now) known at c.requires.waiting);
+}
+
+pub returns-in-Ok-false-clause-bytes : goal.returns-in-Ok-false-clause-bytes
+returns-in-Ok-false-clause-bytes g c = λ start at bytes known.
+    let (more, takes, rises, next) = c.in-Ok-false.ensures.bytes in
+    let moves = subst (Moves c.lines.feed c.next_line.new.feed (c.lines.feed.pending ++ more) (g.S.Source.left c.next_line.new.source)) c.in-Ok-false.field-0-test next.0 in
+    subst (RunsOn start bytes (g.S.Source.left c.next_line.new.source) (g.K.Sink.taken c.args.sink.now) (g.K.Sink.taken c.finish.new.sink)) (sym c.closed_status.ensures.value)
+    (closes _ start c.requires.laws bytes _ _ _ _ _ _ (g.K.Sink.taken c.finish.new.sink) c.finish.result
+    (no_line _ start c.requires.laws bytes more _ (g.S.Source.left c.next_line.new.source) _ c.next_line.new.feed _ _ c.next_line.new.writer _ _ (g.K.Sink.taken c.next_line.new.sink) (c.lines.invariant.told start at bytes known) takes moves next.1)
+    (rw c.end.ensures at c.finish.ensures.bytes))
+
+pub returns-in-Ok-false-clause-memory : goal.returns-in-Ok-false-clause-memory
+returns-in-Ok-false-clause-memory g c = λ start at wants bytes known. absurd (c.closed_status.ensures.others.0 wants)
+
+pub returns-in-Ok-false-clause-write_fault : goal.returns-in-Ok-false-clause-write_fault
+returns-in-Ok-false-clause-write_fault g c =
+    subst (λ n. StatusHasCause WriteFault n (g.K.Sink.faults c.finish.new.sink) c.closed_status.result) (c.in-Ok-false.ensures.sink ∙ c.lines.invariant.sink) (c.closed_status.ensures.cause _ _ c.finish.ensures.cause)
+
+pub returns-in-Err-clause-bytes : goal.returns-in-Err-clause-bytes
+returns-in-Err-clause-bytes g c = λ start at bytes known.
+    let (more, takes, rises, short) = c.in-Err.ensures.bytes in
+    let enough =
+    cut_enough c.lines.feed c.next_line.new.feed more c.lines.writer c.next_line.new.writer (g.K.Sink.taken c.lines.sink) (g.K.Sink.taken c.next_line.new.sink) (g.S.Source.given c.args.source.now) (g.S.Source.given c.lines.source) (g.S.Source.given c.next_line.new.source)
+    c.lines.invariant.given rises c.in-Err.ensures.long c.lines.invariant.no_fault c.in-Err.cut short in
+    subst (RunsOn start bytes (g.S.Source.left c.next_line.new.source) (g.K.Sink.taken c.args.sink.now) (g.K.Sink.taken c.next_line.new.sink)) (sym c.cut_status.ensures.value)
+    (cuts _ start c.requires.laws bytes more _ (g.S.Source.left c.next_line.new.source) _ c.next_line.new.feed _ _ c.next_line.new.writer _ _ (g.K.Sink.taken c.next_line.new.sink) c.in-Err.cut (c.lines.invariant.told start at bytes known) takes short c.lines.invariant.no_fault enough)
+
+pub returns-in-Err-clause-memory : goal.returns-in-Err-clause-memory
+returns-in-Err-clause-memory g c = λ start at wants bytes known. absurd (cut_has_memory c.in-Err.cut (sym c.cut_status.ensures.value ∙ wants))
+
+pub returns-in-Err-clause-too_long : goal.returns-in-Err-clause-too_long
+returns-in-Err-clause-too_long g c =
+    let (more, takes, rises, short) = c.in-Err.ensures.bytes in
+    let long =
+    cut_long c.lines.feed c.next_line.new.feed more c.lines.writer c.next_line.new.writer (g.K.Sink.taken c.lines.sink) (g.K.Sink.taken c.next_line.new.sink) (g.S.Source.given c.args.source.now) (g.S.Source.given c.lines.source) (g.S.Source.given c.next_line.new.source)
+    c.lines.invariant.given rises c.in-Err.ensures.long c.lines.invariant.no_fault c.in-Err.cut short in
+    (λ is. long.0 (sym c.cut_status.ensures.value ∙ is), λ much. c.cut_status.ensures.value ∙ long.1 much)
+
+pub take_line-requires : goal.take_line-requires
+take_line-requires g c =
+    let (most, few, ready) = c.lines.invariant.ready in
+    c.requires.may _ _ _ _ most (omega (arith, few, few_taken c.lines.feed c.lines.invariant.long c.lines.invariant.no_fault)) ready
+
+pub returns-then-last-clause-bytes : goal.returns-then-last-clause-bytes
+returns-then-last-clause-bytes g c = λ start at bytes known.
+    let (more, takes, rises, next) = c.in-Ok-true.ensures.bytes in
+    let line = c.requires.takes _ _ _ _ _ _ _ _ c.in-Ok-None.ensures in
+    subst (RunsOn start bytes (g.S.Source.left c.next_line.new.source) (g.K.Sink.taken c.args.sink.now) (g.K.Sink.taken c.finish-then-last.new.sink)) (sym c.closed_status-then-last.ensures.value)
+    (goes_last _ start c.requires.laws bytes more _ (g.S.Source.left c.next_line.new.source) _ c.next_line.new.feed _ _ c.next_line.new.writer _ _ (g.K.Sink.taken c.next_line.new.sink) (c.lines.invariant.told start at bytes known) takes _ c.in-Ok-true.field-0-test next
+    c.take_line.new.arg2 c.take_line.new.arg4 (g.K.Sink.taken c.take_line.new.arg5)
+    (λ so_far was stands. rw (c.in-Ok-None.field-0-is, c.current.ensures.bytes, c.current.ensures.number) at (line.bytes so_far was stands))
+    (sym c.is_last-last.ensures ∙ c.if-last.true) (g.K.Sink.taken c.finish-then-last.new.sink) c.finish-then-last.result (rw c.end-then-last.ensures at c.finish-then-last.ensures.bytes))
+
+pub returns-then-last-clause-memory : goal.returns-then-last-clause-memory
+returns-then-last-clause-memory g c = λ start at wants bytes known. absurd (c.closed_status-then-last.ensures.others.0 wants)
+
+pub returns-then-last-clause-write_fault : goal.returns-then-last-clause-write_fault
+returns-then-last-clause-write_fault g c =
+    let line = c.requires.takes _ _ _ _ _ _ _ _ c.in-Ok-None.ensures in
+    subst (λ n. StatusHasCause WriteFault n (g.K.Sink.faults c.finish-then-last.new.sink) c.closed_status-then-last.result) (line.cause ∙ c.in-Ok-true.ensures.sink ∙ c.lines.invariant.sink) (c.closed_status-then-last.ensures.cause _ _ c.finish-then-last.ensures.cause)
+
+pub returns-then-last-clause-too_long : goal.returns-then-last-clause-too_long
+returns-then-last-clause-too_long g c =
+    let (more, takes, rises, next) = c.in-Ok-true.ensures.bytes in
+    let moved = moved_taken c.lines.feed c.next_line.new.feed more (g.S.Source.left c.next_line.new.source) _ c.in-Ok-true.field-0-test next.0 in
+    never_much c.closed_status-then-last.result (g.S.Source.given c.args.source.now) (g.S.Source.given c.next_line.new.source) c.next_line.new.feed c.closed_status-then-last.ensures.others.2
+    (omega (arith, c.lines.invariant.given, rises, moved.0)) c.in-Ok-true.ensures.long (moved.2 ∙ c.lines.invariant.no_fault)
+
+pub lines-preserved : goal.lines-preserved
+lines-preserved g c =
+    let (more, takes, rises, next) = c.in-Ok-true.ensures.bytes in
+    let moved = moved_taken c.lines.feed c.next_line.new.feed more (g.S.Source.left c.next_line.new.source) _ c.in-Ok-true.field-0-test next.0 in
+    let line = c.requires.takes _ _ _ _ _ _ _ _ c.in-Ok-None.ensures in
+    let (most, few, ready) = c.lines.invariant.ready in
+    record {
+      no_fault = moved.2 ∙ c.lines.invariant.no_fault;
+      long = c.in-Ok-true.ensures.long;
+      given = omega (arith, c.lines.invariant.given, rises, moved.0);
+      source = c.in-Ok-true.ensures.source ∙ c.lines.invariant.source;
+      sink = line.cause ∙ c.in-Ok-true.ensures.sink ∙ c.lines.invariant.sink;
+      ready = (most + 1, omega (arith, few, moved.1), rw c.in-Ok-None.field-0-is at (line.ready most ready));
+      asks = λ was number other asked. c.lines.invariant.asks was number other (line.asks_stay was number other asked);
+      told = λ start at bytes known.
+          goes_on _ start c.requires.laws bytes more _ (g.S.Source.left c.next_line.new.source) _ c.next_line.new.feed _ _ c.next_line.new.writer _ _ (g.K.Sink.taken c.next_line.new.sink) (c.lines.invariant.told start at bytes known) takes _ c.in-Ok-true.field-0-test next
+          c.take_line.new.arg2 c.take_line.new.arg4 (g.K.Sink.taken c.take_line.new.arg5)
+          (λ so_far was stands. rw (c.in-Ok-None.field-0-is, c.current.ensures.bytes, c.current.ensures.number) at (line.bytes so_far was stands))
+          (sym c.is_last-last.ensures ∙ c.if-last.false);
+    }
+
+pub returns-in-Ok-Some-clause-bytes : goal.returns-in-Ok-Some-clause-bytes
+returns-in-Ok-Some-clause-bytes g c = λ start at bytes known.
+    let (more, takes, rises, next) = c.in-Ok-true.ensures.bytes in
+    let (dropped, drains, given, (counted, leaves)) = c.leave.ensures.bytes in
+    let line = c.requires.takes _ _ _ _ _ _ _ _ c.in-Ok-Some.ensures in
+    ends _ start c.requires.laws bytes more _ (g.S.Source.left c.next_line.new.source) _ c.next_line.new.feed _ _ c.next_line.new.writer _ _ (g.K.Sink.taken c.next_line.new.sink) (c.lines.invariant.told start at bytes known) takes _ c.in-Ok-true.field-0-test next
+    c.take_line.new.arg2 c.take_line.new.arg4 (g.K.Sink.taken c.take_line.new.arg5) c.in-Ok-Some.stop c.leave.result dropped (g.S.Source.left c.leave.new.source) (g.K.Sink.taken c.leave.new.sink) drains
+    (λ is. let many = c.leave.ensures.long.0 is in omega (arith, many, counted)) (rw c.is_last-last.ensures at leaves)
+    (λ so_far was stands. rw (c.in-Ok-Some.field-0-is, c.current.ensures.bytes, c.current.ensures.number) at (line.bytes so_far was stands))
+
+pub returns-in-Ok-Some-clause-memory : goal.returns-in-Ok-Some-clause-memory
+returns-in-Ok-Some-clause-memory g c = λ start at wants bytes known.
+    let (more, takes, rises, next) = c.in-Ok-true.ensures.bytes in
+    let (dropped, drains, given, (counted, leaves)) = c.leave.ensures.bytes in
+    let line = c.requires.takes _ _ _ _ _ _ _ _ c.in-Ok-Some.ensures in
+    refuses _ start c.requires.laws bytes more _ (g.S.Source.left c.next_line.new.source) _ c.next_line.new.feed _ _ c.next_line.new.writer _ _ (g.K.Sink.taken c.next_line.new.sink) (c.lines.invariant.told start at bytes known) takes _ c.in-Ok-true.field-0-test next
+    c.take_line.new.arg2 c.take_line.new.arg4 (g.K.Sink.taken c.take_line.new.arg5) c.in-Ok-Some.stop c.leave.result dropped (g.S.Source.left c.leave.new.source) (g.K.Sink.taken c.leave.new.sink) drains
+    (λ is. let many = c.leave.ensures.long.0 is in omega (arith, many, counted)) (rw c.is_last-last.ensures at leaves)
+    (λ so_far was stands. rw (c.in-Ok-Some.field-0-is, c.current.ensures.bytes, c.current.ensures.number) at (line.bytes so_far was stands))
+    (g.L.LineRun.asks c.args.run.now)
+    (λ refused so_far was stands. c.lines.invariant.asks _ _ _ (rw (c.current.ensures.bytes, c.current.ensures.number) at (line.asks so_far was stands (ap Ok (c.in-Ok-Some.field-0-is ∙ ap Some refused))))) wants
+
+pub returns-in-Ok-Some-clause-too_long : goal.returns-in-Ok-Some-clause-too_long
+returns-in-Ok-Some-clause-too_long g c =
+    let (more, takes, rises, next) = c.in-Ok-true.ensures.bytes in
+    let moved = moved_taken c.lines.feed c.next_line.new.feed more (g.S.Source.left c.next_line.new.source) _ c.in-Ok-true.field-0-test next.0 in
+    let (dropped, drains, given, (counted, leaves)) = c.leave.ensures.bytes in (
+      λ is. let many = c.leave.ensures.long.0 is in omega (arith, c.lines.invariant.given, rises, moved.0, given, counted, many),
+      λ much. c.leave.ensures.long.1 (omega (arith, c.lines.invariant.given, rises, moved.0, given, counted, much)),
+    )
+
+pub returns-in-Err-take_line-clause-bytes : goal.returns-in-Err-take_line-clause-bytes
+returns-in-Err-take_line-clause-bytes g c = λ start at bytes known.
+    let (more, takes, rises, next) = c.in-Ok-true.ensures.bytes in
+    let line = c.requires.takes _ _ _ _ _ _ _ _ c.in-Err-take_line.ensures in
+    fails _ start c.requires.laws bytes more _ (g.S.Source.left c.next_line.new.source) _ c.next_line.new.feed _ _ c.next_line.new.writer _ _ (g.K.Sink.taken c.next_line.new.sink) (c.lines.invariant.told start at bytes known) takes _ c.in-Ok-true.field-0-test next
+    c.take_line.new.arg2 c.take_line.new.arg4 (g.K.Sink.taken c.take_line.new.arg5) c.in-Err-take_line.field-0
+    (λ so_far was stands. rw (c.current.ensures.bytes, c.current.ensures.number) at (line.bytes so_far was stands))
+
+pub returns-in-Err-take_line-clause-memory : goal.returns-in-Err-take_line-clause-memory
+returns-in-Err-take_line-clause-memory g c = λ start at wants. absurd (cc wants)

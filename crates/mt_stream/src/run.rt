@@ -1,0 +1,30 @@
+ghost use Rattle.std.specs.Prelude.{List, ℕ};
+ghost use Rattle.mt_ports.specs.Causes.{HasCause};
+ghost use Rattle.mt_text.specs.declared.place.Place.{Place};
+ghost use Rattle.mt_stream.specs.Lines.{Closes, Path};
+ghost use Rattle.mt_stream.specs.Told.{Telling, Told};
+
+use crate::End;
+use mt_output::Writer;
+use mt_ports::{Failed, Sink};
+use mt_text::Place;
+
+/// A run over the lines of a text, as it is between two of them.
+pub trait LineRun {
+    /// It stands where this text was written and the lines that come lead to this.
+    ghost at: { Self → List ℕ → Path → Type 0 };
+
+    /// What is told where the text ends at a place.
+    ghost ends: { Self → Place → Told };
+
+    /// It may ask for memory at a line of this number, where it and those behind it tell this.
+    ghost asks: { Self → Telling → ℕ → List ℕ → Type 0 };
+
+    /// It can take a line behind this many.
+    ghost ready: { ℕ → Self → Type 0 };
+
+    /// Writes what is told where the text ends, with all that waits, and returns how it ends.
+    fn finish<K: Sink>(&self, end: Place, writer: &mut Writer, sink: &mut K) -> Result<End, Failed>
+        ensures bytes { Closes (ends self.now end) writer.old (K.taken sink.old) (K.taken sink.new) result }
+        ensures cause { HasCause (K.faults sink.old) (K.faults sink.new) result };
+}
