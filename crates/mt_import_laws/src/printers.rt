@@ -51,12 +51,14 @@ pub fn what_edk2_prints_reads_back()
 
 /// What Xen prints of a register file reads back as the file, if words supply the width, 0FEH, the PAT and what the table doesn't show:
 /// the registers of pairs that are off and not 0, and IA32_MTRR_DEF_TYPE without FIX. Types without a name and reserved bits aren't shown.
+/// So it does by `auto`, and so does any log that has these lines in their order, and between them only lines that say no more of a
+/// dump than its width.
 pub fn what_xen_prints_reads_back()
     ensures { (file : RegisterFile) (supplied : Supplied) → SuitsXen file supplied → TableReadsInOrder Xen (xen_lines file) supplied file }
 {}
 
-/// What Linux prints of a register file reads back as the file, if words supply the same, and IA32_MTRR_DEF_TYPE also if neither E is set
-/// nor fixed ranges are called enabled.
+/// What Linux prints of a register file reads back in the same ways, if words supply the same, and IA32_MTRR_DEF_TYPE also if neither
+/// E is set nor fixed ranges are called enabled.
 pub fn what_linux_prints_reads_back()
     ensures { (log : Log) (file : RegisterFile) (supplied : Supplied) → SuitsLinux log file supplied → TableReadsInOrder Linux (linux_lines log file) supplied file }
 {}
