@@ -13,10 +13,10 @@ use Rattle.mt_import.specs.declared.reading.Said.TheVariants.{Nothing, Announces
 use Rattle.mt_import.specs.declared.shape.Tally.{Tally}
 use Rattle.mt_import.specs.Import.{log_told}
 use Rattle.mt_import.specs.Kernel.{is_warning_line}
-use Rattle.mt_import.specs.Outcome.{Seen, Told, dump_told, ended, ended_by, fact_fault, facts_fault, is_empty, known_of, missing_of, nothing_seen, notes_of, or_fault, outcome, processors, refusal, remarks, seen_after, seen_with, slot_shown, unless, values_of}
+use Rattle.mt_import.specs.Outcome.{Seen, Told, dump_told, ended, fact_fault, facts_fault, is_empty, known_of, missing_of, nothing_seen, notes_of, or_fault, processors, refusal, remarks, seen_after, seen_with, slot_shown, unless, values_of}
 use Rattle.mt_import.specs.Pieces.{shows_width}
 use Rattle.mt_import.specs.Readings.{Fact, announced_after, context_after, fixed_after, is_fault, is_line, is_match, is_register_value, is_warning, is_width, line_facts, processor_after, said_facts, starts, table_behind}
-use Rattle.mt_import.specs.Shown.{chosen, context_behind, facts_from, facts_of_line, format_told, said_in, said_of, shown}
+use Rattle.mt_import.specs.Shown.{context_behind, facts_from, facts_of_line, format_told, said_in, said_of, shown}
 use Rattle.mt_import.specs.Supplied.{Supplied}
 use Rattle.mt_import.specs.Values.{width_by}
 use Rattle.mt_import.specs.X86info.{is_listed, is_size, is_sizes, sizes_said}

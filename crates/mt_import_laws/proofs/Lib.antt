@@ -45,3 +45,4 @@ mod KernelTable
 mod RdmsrLines
 mod RdmsrTable
 mod WorkedFiles
+mod Others

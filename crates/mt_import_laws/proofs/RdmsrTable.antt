@@ -6,7 +6,6 @@ use Rattle.mt_text.specs.declared.place.Place.{Place}
 use Rattle.mt_text.proofs.Plain.{is_plain}
 use Rattle.mt_regs.specs.RegisterFile.{IsRegisterFile, RegisterFile}
 use Rattle.mt_regs.specs.Words.{HasWords}
-use Rattle.mt_import.specs.declared.format.Choice.TheVariants.{Only}
 use Rattle.mt_import.specs.declared.format.Format.TheVariants.{Rdmsr}
 use Rattle.mt_import.specs.declared.reading.Context.{Context}
 use Rattle.mt_import.specs.declared.shape.Announced.{Announced}
@@ -15,7 +14,6 @@ use Rattle.mt_import.specs.Readings.{Fact, is_line, shown_facts, starts}
 use Rattle.mt_import.specs.Shown.{context_behind, facts_from, facts_of_line, shown, tells}
 use Rattle.mt_import.specs.Slot.{all_bits}
 use Rattle.mt_import.specs.Supplied.{Supplied}
-use Rattle.mt_import.specs.Import.{log_told}
 use Rattle.mt_import_laws.specs.Origins.{IsAmong}
 use Rattle.mt_import_laws.specs.FirstLine.{LinesTellFirst}
 use Rattle.mt_import_laws.specs.Printed.{Key, TextReadsBack, number_at, value_in}

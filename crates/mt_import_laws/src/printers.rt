@@ -5,7 +5,7 @@ ghost use Rattle.mt_import.specs.declared.format.Choice.TheVariants.{Only};
 ghost use Rattle.mt_import.specs.declared.format.Format.TheVariants.{Coreboot, Edk2, Inteltool, Linux, Rdmsr, X86info, Xen};
 ghost use Rattle.mt_import.specs.Supplied.{Supplied, command_of};
 ghost use Rattle.mt_import_laws.specs.FirstLine.{LinesTellFirst};
-ghost use Rattle.mt_import_laws.specs.Printed.{TableReadsBack, TableReadsInOrder, TextReadsBack};
+ghost use Rattle.mt_import_laws.specs.Printed.{TableReadsBack, TableReadsInOrder, TellsNoMore, TextReadsBack};
 ghost use Rattle.mt_import_laws.specs.PrintedByCoreboot.{SuitsCoreboot, Tails, coreboot_lines, line_of as coreboot_line};
 ghost use Rattle.mt_import_laws.specs.PrintedByEdk2.{SuitsEdk2, edk2_lines, pair_line};
 ghost use Rattle.mt_import_laws.specs.PrintedByInteltool.{Names, SuitsInteltool, inteltool_lines, line_of as inteltool_line};
@@ -51,12 +51,14 @@ pub fn what_edk2_prints_reads_back()
 
 /// What Xen prints of a register file reads back as the file, if words supply the width, 0FEH, the PAT and what the table doesn't show:
 /// the registers of pairs that are off and not 0, and IA32_MTRR_DEF_TYPE without FIX. Types without a name and reserved bits aren't shown.
+/// So it does by `auto`, and so does any log that has these lines in their order, and between them only lines that say no more of a
+/// dump than its width.
 pub fn what_xen_prints_reads_back()
     ensures { (file : RegisterFile) (supplied : Supplied) → SuitsXen file supplied → TableReadsInOrder Xen (xen_lines file) supplied file }
 {}
 
-/// What Linux prints of a register file reads back as the file, if words supply the same, and IA32_MTRR_DEF_TYPE also if neither E is set
-/// nor fixed ranges are called enabled.
+/// What Linux prints of a register file reads back in the same ways, if words supply the same, and IA32_MTRR_DEF_TYPE also if neither
+/// E is set nor fixed ranges are called enabled.
 pub fn what_linux_prints_reads_back()
     ensures { (log : Log) (file : RegisterFile) (supplied : Supplied) → SuitsLinux log file supplied → TableReadsInOrder Linux (linux_lines log file) supplied file }
 {}
@@ -71,6 +73,15 @@ pub fn worked_formats()
     ensures xen { LinesTellFirst Xen 1 (xen_lines ordinary_pc) }
     ensures linux { LinesTellFirst Linux 1 (linux_lines early_log ordinary_pc) }
     ensures other { LinesTellFirst Linux 1 (xen_lines ordinary_pc) → ⊥ }
+{}
+
+/// Lines that say no more of an ordinary PC's dump: another register, the width, and a kernel's warning.
+pub fn worked_others()
+    ensures register { TellsNoMore Inteltool ordinary_pc (codes " MSR 0x0000001B = 0x00000000:0xFEE00900 (IA32_APIC_BASE)") }
+    ensures width { TellsNoMore Linux ordinary_pc (codes "Address sizes: 36 bits physical, 48 bits virtual") }
+    ensures warning { TellsNoMore Xen ordinary_pc (codes "(XEN) mtrr: your CPUs had inconsistent variable MTRR settings") }
+    ensures nothing { TellsNoMore Linux ordinary_pc (codes "[    0.000000] BIOS-provided physical RAM map:") }
+    ensures other_width { TellsNoMore Linux ordinary_pc (codes "Address sizes: 39 bits physical, 48 bits virtual") → ⊥ }
 {}
 
 /// The registers of an ordinary PC are an instance for each program. The words of four are command lines. A line of each is as the
