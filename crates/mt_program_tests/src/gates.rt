@@ -146,30 +146,34 @@ fn expect_each<R: AllocGlobal + Threads + Wait + Abort + Files + Clock + Sync>(
     Ok(())
 }
 
+// Requests, and how many of them are carried out.
+fn requests() -> [(&'static [u8], u64); 3] {
+    [
+        (b"disable=7\nbase=1 size=1 type=write-back\n", 0),
+        (
+            b"base=0x80000000 size=0x80000000 type=uncachable\ndisable=1\nbase=0x80000000 size=0x80000000 type=uncachable\n\
+            disable=1\ndisable=0\n",
+            5,
+        ),
+        (
+            b"base=0xf8000000 size=0x400000 type=write-combining\n# none\ndisable=0\n",
+            1,
+        ),
+    ]
+}
+
 // A request that is carried out asks once before each start, and tells of each arrival once. One that
 // isn't does neither.
 #[test]
 fn each_processor_starts_and_arrives_once(rt: HostRuntime) -> Result<(), Fail> {
-    for (cpus, words) in [
-        (1, ["proc", "1"].as_slice()),
-        (3, &["proc", "3"]),
-        (16, &["proc", "16"]),
-    ] {
-        for (requests, times) in [
-            (b"disable=7\nbase=1 size=1 type=write-back\n".as_slice(), 0),
-            (
-                b"base=0x80000000 size=0x80000000 type=uncachable\ndisable=1\n",
-                2,
-            ),
-            (
-                b"base=0xf8000000 size=0x400000 type=write-combining\n# none\ndisable=0\n",
-                1,
-            ),
-        ] {
-            let text = repeated(rt.alloc(), FOUR_GIGABYTES, requests, 1)?;
-            expect_each(&rt, Call::Tool(words), &text, cpus, times)?;
+    for (requests, times) in requests() {
+        let text = repeated(rt.alloc(), FOUR_GIGABYTES, requests, 1)?;
+        for cpus in 1..=16 {
             expect_each(&rt, Call::Proc(cpus), &text, cpus, times)?;
         }
+        expect_each(&rt, Call::Tool(&["proc", "1"]), &text, 1, times)?;
+        expect_each(&rt, Call::Tool(&["proc", "3"]), &text, 3, times)?;
+        expect_each(&rt, Call::Tool(&["proc", "16"]), &text, 16, times)?;
     }
     Ok(())
 }
@@ -183,6 +187,18 @@ fn each_update_starts_and_arrives_once(rt: HostRuntime) -> Result<(), Fail> {
     expect_each(&rt, Call::Replay, &script, 3, 6)?;
     expect_each(&rt, Call::Tool(&["big", "7"]), b"", 16, 8)?;
     expect_each(&rt, Call::Tool(&["private", "3", "7", "4"]), b"", 3, 1)
+}
+
+// So do two updates of a script of each number of processors, over a memory of one line.
+#[test]
+fn each_processor_of_a_script_starts_and_arrives_once(rt: HostRuntime) -> Result<(), Fail> {
+    for cpus in 1..=16u32 {
+        let script = format!(in rt.alloc();
+            "cpus {cpus}\ndump\n0fe 508\n200 6\n201 f00000800\n2ff 800\nend\nram 100000 1\nupdate\n200 0\nend\nupdate\n200 6\nend\n"
+        )?;
+        expect_each(&rt, Call::Replay, script.as_str().as_bytes(), cpus, 2)?;
+    }
+    Ok(())
 }
 
 // A command that starts no thread asks and tells nothing, and neither does one that is refused before an update.

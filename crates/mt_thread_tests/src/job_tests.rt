@@ -424,7 +424,7 @@ fn processors_without_accesses_meet(rt: HostRuntime) {
 
 #[test]
 fn each_processor_starts_and_arrives_once(rt: HostRuntime) {
-    for count in [1, 3, 16] {
+    for count in 1..=16 {
         let gate = InOrder::new(&rt, 16);
         let done = store_and_load(&rt, rt.alloc(), count, &gate);
         succeeds_at(&rt, count as u64, done);
