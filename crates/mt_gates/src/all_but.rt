@@ -1,43 +1,55 @@
-use crate::counts::count_one;
+use crate::counts::Counts;
 use mt_ports::Gate;
-use std::sync::atomic::{AtomicU64, Ordering};
+use std::ops::Range;
+use std::time::Clock;
 
-/// Lets every thread start but that of one processor, and counts of whom it is asked and told, of each processor in
-/// four bits. One above 15 is nobody.
+/// Lets every thread start except that of one processor, and counts of whom it is asked and told. A call about a number above
+/// 15 counts too: each comparison below then fails.
 #[derive(Drop)]
 pub struct AllBut {
     processor: u32,
-    asked: AtomicU64,
-    told: AtomicU64,
+    asked: Counts,
+    told: Counts,
 }
 
 impl AllBut {
+    /// A gate that refuses this processor. 16 refuses none.
     pub fn new(processor: u32) -> AllBut {
         AllBut {
             processor,
-            asked: AtomicU64::new(0),
-            told: AtomicU64::new(0),
+            asked: Counts::new(),
+            told: Counts::new(),
         }
     }
 
-    /// How often it was asked of each processor.
-    pub fn asked(&self) -> u64 {
-        self.asked.load(Ordering::SeqCst)
+    /// Whether it was asked so often of each of these processors, and of no other.
+    pub fn asked_each(&self, processors: Range<u32>, times: u64) -> bool {
+        self.asked.are(&processors, times)
     }
 
-    /// How often it was told of each processor.
-    pub fn told(&self) -> u64 {
-        self.told.load(Ordering::SeqCst)
+    /// Whether it was told so often of each of these processors, and of no other.
+    pub fn told_each(&self, processors: Range<u32>, times: u64) -> bool {
+        self.told.are(&processors, times)
+    }
+
+    /// Whether it was told so often at most of each of these processors, and of no other.
+    pub fn told_at_most(&self, processors: Range<u32>, times: u64) -> bool {
+        self.told.are_at_most(&processors, times)
+    }
+
+    /// Waits until it was told of each of these processors, at least ten seconds for each. Returns whether it was.
+    pub fn hears_of<C: Clock>(&self, clock: &C, processors: Range<u32>) -> bool {
+        self.told.come(clock, &processors)
     }
 }
 
 impl Gate for AllBut {
     fn may_start(&self, k: u32) -> bool {
-        count_one(&self.asked, k);
+        self.asked.add(k);
         k != self.processor
     }
 
     fn arrived(&self, k: u32) {
-        count_one(&self.told, k);
+        self.told.add(k);
     }
 }

@@ -1,12 +1,15 @@
-//! Updates on threads under gates that refuse a start, count what they are asked and told, or see that threads meet.
-use crate::runs::{Ports, repeated, run_under};
+//! Updates on threads under gates that refuse a start, count what they are asked and told and see on which threads, or see
+//! that threads meet.
+use crate::runs::{Call, Ports, repeated, run_under};
 use crate::texts::{FOUR_GIGABYTES, PAIR, TRIO, UPDATE, UPDATED};
-use mt_gates::{AllBut, Meets, ones};
+use mt_gates::{AllBut, InOrder, Meets};
 use mt_ports::{Gate, Status};
 use std::process::Abort;
+use std::rt::Files;
 use std::sync::Wait;
 use std::test::Fail;
 use std::thread::Threads;
+use std::time::Clock;
 
 const REQUESTS: &[u8] = b"0fe 508\n200 6\n201 f00000800\n2ff 800\nend\n\
     base=0xf8000000 size=0x400000 type=write-combining\n\
@@ -24,64 +27,122 @@ const TOLD: &[u8] =
     base=0x100000000 size=0x1000 type=write-through # 3\n\
     era 3\n";
 
+/// A run over an input, and the text that it has to write.
+#[derive(Clone, Copy)]
+struct Run<'a> {
+    call: Call<'a>,
+    input: &'a [u8],
+    text: &'a [u8],
+}
+
+impl<'a> Run<'a> {
+    fn of(call: Call<'a>, input: &'a [u8], text: &'a [u8]) -> Run<'a> {
+        Run { call, input, text }
+    }
+
+    // The run ends with status 0, and writes its text.
+    fn expect<R: AllocGlobal + Threads + Wait + Abort + Sync, G: Gate>(
+        &self,
+        rt: &R,
+        gate: &G,
+    ) -> Result<(), Fail> {
+        let ran = run_under(rt, self.call, &Ports::new(self.input, 4096), gate)?;
+        assert_eq!(rt; ran.status, Status::Done);
+        assert!(rt; ran.sink.bytes() == self.text);
+        Ok(())
+    }
+}
+
+// One script and one list of requests, each by the top call and by its own, and how many updates they make.
+fn updates() -> [(Run<'static>, u64); 4] {
+    [
+        (Run::of(Call::Tool(&["replay"]), UPDATE, UPDATED), 1),
+        (Run::of(Call::Replay, UPDATE, UPDATED), 1),
+        (Run::of(Call::Tool(&["proc", "2"]), REQUESTS, TOLD), 3),
+        (Run::of(Call::Proc(2), REQUESTS, TOLD), 3),
+    ]
+}
+
+// The last processor is started first, so those before the refused one aren't asked of. 2 refuses none.
 #[test]
 fn a_refused_start_changes_nothing_that_is_told(rt: HostRuntime) -> Result<(), Fail> {
-    for processor in 0..2 {
-        for (words, input, text) in [
-            (["replay"].as_slice(), UPDATE, UPDATED),
-            (&["proc", "2"], REQUESTS, TOLD),
-        ] {
-            let gate = AllBut::new(processor);
-            let ran = run_under(&rt, words, &Ports::new(input, 4096), &gate)?;
-            assert_eq!(rt; ran.status, Status::Done);
-            assert!(rt; ran.sink.bytes() == text);
+    for (refused, first_asked) in [(0, 0), (1, 1), (2, 0)] {
+        for (run, times) in updates() {
+            let gate = InOrder::new(&rt, refused);
+            run.expect(&rt, &gate)?;
+            assert!(rt; gate.is_kept());
+            assert!(rt; gate.starts().asked_each(first_asked..2, times));
+            assert!(rt; gate.starts().told_each(0..2, times));
         }
     }
     Ok(())
 }
 
-// Both processors see the other, so two threads run at once; and the gate is told once of each.
-fn expect_meeting<R: AllocGlobal + Threads + Wait + Abort + Sync>(
+// So many processors see each other, so as many threads run at once; and the gate is told once of each.
+fn expect_meeting<R: AllocGlobal + Threads + Wait + Abort + Files + Clock + Sync>(
     rt: &R,
-    words: &[&str],
-    input: &[u8],
-    text: &[u8],
+    run: Run<'_>,
+    cpus: u32,
 ) -> Result<(), Fail> {
-    let gate = Meets::new();
-    let ran = run_under(rt, words, &Ports::new(input, 4096), &gate)?;
-    assert_eq!(rt; ran.status, Status::Done);
-    assert!(rt; ran.sink.bytes() == text);
-    assert_eq!(rt; gate.seen(), 2);
-    assert_eq!(rt; gate.told(), ones(0, 2));
+    let gate = Meets::of(rt, cpus);
+    run.expect(rt, &gate)?;
+    assert_eq!(rt; gate.seen(), cpus as u64);
+    assert!(rt; gate.told_each(0..cpus, 1));
+    Ok(())
+}
+
+// Those of a script, with the first lines of it.
+fn expect_replay_to_meet<R: AllocGlobal + Threads + Wait + Abort + Files + Clock + Sync>(
+    rt: &R,
+    first: &[u8],
+    cpus: u32,
+) -> Result<(), Fail> {
+    let input = repeated(rt.alloc(), first, b"update\n200 0\nend\n", 1)?;
+    for call in [Call::Tool(&["replay"]), Call::Replay] {
+        let run = Run::of(call, &input, b"accepted\nok\nok\ncomplete 1\n");
+        expect_meeting(rt, run, cpus)?;
+    }
     Ok(())
 }
 
 #[test]
-fn two_processors_meet(rt: HostRuntime) -> Result<(), Fail> {
-    let alloc = rt.alloc();
-    let script = repeated(alloc, PAIR, b"update\n200 0\nend\n", 1)?;
-    let text = b"accepted\nok\nok\ncomplete 1\n";
-    expect_meeting(&rt, &["replay"], &script, text)?;
-    let request = repeated(alloc, FOUR_GIGABYTES, b"disable=0\n", 1)?;
-    expect_meeting(&rt, &["proc", "2"], &request, b"cleared 0\nera 1\n")?;
+fn processors_meet(rt: HostRuntime) -> Result<(), Fail> {
+    expect_replay_to_meet(&rt, PAIR, 2)?;
+    expect_replay_to_meet(&rt, TRIO, 3)?;
+    let input = repeated(rt.alloc(), FOUR_GIGABYTES, b"disable=0\n", 1)?;
+    for (call, cpus) in [
+        (Call::Tool(&["proc", "2"]), 2),
+        (Call::Proc(2), 2),
+        (Call::Tool(&["proc", "16"]), 16),
+    ] {
+        let run = Run::of(call, &input, b"cleared 0\nera 1\n");
+        expect_meeting(&rt, run, cpus)?;
+    }
     let text = b"values 0000000000000000\nmemory 0000000000000000\n";
-    expect_meeting(&rt, &["private", "2", "7", "0"], b"", text)
+    let jobs = Run::of(Call::Tool(&["private", "2", "7", "0"]), b"", text);
+    expect_meeting(&rt, jobs, 2)
 }
 
-// The gate is asked and told so often of each of so many processors.
-fn expect_each<R: AllocGlobal + Threads + Wait + Abort + Sync>(
+// The gate is asked and told so often of each of so many processors, each of which starts as it allows.
+fn expect_each<R: AllocGlobal + Threads + Wait + Abort + Files + Clock + Sync>(
     rt: &R,
-    words: &[&str],
+    call: Call<'_>,
     input: &[u8],
     cpus: u32,
     times: u64,
 ) -> Result<(), Fail> {
-    let gate = AllBut::new(16);
-    let ran = run_under(rt, words, &Ports::new(input, 4096), &gate)?;
+    let gate = InOrder::new(rt, 16);
+    let ran = run_under(rt, call, &Ports::new(input, 4096), &gate)?;
     assert_eq!(rt; ran.status, Status::Done);
-    let each = ones(0, cpus).wrapping_mul(times);
-    assert_eq!(rt; gate.asked(), each, "{cpus} processors");
-    assert_eq!(rt; gate.told(), each, "{cpus} processors");
+    assert!(rt; gate.is_kept(), "{cpus} processors");
+    assert!(rt;
+        gate.starts().asked_each(0..cpus, times),
+        "{cpus} processors"
+    );
+    assert!(rt;
+        gate.starts().told_each(0..cpus, times),
+        "{cpus} processors"
+    );
     Ok(())
 }
 
@@ -106,7 +167,8 @@ fn each_processor_starts_and_arrives_once(rt: HostRuntime) -> Result<(), Fail> {
             ),
         ] {
             let text = repeated(rt.alloc(), FOUR_GIGABYTES, requests, 1)?;
-            expect_each(&rt, words, &text, cpus, times)?;
+            expect_each(&rt, Call::Tool(words), &text, cpus, times)?;
+            expect_each(&rt, Call::Proc(cpus), &text, cpus, times)?;
         }
     }
     Ok(())
@@ -117,16 +179,61 @@ fn each_processor_starts_and_arrives_once(rt: HostRuntime) -> Result<(), Fail> {
 fn each_update_starts_and_arrives_once(rt: HostRuntime) -> Result<(), Fail> {
     let round = b"store 0 1000 2a\nupdate\n200 4\nend\nstore 1 1040 2b\nupdate\n200 6\nend\n";
     let script = repeated(rt.alloc(), TRIO, round, 3)?;
-    expect_each(&rt, &["replay"], &script, 3, 6)?;
-    expect_each(&rt, &["private", "3", "7", "4"], b"", 3, 1)
+    expect_each(&rt, Call::Tool(&["replay"]), &script, 3, 6)?;
+    expect_each(&rt, Call::Replay, &script, 3, 6)?;
+    expect_each(&rt, Call::Tool(&["big", "7"]), b"", 16, 8)?;
+    expect_each(&rt, Call::Tool(&["private", "3", "7", "4"]), b"", 3, 1)
+}
+
+// A command that starts no thread asks and tells nothing, and neither does one that is refused before an update.
+#[test]
+fn other_commands_ask_and_tell_nothing(rt: HostRuntime) -> Result<(), Fail> {
+    for (words, status) in [
+        ([].as_slice(), Status::Usage),
+        (&["--version"], Status::Done),
+        (&["--help"], Status::Done),
+        (&["check"], Status::Done),
+        (&["show"], Status::Done),
+        (&["types"], Status::Done),
+        (&["page", "200000", "2"], Status::Done),
+        (&["tidy"], Status::Done),
+        (&["gran", "1000000"], Status::Done),
+        (&["make", "7"], Status::Done),
+        (&["proc", "2"], Status::BadText),
+        (&["replay"], Status::BadText),
+        (&["private", "17", "7", "1"], Status::Usage),
+    ] {
+        let gate = AllBut::new(16);
+        let ports = Ports::new(b"0fe 508\n2ff c06\n", 4096);
+        let ran = run_under(&rt, Call::Tool(words), &ports, &gate)?;
+        assert_eq!(rt; ran.status, status);
+        assert!(rt; gate.asked_each(0..0, 0) && gate.told_each(0..0, 0));
+    }
+    Ok(())
 }
 
 #[test]
 fn one_thread_meets_nobody(rt: HostRuntime) {
-    let gate = Meets::new();
+    let gate = Meets::within(&rt, 2, 20);
     gate.arrived(0);
     gate.arrived(1);
     gate.arrived(0);
     assert!(rt; gate.seen() < 2);
-    assert!(rt; gate.told() == 0x12);
+    assert!(rt; !gate.told_each(0..2, 1));
+}
+
+// A gate refuses processor 1, so that 1 and 0 leave on this thread. It lets 2 start, which then may not come on this thread.
+#[test]
+fn a_gate_sees_faults(rt: HostRuntime) {
+    let gate = InOrder::new(&rt, 1);
+    assert!(rt; !gate.may_start(1));
+    gate.arrived(1);
+    gate.arrived(0);
+    assert!(rt; gate.is_kept());
+    assert!(rt; gate.starts().asked_each(1..2, 1) && gate.starts().told_each(0..2, 1));
+    assert!(rt; gate.may_start(2));
+    gate.arrived(2);
+    assert!(rt; !gate.is_kept());
+    gate.arrived(16);
+    assert!(rt; !gate.starts().told_at_most(0..3, 1));
 }

@@ -1,10 +1,14 @@
 //! Texts up to the limit of an input, with more to write than may wait, and of a thousand updates.
-use crate::runs::{Ports, repeated, run};
-use crate::texts::{FOUR_GIGABYTES, PAIR};
+use crate::runs::{Call, Ports, repeated, run, run_under};
+use crate::texts::{FOUR_GIGABYTES, PAIR, SOLO, TRIO};
 use mt_answers::make_text;
+use mt_gates::AllBut;
 use mt_ports::Status;
 use std::alloc::Global;
+use std::process::Abort;
+use std::sync::Wait;
 use std::test::Fail;
+use std::thread::Threads;
 
 const LIMIT: usize = 16_777_216;
 
@@ -118,28 +122,73 @@ fn reports_without_end(rt: HostRuntime) -> Result<(), Fail> {
     Ok(())
 }
 
+/// A run over a text of many updates, and how what it writes ends.
+#[derive(Clone, Copy)]
+struct Many {
+    call: Call<'static>,
+    cpus: u32,
+    updates: usize,
+    end: &'static [u8],
+}
+
+impl Many {
+    fn of(call: Call<'static>, cpus: u32, updates: usize, end: &'static [u8]) -> Many {
+        Many {
+            call,
+            cpus,
+            updates,
+            end,
+        }
+    }
+}
+
+// Each update asks and tells the gate once of each processor.
+fn expect_many<R: AllocGlobal + Threads + Wait + Abort + Sync>(
+    rt: &R,
+    many: Many,
+    text: &[u8],
+) -> Result<(), Fail> {
+    let gate = AllBut::new(16);
+    let ran = run_under(rt, many.call, &Ports::new(text, 4096), &gate)?;
+    assert_eq!(rt; ran.status, Status::Done);
+    assert!(rt; ran.sink.bytes().ends_with(many.end));
+    assert!(rt; gate.asked_each(0..many.cpus, many.updates as u64));
+    assert!(rt; gate.told_each(0..many.cpus, many.updates as u64));
+    Ok(())
+}
+
 #[test]
 fn a_thousand_updates(rt: HostRuntime) -> Result<(), Fail> {
-    for (words, first, other, times, end) in [
-        (
-            ["replay"].as_slice(),
-            PAIR,
-            b"update\n200 0\nend\n".as_slice(),
-            1000,
-            b"complete 999\ncomplete 1000\n".as_slice(),
-        ),
-        (
-            &["proc", "2"],
-            FOUR_GIGABYTES,
-            b"disable=0\nbase=0 size=0x100000000 type=write-back\n",
-            500,
-            b"cleared 0\nset 0\nbase=0x0 size=0x100000000 type=write-back # 0\nera 1000\n",
-        ),
+    let hundred = b"complete 99\ncomplete 100\n";
+    let thousand = b"complete 999\ncomplete 1000\n";
+    for (first, many) in [
+        (SOLO, Many::of(Call::Tool(&["replay"]), 1, 100, hundred)),
+        (PAIR, Many::of(Call::Tool(&["replay"]), 2, 1000, thousand)),
+        (TRIO, Many::of(Call::Tool(&["replay"]), 3, 100, hundred)),
+        (PAIR, Many::of(Call::Replay, 2, 100, hundred)),
     ] {
-        let text = repeated(rt.alloc(), first, other, times)?;
-        let ran = run(&rt, words, &Ports::new(&text, 4096))?;
-        assert_eq!(rt; ran.status, Status::Done);
-        assert!(rt; ran.sink.bytes().ends_with(end));
+        let round = b"update\n200 0\nend\n";
+        let text = repeated(rt.alloc(), first, round, many.updates)?;
+        expect_many(&rt, many, &text)?;
+    }
+    Ok(())
+}
+
+// Of each two requests one clears the range, and one sets it again.
+#[test]
+fn a_thousand_requests(rt: HostRuntime) -> Result<(), Fail> {
+    let twenty = b"cleared 0\nset 0\nbase=0x0 size=0x100000000 type=write-back # 0\nera 20\n";
+    let hundred = b"cleared 0\nset 0\nbase=0x0 size=0x100000000 type=write-back # 0\nera 100\n";
+    let thousand = b"cleared 0\nset 0\nbase=0x0 size=0x100000000 type=write-back # 0\nera 1000\n";
+    for many in [
+        Many::of(Call::Tool(&["proc", "1"]), 1, 100, hundred),
+        Many::of(Call::Tool(&["proc", "2"]), 2, 1000, thousand),
+        Many::of(Call::Tool(&["proc", "16"]), 16, 20, twenty),
+        Many::of(Call::Proc(2), 2, 100, hundred),
+    ] {
+        let pair = b"disable=0\nbase=0 size=0x100000000 type=write-back\n";
+        let text = repeated(rt.alloc(), FOUR_GIGABYTES, pair, many.updates / 2)?;
+        expect_many(&rt, many, &text)?;
     }
     Ok(())
 }

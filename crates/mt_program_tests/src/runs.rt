@@ -1,6 +1,8 @@
-//! Runs of the top call over memory.
+//! Runs of the top call, of `replay` and of `proc` over memory.
 use mt_cli::tool;
 use mt_ports::{Gate, MemSink, MemSource, OpenGate, Status};
+use mt_proc::proc;
+use mt_replay::replay;
 use std::alloc::Global;
 use std::process::Abort;
 use std::sync::Wait;
@@ -8,6 +10,16 @@ use std::test::Fail;
 use std::thread::Threads;
 
 const ROOM: usize = 262_144;
+
+/// What is called.
+#[derive(Clone, Copy)]
+pub(crate) enum Call<'a> {
+    /// The top call with these words.
+    Tool(&'a [&'a str]),
+    Replay,
+    /// `proc` with so many processors, 1 to 16.
+    Proc(u32),
+}
 
 // What a run ended with, and what the sink took.
 #[derive(Drop)]
@@ -48,17 +60,21 @@ fn calls(alloc: Global, call: Option<u64>) -> Result<Vec<u64>, Fail> {
     Ok(calls)
 }
 
-pub(crate) fn run_under<R: AllocGlobal + Threads + Wait + Abort + Sync, G: Gate>(
-    rt: &R,
-    words: &[&str],
-    ports: &Ports<'_>,
-    gate: &G,
-) -> Result<Ran, Fail> {
-    let alloc = rt.alloc();
+fn words_of(alloc: Global, words: &[&str]) -> Result<Vec<String>, Fail> {
     let mut owned = Vec::new(alloc);
     for word in words {
         owned.push(String::from_str(alloc, word)?)?;
     }
+    Ok(owned)
+}
+
+pub(crate) fn run_under<R: AllocGlobal + Threads + Wait + Abort + Sync, G: Gate>(
+    rt: &R,
+    call: Call<'_>,
+    ports: &Ports<'_>,
+    gate: &G,
+) -> Result<Ran, Fail> {
+    let alloc = rt.alloc();
     assert!(rt; ports.piece > 0);
     let failing_reads = calls(alloc, ports.failing_read)?;
     let mut source = MemSource::new(ports.input.to_vec(alloc)?, ports.piece, failing_reads);
@@ -66,7 +82,14 @@ pub(crate) fn run_under<R: AllocGlobal + Threads + Wait + Abort + Sync, G: Gate>
     let Ok(mut sink) = MemSink::new(alloc, ports.room, failing_writes) else {
         return Err(Fail::from("no memory"));
     };
-    let status = tool(rt, &owned, &mut source, &mut sink, gate);
+    let status = match call {
+        Call::Tool(words) => tool(rt, &words_of(alloc, words)?, &mut source, &mut sink, gate),
+        Call::Replay => replay(rt, &mut source, &mut sink, gate),
+        Call::Proc(cpus) => {
+            assert!(rt; 0 < cpus && cpus <= 16);
+            proc(rt, &mut source, &mut sink, gate, cpus)
+        }
+    };
     Ok(Ran { status, sink })
 }
 
@@ -75,7 +98,7 @@ pub(crate) fn run<R: AllocGlobal + Threads + Wait + Abort + Sync>(
     words: &[&str],
     ports: &Ports<'_>,
 ) -> Result<Ran, Fail> {
-    run_under(rt, words, ports, &OpenGate)
+    run_under(rt, Call::Tool(words), ports, &OpenGate)
 }
 
 // The first text, and then the other so many times.

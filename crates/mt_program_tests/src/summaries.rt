@@ -1,5 +1,5 @@
 //! Numbers of the transcripts of scripts.
-use mt_gates::{AllBut, ones};
+use mt_gates::AllBut;
 use mt_ports::{Gate, OpenGate};
 use mt_replay::{Totals, summary};
 use std::test::Fail;
@@ -33,7 +33,7 @@ impl Gate for Shut {
 fn each_kind_of_line(rt: HostRuntime) -> Result<(), Fail> {
     let gate = AllBut::new(16);
     assert_eq!(rt; summary(&rt, EACH_KIND, &gate)?, EACH_TOTALS);
-    assert!(rt; gate.asked() == ones(0, 2) && gate.told() == ones(0, 2));
+    assert!(rt; gate.asked_each(0..2, 1) && gate.told_each(0..2, 1));
     assert_eq!(rt; summary(&rt, EACH_KIND, &Shut)?, EACH_TOTALS);
     Ok(())
 }

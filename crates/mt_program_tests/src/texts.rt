@@ -1,5 +1,8 @@
 //! Texts of several tests.
 
+// A processor whose memory below 4 GB has type WB.
+pub(crate) const SOLO: &[u8] = b"cpus 1\ndump\n0fe 508\n200 6\n201 f00000800\n2ff 800\nend\n";
+
 // Two processors whose memory below 4 GB has type WB, with a page of it.
 pub(crate) const PAIR: &[u8] =
     b"cpus 2\ndump\n0fe 508\n200 6\n201 f00000800\n2ff 800\nend\nram 100000 64\nmap 0 1000 100000 0\nmap 1 1000 100000 0\n";

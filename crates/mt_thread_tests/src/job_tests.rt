@@ -7,7 +7,7 @@ ghost use Rattle.mt_private.specs.Jobs.{FitsJob};
 use crate::checks::{holds, holds_at, some, succeeds_at};
 use crate::common::{bare_core, called, file, is_same_system, may_call, update_alone, word};
 use mt_core::Core;
-use mt_gates::{AllBut, Meets, ones};
+use mt_gates::{AllBut, InOrder, Meets, OneFirst};
 use mt_kinds::MemType;
 use mt_machine::{Control, Done, Op, Ruled};
 use mt_ports::{Gate, OpenGate};
@@ -16,7 +16,6 @@ use mt_regs::{Fault, Reason, RegFile};
 use mt_tlb::Mapping;
 use std::alloc::Global;
 use std::sync::Wait;
-use std::sync::atomic::{AtomicU64, Ordering};
 use std::thread::Threads;
 
 /// Maps page 1 of processor k to this physical page.
@@ -194,18 +193,18 @@ fn each_loads_what_it_stored(rt: HostRuntime) {
 /// Whether the gate was asked once of each processor from the refused one on, and told once at most of each behind it and of
 /// no other. The last processor is started first, and whoever isn't started is shown the cancel before it takes.
 fn stops_at(gate: &AllBut, refused: u32, count: u32) -> bool {
-    let behind = ones(refused.wrapping_add(1), count);
-    gate.asked() == ones(refused, count) && gate.told() | behind == behind
+    gate.asked_each(refused..count, 1) && gate.told_at_most(refused.saturating_add(1)..count, 1)
 }
 
 #[test]
 fn each_refused_start_ends_so_too(rt: HostRuntime) {
     for count in [1, 2, 3] {
         for k in 0..count {
-            let gate = AllBut::new(k);
+            let gate = InOrder::new(&rt, k);
             let done = store_and_load(&rt, rt.alloc(), count, &gate);
             succeeds_at(&rt, k as u64, done);
-            holds_at(&rt, k as u64, stops_at(&gate, k, count));
+            holds_at(&rt, k as u64, gate.is_kept());
+            holds_at(&rt, k as u64, stops_at(gate.starts(), k, count));
         }
     }
 }
@@ -224,12 +223,15 @@ fn own_pages_are_private(rt: HostRuntime) {
     holds(&rt, shared_page(&core).is_none());
 }
 
-/// Both calls of the gate see the other's flag, so two threads run at once.
+/// All calls of the gate see each other, so as many threads run at once.
 #[test]
-fn two_processors_meet(rt: HostRuntime) {
-    let gate = Meets::new();
-    succeeds_at(&rt, 2, store_and_load(&rt, rt.alloc(), 2, &gate));
-    holds(&rt, gate.seen() == 2);
+fn processors_meet(rt: HostRuntime) {
+    for count in [2, 3, 16] {
+        let gate = Meets::of(&rt, count);
+        let done = store_and_load(&rt, rt.alloc(), count, &gate);
+        succeeds_at(&rt, count as u64, done);
+        holds_at(&rt, count as u64, gate.seen() == count as u64);
+    }
 }
 
 /// So many loads and stores of words of the own page, by draws.
@@ -345,7 +347,17 @@ fn jobs_end_alike<R: Threads + Wait + Sync, G: Gate>(
             return Some(false);
         }
     }
-    Some(told.len() == count as usize && is_same_system(&a, &b))
+    Some(told.len() == count as usize && is_same_system(&a, &b) && clears_masks(a))
+}
+
+/// Whether the masks of holders are kept, so that an update by the core's own calls clears those of sixteen caches. With fewer, the
+/// bits of the processors that aren't there stay set after a run of jobs.
+fn clears_masks(mut core: Core) -> bool {
+    let Some(goal) = file(6) else {
+        return false;
+    };
+    update_alone(&mut core, goal)
+        && (core.system().cpus().len() < 16 || core.into_system().into_parts().holders.none(0x4030))
 }
 
 #[test]
@@ -374,45 +386,14 @@ fn buffered_accesses_end_as_one_by_one(rt: HostRuntime) {
     }
 }
 
-/// Starts processor 0 once it was told of processor 1.
-#[derive(Drop)]
-struct OneFirst {
-    arrived: AtomicU64,
-    seen: AtomicU64,
-}
-
-impl Gate for OneFirst {
-    fn may_start(&self, k: u32) -> bool {
-        if k != 0 {
-            return true;
-        }
-        for _ in 0..200_000_000u64 {
-            if self.arrived.load(Ordering::SeqCst) == 1 {
-                self.seen.store(1, Ordering::SeqCst);
-                return true;
-            }
-        }
-        true
-    }
-
-    fn arrived(&self, k: u32) {
-        if k == 1 {
-            self.arrived.store(1, Ordering::SeqCst);
-        }
-    }
-}
-
 /// Processor 0's thread is started once processor 1 has arrived, so that one's accesses are made while this one waits.
 #[test]
 fn one_accesses_while_another_waits(rt: HostRuntime) {
     for round in 0..8 {
-        let gate = OneFirst {
-            arrived: AtomicU64::new(0),
-            seen: AtomicU64::new(0),
-        };
+        let gate = OneFirst::new(&rt);
         let alike = jobs_end_alike(&rt, rt.alloc(), 2, 6, round, &gate);
         succeeds_at(&rt, round, alike);
-        holds_at(&rt, round, gate.seen.load(Ordering::SeqCst) == 1);
+        holds_at(&rt, round, gate.has_seen());
     }
 }
 
@@ -436,7 +417,7 @@ fn update_alone_on_threads<R: Threads + Wait + Sync, G: Gate>(
 
 #[test]
 fn processors_without_accesses_meet(rt: HostRuntime) {
-    let gate = Meets::new();
+    let gate = Meets::of(&rt, 2);
     succeeds_at(&rt, 2, update_alone_on_threads(&rt, rt.alloc(), &gate));
     holds(&rt, gate.seen() == 2);
 }
@@ -444,11 +425,12 @@ fn processors_without_accesses_meet(rt: HostRuntime) {
 #[test]
 fn each_processor_starts_and_arrives_once(rt: HostRuntime) {
     for count in [1, 3, 16] {
-        let gate = AllBut::new(16);
+        let gate = InOrder::new(&rt, 16);
         let done = store_and_load(&rt, rt.alloc(), count, &gate);
         succeeds_at(&rt, count as u64, done);
-        holds_at(&rt, count as u64, gate.asked() == ones(0, count));
-        holds_at(&rt, count as u64, gate.told() == ones(0, count));
+        holds_at(&rt, count as u64, gate.is_kept());
+        holds_at(&rt, count as u64, gate.starts().asked_each(0..count, 1));
+        holds_at(&rt, count as u64, gate.starts().told_each(0..count, 1));
     }
 }
 
@@ -466,17 +448,22 @@ fn runs_again<R: Threads + Wait + Sync>(
     let Ok(told) = on_threads(rt, alloc, core, file(kind)?, jobs, gate)? else {
         return None;
     };
-    let each = ones(0, count).wrapping_mul(times);
-    Some(told.len() == count as usize && gate.asked() == each && gate.told() == each)
+    Some(
+        told.len() == count as usize
+            && gate.asked_each(0..count, times)
+            && gate.told_each(0..count, times),
+    )
 }
 
 #[test]
 fn each_run_of_a_core_asks_and_tells_once(rt: HostRuntime) {
-    let gate = AllBut::new(16);
-    let mut core = some(&rt, core_of(rt.alloc(), 3));
-    for times in 1..=4 {
-        let again = runs_again(&rt, rt.alloc(), &mut core, 3, times, &gate);
-        succeeds_at(&rt, times, again);
+    for count in [1, 2, 3, 16] {
+        let gate = AllBut::new(16);
+        let mut core = some(&rt, core_of(rt.alloc(), count));
+        for times in 1..=64 {
+            let again = runs_again(&rt, rt.alloc(), &mut core, count, times, &gate);
+            succeeds_at(&rt, times, again);
+        }
     }
 }
 

@@ -23,6 +23,7 @@ use std::snapshot::Snapshot;
 use std::sync::Wait;
 use std::thread;
 use std::thread::{Promise, Scope, Threads};
+use std::time::Clock;
 
 mod endings;
 
@@ -105,7 +106,7 @@ fn last(station: &Station, waiting: &mut Vec<Attendee>) -> Option<Attendee>
 
 // A thread for each of these but those that come late, and then the go or the cancel. The answer is false if a thread
 // isn't started: the root cancels, so that the others end.
-fn run_all<'s, E, R: Threads + Wait + Sync>(
+fn run_all<'s, E, R: Threads + Wait + Clock + Sync>(
     rt: &'s R,
     scope: &Scope<'s, E>,
     station: &'s Station,
@@ -124,8 +125,8 @@ fn run_all<'s, E, R: Threads + Wait + Sync>(
     requires begins { Begins (start_of station.now.table.shared.key) }
     ensures { IsRoot station.now.table.shared.table_id root.new.seat.table_id root.new.seat.me }
 {
-    if waiting.len() <= ending.late() {
-        let is_so = end(station, root, gate, ending);
+    if waiting.len() <= ending.late() as usize {
+        let is_so = end(rt, station, root, gate, ending);
         return leave_all(rt, station, ram, root, goal, gate, waiting, done) && is_so;
     }
     let Some(a) = last(station, waiting) else {
@@ -165,7 +166,7 @@ struct Ended {
 }
 
 // A station of these processors from its begin to its end.
-fn meet<R: Threads + Wait + Sync>(
+fn meet<R: Threads + Wait + Clock + Sync>(
     rt: &R,
     alloc: Global,
     cpus: Vec<Cpu>,
@@ -218,10 +219,10 @@ fn meet<R: Threads + Wait + Sync>(
 struct Row {
     done: Vec<Told>,
     ram: Ram,
-    told: u64,
+    gate: AllBut,
 }
 
-fn ends_of<R: Threads + Wait + Sync>(
+fn ends_of<R: Threads + Wait + Clock + Sync>(
     rt: &R,
     alloc: Global,
     count: u32,
@@ -235,8 +236,7 @@ fn ends_of<R: Threads + Wait + Sync>(
     let SystemParts { cpus, mut ram, .. } = core.into_system().into_parts();
     let gate = AllBut::new(16);
     let done = meet(rt, alloc, cpus, &mut ram, &goal, &gate, ending)?;
-    let told = gate.told();
-    Some(Row { done, ram, told })
+    Some(Row { done, ram, gate })
 }
 
 /// Whether the word of memory at this address is this one.
@@ -277,7 +277,7 @@ fn two_complete(rt: HostRuntime) {
     }
     holds(&rt, is_word(&row, 0x10_0000, 0x2a));
     holds(&rt, is_word(&row, 0x10_0040, 0x2b));
-    holds(&rt, row.told == 0x11);
+    holds(&rt, row.gate.told_each(0..2, 1));
 }
 
 #[test]
@@ -286,7 +286,7 @@ fn two_leave(rt: HostRuntime) {
     holds(&rt, all_left(row.done.as_slice(), 2));
     holds(&rt, is_word(&row, 0x10_0000, 0));
     holds(&rt, is_word(&row, 0x10_0040, 0));
-    holds(&rt, row.told == 0x11);
+    holds(&rt, row.gate.told_each(0..2, 1));
 }
 
 /// Whether the row ends with this outcome as the core does, each pass having told the gate once.
@@ -294,7 +294,7 @@ fn ends_as(row: &Row, core: &Core, outcome: Outcome, shown: Option<u32>) -> bool
     let cpus = core.system().cpus();
     let mut each = row.done.iter().zip(cpus.iter());
     row.done.len() == cpus.len()
-        && row.told == 0x1111_1111_1111_1111
+        && row.gate.told_each(0..16, 1)
         && each.all(|(told, cpu)| {
             told.outcome == outcome && told.shown == shown && is_same_cpu(&told.cpu, cpu)
         })
@@ -342,16 +342,18 @@ fn sixteen_leave_as_by_steps(rt: HostRuntime) {
     }
 }
 
-// The last processors arrive first: how many come after the cancel, and what the gate was told before it.
+// The last processors arrive first: so many come after the cancel, and the gate was told of the others before it.
 #[test]
 fn a_station_may_be_cancelled_at_each_arrival(rt: HostRuntime) {
-    for (late, told) in [(3, 0), (2, 0x100), (1, 0x110), (0, 0x111)] {
-        let ending = Ending::CancelAfter { told, late };
-        let row = some(&rt, ends_of(&rt, rt.alloc(), 3, ending));
+    for late in [3, 2, 1, 0] {
+        let row = some(
+            &rt,
+            ends_of(&rt, rt.alloc(), 3, Ending::CancelAfter { late }),
+        );
         holds_at(&rt, late as u64, all_left(row.done.as_slice(), 3));
         holds_at(&rt, late as u64, is_word(&row, 0x10_0000, 0));
         holds_at(&rt, late as u64, is_word(&row, 0x10_0040, 0));
         holds_at(&rt, late as u64, is_word(&row, 0x10_0080, 0));
-        holds_at(&rt, late as u64, row.told == 0x111);
+        holds_at(&rt, late as u64, row.gate.told_each(0..3, 1));
     }
 }

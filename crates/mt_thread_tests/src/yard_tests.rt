@@ -231,8 +231,8 @@ fn come_alone<R: Wait>(
     take_from(yard, host, 0, done)
 }
 
-/// What comes of a core's one processor, and what the gate was told.
-fn alone<R: Wait>(rt: &R, alloc: Global, given: bool) -> Option<(Came, u64)> {
+/// What comes of a core's one processor, and the gate.
+fn alone<R: Wait>(rt: &R, alloc: Global, given: bool) -> Option<(Came, AllBut)> {
     let core = core_of(alloc, 1)?;
     let goal = file(0)?;
     let jobs = jobs_of(alloc, 1)?;
@@ -253,8 +253,7 @@ fn alone<R: Wait>(rt: &R, alloc: Global, given: bool) -> Option<(Came, u64)> {
         given,
         &gate,
     )?;
-    let told = gate.told();
-    Some((came, told))
+    Some((came, gate))
 }
 
 /// The last guest as it was gathered, with its number, where it can visit with this job.
@@ -273,12 +272,11 @@ fn next(yard: &Yard, waiting: &mut Vec<Guest>, job: &Job) -> Option<(u64, Guest)
     Some((k, guest))
 }
 
-/// What comes of two guests, and what the gate was told.
+/// What comes of two guests.
 #[derive(Drop)]
 struct Pair {
     first: Came,
     other: Came,
-    told: u64,
 }
 
 /// The visits of two guests, of which the last one's is on a thread of its own.
@@ -314,15 +312,11 @@ fn come_both<'s, E, R: Threads + Wait + Sync>(
     let came = child.join(rt);
     let first = take_from(yard, host, 0, done)?;
     let other = take_from(yard, host, 1, came)?;
-    Some(Pair {
-        first,
-        other,
-        told: gate.told(),
-    })
+    Some(Pair { first, other })
 }
 
-/// What comes of a core's two processors.
-fn both<R: Threads + Wait + Sync>(rt: &R, alloc: Global, given: bool) -> Option<Pair> {
+/// What comes of a core's two processors, and the gate.
+fn both<R: Threads + Wait + Sync>(rt: &R, alloc: Global, given: bool) -> Option<(Pair, AllBut)> {
     let core = core_of(alloc, 2)?;
     let wanted = file(0)?;
     let all_jobs = jobs_of(alloc, 2)?;
@@ -335,7 +329,7 @@ fn both<R: Threads + Wait + Sync>(rt: &R, alloc: Global, given: bool) -> Option<
     let goal = &wanted;
     let jobs = all_jobs.as_slice();
     let gate = &counts;
-    thread::scope(
+    let pair = thread::scope(
         thread::scope_env(),
         rt,
         move |scope| -> Option<Pair>
@@ -356,7 +350,8 @@ fn both<R: Threads + Wait + Sync>(rt: &R, alloc: Global, given: bool) -> Option<
                 gate,
             )
         },
-    )
+    )?;
+    Some((pair, counts))
 }
 
 /// Whether the own system has one processor, of this era and with so many lines, and this word at an address.
@@ -396,31 +391,31 @@ fn has_left(came: &Came, address: u64) -> bool {
 
 #[test]
 fn one_completes(rt: HostRuntime) {
-    let (came, arrived) = some(&rt, alone(&rt, rt.alloc(), true));
+    let (came, gate) = some(&rt, alone(&rt, rt.alloc(), true));
     holds(&rt, has_completed(&came, 0x10_0000, 0x2a));
-    holds(&rt, arrived == 1);
+    holds(&rt, gate.told_each(0..1, 1));
 }
 
 #[test]
 fn one_leaves(rt: HostRuntime) {
-    let (came, arrived) = some(&rt, alone(&rt, rt.alloc(), false));
+    let (came, gate) = some(&rt, alone(&rt, rt.alloc(), false));
     holds(&rt, has_left(&came, 0x10_0000));
-    holds(&rt, arrived == 0);
+    holds(&rt, gate.told_each(0..1, 0));
 }
 
 #[test]
 fn two_complete(rt: HostRuntime) {
-    let ended = some(&rt, both(&rt, rt.alloc(), true));
+    let (ended, gate) = some(&rt, both(&rt, rt.alloc(), true));
     holds(&rt, has_completed(&ended.first, 0x10_0000, 0x2a));
     holds(&rt, has_completed(&ended.other, 0x20_0000, 0x2b));
-    holds(&rt, ended.told == 0x11);
+    holds(&rt, gate.told_each(0..2, 1));
 }
 
 // The one on the calling thread comes after the cancel, and so doesn't arrive.
 #[test]
 fn two_leave(rt: HostRuntime) {
-    let ended = some(&rt, both(&rt, rt.alloc(), false));
+    let (ended, gate) = some(&rt, both(&rt, rt.alloc(), false));
     holds(&rt, has_left(&ended.first, 0x10_0000));
     holds(&rt, has_left(&ended.other, 0x20_0000));
-    holds(&rt, ended.told | 0x10 == 0x10);
+    holds(&rt, gate.told_at_most(1..2, 1));
 }

@@ -11,7 +11,7 @@ use mt_ram::Ram;
 use mt_regs::RegFile;
 use mt_rendezvous::{Attendee, Outcome, Root, Station};
 use std::sync::Wait;
-use std::thread;
+use std::time::Clock;
 
 /// What the root does once the threads are started.
 #[derive(Clone, Copy)]
@@ -20,34 +20,29 @@ pub(super) enum Ending {
     Go,
     /// It cancels.
     Cancel,
-    /// It cancels once the gate was told this. So many passes have no thread, and come after the cancel.
-    CancelAfter { told: u64, late: usize },
+    /// So many first passes have no thread, and come after the cancel. It cancels once the gate was told of all others.
+    CancelAfter { late: u32 },
 }
 
 impl Ending {
     /// How many passes have no thread.
-    pub(super) fn late(self) -> usize {
+    pub(super) fn late(self) -> u32 {
         match self {
             Ending::Go => 0,
             Ending::Cancel => 0,
-            Ending::CancelAfter { late, .. } => late,
+            Ending::CancelAfter { late } => late,
         }
     }
-}
-
-// Waits a while until the gate was told this.
-fn is_told(gate: &AllBut, told: u64) -> bool {
-    for _ in 0..200_000_000u64 {
-        if gate.told() == told {
-            return true;
-        }
-        thread::yield_now();
-    }
-    false
 }
 
 // Gives the go or cancels. The answer is false if the gate wasn't told in time.
-pub(super) fn end(station: &Station, root: &mut Root, gate: &AllBut, ending: Ending) -> bool
+pub(super) fn end<C: Clock>(
+    clock: &C,
+    station: &Station,
+    root: &mut Root,
+    gate: &AllBut,
+    ending: Ending,
+) -> bool
     requires { Leads station.now.table.shared.table_id (start_of station.now.table.shared.key) root.old.seat.table_id root.old.seat.me Pending }
     ensures { IsRoot station.now.table.shared.table_id root.new.seat.table_id root.new.seat.me }
 {
@@ -60,8 +55,8 @@ pub(super) fn end(station: &Station, root: &mut Root, gate: &AllBut, ending: End
             root.cancel(station);
             true
         }
-        Ending::CancelAfter { told, .. } => {
-            let all_arrived = is_told(gate, told);
+        Ending::CancelAfter { late } => {
+            let all_arrived = gate.hears_of(clock, late..station.count as u32);
             root.cancel(station);
             all_arrived
         }
