@@ -3,8 +3,8 @@ use mt_ports::Gate;
 use std::ops::Range;
 use std::time::Clock;
 
-/// Lets every thread start but that of one processor, and counts of whom it is asked and told. A call about a number above 15
-/// counts too: each comparison below then fails.
+/// Lets every thread start except that of one processor, and counts of whom it is asked and told. A call about a number above
+/// 15 counts too: each comparison below then fails.
 #[derive(Drop)]
 pub struct AllBut {
     processor: u32,

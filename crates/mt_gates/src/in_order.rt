@@ -10,8 +10,8 @@ use std::time::Clock;
 /// How many milliseconds it takes over a question at least.
 const PAUSE: u32 = 3;
 
-/// Lets every thread start but that of one processor, and sees on which threads, and in which order, it is asked and told. A
-/// fault is:
+/// Lets every thread start except that of one processor, and sees on which threads, and in which order, it is asked and told.
+/// A fault is:
 ///
 /// - a question that doesn't come on the thread of the first one,
 /// - a second question about a processor that it let start, without an arrival or a no between,

@@ -177,12 +177,13 @@ fn a_thousand_updates(rt: HostRuntime) -> Result<(), Fail> {
 // Of each two requests one clears the range, and one sets it again.
 #[test]
 fn a_thousand_requests(rt: HostRuntime) -> Result<(), Fail> {
+    let twenty = b"cleared 0\nset 0\nbase=0x0 size=0x100000000 type=write-back # 0\nera 20\n";
     let hundred = b"cleared 0\nset 0\nbase=0x0 size=0x100000000 type=write-back # 0\nera 100\n";
     let thousand = b"cleared 0\nset 0\nbase=0x0 size=0x100000000 type=write-back # 0\nera 1000\n";
     for many in [
         Many::of(Call::Tool(&["proc", "1"]), 1, 100, hundred),
         Many::of(Call::Tool(&["proc", "2"]), 2, 1000, thousand),
-        Many::of(Call::Tool(&["proc", "16"]), 16, 100, hundred),
+        Many::of(Call::Tool(&["proc", "16"]), 16, 20, twenty),
         Many::of(Call::Proc(2), 2, 100, hundred),
     ] {
         let pair = b"disable=0\nbase=0 size=0x100000000 type=write-back\n";

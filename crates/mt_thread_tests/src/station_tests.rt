@@ -125,7 +125,7 @@ fn run_all<'s, E, R: Threads + Wait + Clock + Sync>(
     requires begins { Begins (start_of station.now.table.shared.key) }
     ensures { IsRoot station.now.table.shared.table_id root.new.seat.table_id root.new.seat.me }
 {
-    if waiting.len() <= ending.late() {
+    if waiting.len() <= ending.late() as usize {
         let is_so = end(rt, station, root, gate, ending);
         return leave_all(rt, station, ram, root, goal, gate, waiting, done) && is_so;
     }

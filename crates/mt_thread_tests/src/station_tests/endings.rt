@@ -21,12 +21,12 @@ pub(super) enum Ending {
     /// It cancels.
     Cancel,
     /// So many first passes have no thread, and come after the cancel. It cancels once the gate was told of all others.
-    CancelAfter { late: usize },
+    CancelAfter { late: u32 },
 }
 
 impl Ending {
     /// How many passes have no thread.
-    pub(super) fn late(self) -> usize {
+    pub(super) fn late(self) -> u32 {
         match self {
             Ending::Go => 0,
             Ending::Cancel => 0,
@@ -56,7 +56,7 @@ pub(super) fn end<C: Clock>(
             true
         }
         Ending::CancelAfter { late } => {
-            let all_arrived = gate.hears_of(clock, late as u32..station.count as u32);
+            let all_arrived = gate.hears_of(clock, late..station.count as u32);
             root.cancel(station);
             all_arrived
         }
