@@ -439,10 +439,9 @@ drained_since o firsts s k p at runs all f kept j q at_q =
     (λ (m : (j ≢ k) × (slice_get (drain k s).processors j ≡ Some q)). since_in o firsts Take k s all j q m.1)
     (at_change f k (drain k s) j q at_q)
 
--- neither a mapping nor a reload of CR3
+-- all but a mapping
 abbrev pub IsPlain : Control → Type 0
 IsPlain (Map m) = ⊥
-IsPlain Cr3 = ⊥
 IsPlain other = Unit {0}
 
 pub control_since : (o : Order) (firsts : List Processor) (s : System) (k : ℕ) (p : Processor) (c : Control) → IsPlain c → slice_get s.processors k ≡ Some p → is_running p.phase ≡ true
@@ -456,4 +455,6 @@ control_since o firsts s k p (Cd on) plain at runs all =
     drained_since o firsts s k p at runs all (λ q. record q { cache_disabled = on })
     (λ first x running since. since_changed o first x (record x { cache_disabled = on }) refl running refl refl (λ test h. h) since)
 control_since o firsts s k p (Map m) plain at runs all = absurd plain
-control_since o firsts s k p Cr3 plain at runs all = absurd plain
+control_since o firsts s k p Cr3 plain at runs all =
+    drained_since o firsts s k p at runs all reload_cr3
+    (λ first x running since. since_changed o first x (reload_cr3 x) refl running refl refl (λ test h. all_filter test (λ e. e.global) x.entries h) since)

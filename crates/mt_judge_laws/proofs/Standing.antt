@@ -1,4 +1,5 @@
 -- What holds in each state of the manual's lists, and that each step keeps it.
+use Rattle.mt_judge.specs.Dues.{IsDue, is_other_flush}
 use Rattle.std.proofs.Common.{◌≡◌, ◌≢◌, ◌⊎◌, ◌∙◌, ap, refl, sym, subst, inl, inr, ⊎_elim, arith, ℕ, zero, suc, ◌+◌, ◌≤◌, Bool, true, false, List, [], ◌∷◌, drop, length, set, Option, None, Some}
 use Rattle.std.specs.Prelude.{◌||◌, if◌then◌else◌, MatchOption, nat_lt, slice_get, slice_set, ◌==◌, ◌&&◌, not}
 use Rattle.std.specs.List.{count_by, list_all, All}
@@ -9,7 +10,7 @@ use Rattle.std.proofs.lemmas.Option.{get_or_from_slice_get}
 use Rattle.mt_regs.specs.RegisterFile.{RegisterFile}
 use Rattle.mt_regs.specs.Registers.{writable}
 use Rattle.mt_machine.specs.declared.ruled.Ruled.TheVariants.{Busy as RuledBusy}
-use Rattle.mt_machine.specs.declared.control.Control.TheVariants.{Cd, Invlpg, Pge}
+use Rattle.mt_machine.specs.declared.control.Control.TheVariants.{Cd, Invlpg, Pge, Cr3}
 use Rattle.mt_machine.specs.declared.control.Control.{Control}
 use Rattle.mt_machine.specs.declared.event.Event.{Event}
 use Rattle.mt_machine.specs.declared.event.Event.TheVariants.{FlushTlb, Leave, Take}
@@ -21,7 +22,7 @@ use Rattle.mt_machine.specs.Control.{RuledAfter, control, control_at}
 use Rattle.mt_machine.specs.Access.{is_running, Answered, access, access_at}
 use Rattle.mt_machine.specs.Machine.{IsEnabled, Order, Reached, Steps, after, after_flush, due, has_arrived, has_arrived_again, has_released, is_over, own_step, remaining_order, step, Accesses, FitsOp, is_cancelled, Controls, FitsControl, MachineEvent, next}
 use Rattle.mt_machine.specs.Start.{IsStart}
-use Rattle.mt_machine.specs.System.{Processor, System}
+use Rattle.mt_machine.specs.System.{Processor, System, change}
 use Rattle.mt_machine.proofs.Rows.{due_row}
 use Rattle.mt_laws.proofs.Barrier.Barriers.{flush_era, step_guarded, step_stages}
 use Rattle.mt_laws.proofs.Barrier.Ranks.{At, Guarded, all_at, at_set, stage_at, is_ahead}
@@ -36,10 +37,10 @@ use Rattle.mt_judge.specs.declared.step.Step.{Step}
 use Rattle.mt_judge.specs.declared.step.Step.TheVariants as list
 use Rattle.mt_judge.specs.declared.moves.Outcome.TheVariants.{Accessed}
 use Rattle.mt_judge.specs.Parts.{bus}
-use Rattle.mt_judge.specs.Runs.{Case, State, after as state_after, arrived_at, counted, due_in, due_of, event_in, is_fit, is_open, list_of, may_go, move_of, moved, next_step, place_after, place_of, procedure_order, step_at, step_behind, system_of}
-use Rattle.mt_judge.specs.Steps.{after_step, event_of, passage, accessed, answer_of_step, answer_aside, aside, controlled}
+use Rattle.mt_judge.specs.Runs.{Case, State, after as state_after, arrived_at, counted, due_in, due_of, event_in, is_fit, is_open, list_of, may_go, move_of, moved, next_step, place_after, place_of, procedure_order, step_at, step_behind, system_of, phase_in}
+use Rattle.mt_judge.specs.Steps.{after_step, event_of, passage, accessed, answer_of_step, answer_aside, aside, controlled, after_reload, reload_aside, reloading}
 use Rattle.mt_judge.specs.Wrongs.{fault_of, fault_with}
-use Rattle.mt_judge_laws.specs.Manual.{IsDue, at_rest, is_tlb_flush, machine_of, IsInstruction}
+use Rattle.mt_judge_laws.specs.Manual.{at_rest, machine_of, IsInstruction}
 use Rattle.mt_judge_laws.proofs.Counting.{Counts, again, all_pass, all_staged, arrived, counts, era_after, first_after, phase_after, second_after, stage_after}
 use Rattle.mt_judge_laws.proofs.Placing.{IsPlace, Turn, Waits, place_up, turn, two_at_least, Instructs}
 use Rattle.mt_judge_laws.proofs.Since.{AllSince, steps_since, IsPlain, control_since}
@@ -64,6 +65,19 @@ pub set_same : {X : Type 0} → (xs : List X) (k : ℕ) (x y : X) → slice_get 
 set_same [] k x y at = absurd (cc)
 set_same (z ∷ xs) zero x y at = refl
 set_same (z ∷ xs) (suc k) x y at = set_same xs k x y at
+
+set_kept : {X : Type 0} → (xs : List X) (k : ℕ) (x : X) → slice_get xs k ≡ Some x → set xs k x ≡ xs
+set_kept [] k x at = absurd (cc)
+set_kept (z ∷ xs) zero x at = let same : z ≡ x = cc in ap (λ v. v ∷ xs) (sym same)
+set_kept (z ∷ xs) (suc k) x at = ap (λ vs. z ∷ vs) (set_kept xs k x at)
+
+-- a change that leaves the processor as it is
+unchanged : (f : Processor → Processor) (k : ℕ) (s : System) → ((x : Processor) → slice_get s.processors k ≡ Some x → f x ≡ x) → change f k s ≡ s
+unchanged f k s same = one (slice_get s.processors k) refl
+  where
+    one : (o : Option Processor) → slice_get s.processors k ≡ o → option_map_or (λ p. record s { processors = set s.processors k (f p) }) o s ≡ s
+    one None at = refl
+    one (Some x) at = λ i. record s { processors = (ap (set s.processors k) (same x at) ∙ set_kept s.processors k x at) i }
 
 abbrev pick_answer : Bool → Answered → Answered → Answered
 pick_answer b x y = if b then x else y
@@ -186,6 +200,9 @@ module _ (c : Case) (first : State) (start : IsStart (at_rest c first)) (few : l
   due_is =
       ap (λ (x : Option Processor). option_map_or (due_of s.processors) x None) at
       ∙ due_alike p.file c.goal s.processors p p.phase
+
+  abbrev EventIsDue : Option Event → Type 0
+  EventIsDue x = MatchOption x (is_other_flush (phase_in s.processors k) todo ≡ false) (λ e. due_in s.processors k ≡ Some e)
 
   fault_is : fault_with k todo (move_of c s k todo).outcome p ≡ None → fault_of s.processors (move_of c s k todo) ≡ None
   fault_is none =
@@ -316,7 +333,7 @@ module _ (c : Case) (first : State) (start : IsStart (at_rest c first)) (few : l
   turned t = record {
     todo = todo;
     is = is;
-    due_is = subst (λ (x : Option Event). MatchOption x (is_tlb_flush todo ≡ false) (λ e. due_in s.processors k ≡ Some e)) (sym (event_is (Some t.event) t.is)) (due_is ∙ t.due_is);
+    due_is = inr (subst EventIsDue (sym (event_is (Some t.event) t.is)) (due_is ∙ t.due_is));
     right = fault_is (t.right k (move_of c s k todo).outcome p);
     stands = subst (Stands c first) (sym (moved_is (Some t.event) t.is)) (stands_to t.event t.is t.due_is t.stays t.counts t.place);
   }
@@ -364,7 +381,7 @@ module _ (c : Case) (first : State) (start : IsStart (at_rest c first)) (few : l
       record {
         todo = todo;
         is = is;
-        due_is = subst (λ (x : Option Event). MatchOption x (is_tlb_flush todo ≡ false) (λ e. due_in s.processors k ≡ Some e)) (sym (event_is None none)) (ap is_tlb_flush w.is);
+        due_is = inr (subst EventIsDue (sym (event_is None none)) (ap (is_other_flush (phase_in s.processors k)) w.is));
         right = fault_is (ap (λ (t : Step). fault_with k t (move_of c s k todo).outcome p) w.is);
         stands = subst (Stands c first) (sym (moved_is None none ∙ ap (λ (t : Step). built c s k t place None) w.is)) stands;
       }
@@ -382,7 +399,7 @@ module _ (c : Case) (first : State) (start : IsStart (at_rest c first)) (few : l
     -- an event that leaves this system, stages and the rest that is kept
     module _ (to : System) (e : MachineEvent) (enabled : IsEnabled (machine_of c s) e) (next_to : next (machine_of c s) e ≡ record (machine_of c s) { system = to }) (same_stages : stages_of to.processors ≡ stages_of s.processors)
         (clear : AllClear (Some (order_of c)) to.processors) (filed : AllFiled (Some (order_of c)) to.processors) (since : AllSince (order_of c) first.processors to.processors)
-        (no_event : event_of todo place.part p ≡ None) (no_flush : is_tlb_flush todo ≡ false) (aside_is : aside todo k before ≡ to) (goes_on : place_after place todo None (length (writable c.goal)) ≡ step_behind place)
+        (no_event : event_of todo place.part p ≡ None) (no_flush : is_other_flush p.phase todo ≡ false) (aside_is : aside todo k before ≡ to) (goes_on : place_after place todo None (length (writable c.goal)) ≡ step_behind place)
         (counts_none : counted todo s.arrived ≡ s.arrived) (right : fault_with k todo (answer_aside todo k before) p ≡ None) where
       same_order : remaining_order (order_of c) s.processors ≡ remaining_order (order_of c) to.processors
       same_order =
@@ -444,7 +461,7 @@ module _ (c : Case) (first : State) (start : IsStart (at_rest c first)) (few : l
       instructed = record {
         todo = todo;
         is = is;
-        due_is = subst (λ (x : Option Event). MatchOption x (is_tlb_flush todo ≡ false) (λ e. due_in s.processors k ≡ Some e)) (sym (event_is None no_event)) no_flush;
+        due_is = inr (subst EventIsDue (sym (event_is None no_event)) (ap (λ (x : Option Processor). is_other_flush (option_map_or (λ q. q.phase) x Running) todo) at ∙ no_flush));
         right = fault_is (ap (λ (x : Option Event). fault_with k todo (answer_of_step x todo k before) p) (event_is None no_event) ∙ right);
         stands = subst (Stands c first) (sym (moved_is None no_event ∙ built_is)) stands_behind;
       }
@@ -465,7 +482,7 @@ module _ (c : Case) (first : State) (start : IsStart (at_rest c first)) (few : l
         (subst (λ (t : System). AllFiled (Some (order_of c)) t.processors) access_is (filed_next (Accesses k op) before (Some (order_of c)) (runs_at, fits) st.guarded st.filed))
         (access_since (order_of c) first.processors s.processors st.guarded st.clear st.since before.memory k p op at running same_stages)
         (ap (λ (t : Step). event_of t place.part p) todo_is)
-        (ap is_tlb_flush todo_is)
+        (ap (is_other_flush p.phase) todo_is)
         (ap (λ (t : Step). aside t k before) todo_is ∙ ap (λ (x : Answered). x.after) accessed_is)
         (ap (λ (t : Step). place_after place t None (length (writable c.goal))) todo_is)
         (ap (λ (t : Step). counted t s.arrived) todo_is)
@@ -473,37 +490,57 @@ module _ (c : Case) (first : State) (start : IsStart (at_rest c first)) (few : l
         ∙ ap (λ (x : Answered). fault_with k (list.Access op) (Accessed x.answer) p) accessed_is
         ∙ access_right k k p (running_right (order_of c) first.processors s.processors st.guarded st.clear st.since k p at running) before op)
 
-    controls : (ctl : Control) → IsPlain ctl → ((q : Processor) → FitsControl q ctl) → event_of todo place.part p ≡ None → is_tlb_flush todo ≡ false → aside todo k before ≡ controlled ctl k before
+    control_is : (ctl : Control) → (control before k ctl).after ≡ (control_at before k p ctl).after
+    control_is ctl =
+        ap (λ (x : Option Processor). (option_map_or (λ q. if is_running q.phase then control_at before k q ctl else record { answer = RuledBusy; after = before }) x (record { answer = RuledBusy; after = before })).after) at
+        ∙ ap (λ (b : Bool). (pick_ruled b (control_at before k p ctl) (record { answer = RuledBusy; after = before })).after) running
+
+    control_stages_at : (ctl : Control) → stages_of (control_at before k p ctl).after.processors ≡ stages_of s.processors
+    control_stages_at ctl = ap stages (sym (control_is ctl)) ∙ control_stages before k ctl
+
+    controls : (ctl : Control) → IsPlain ctl → ((q : Processor) → FitsControl q ctl) → event_of todo place.part p ≡ None → is_other_flush p.phase todo ≡ false → aside todo k before ≡ (control_at before k p ctl).after
         → place_after place todo None (length (writable c.goal)) ≡ step_behind place → counted todo s.arrived ≡ s.arrived → fault_with k todo (answer_aside todo k before) p ≡ None → Goes c first s k
     controls ctl plain fits no_event no_flush aside_is goes_on counts_none right =
         let done : RuledAfter = control_at before k p ctl in
-        let control_is : (control before k ctl).after ≡ done.after =
-        ap (λ (x : Option Processor). (option_map_or (λ q. if is_running q.phase then control_at before k q ctl else record { answer = RuledBusy; after = before }) x (record { answer = RuledBusy; after = before })).after) at
-        ∙ ap (λ (b : Bool). (pick_ruled b done (record { answer = RuledBusy; after = before })).after) running in
-        let controlled_is : controlled ctl k before ≡ done.after = ap (λ (x : Option Processor). option_map_or (λ q. (control_at before k q ctl).after) x before) at in
-        let same_stages : stages_of done.after.processors ≡ stages_of s.processors = ap stages (sym control_is) ∙ control_stages before k ctl in
-        instructed done.after (Controls k ctl) (runs_at, λ q at_q. fits q) (ap (λ (t : System). record (machine_of c s) { system = t }) control_is) same_stages
-        (subst (λ (t : System). AllClear (Some (order_of c)) t.processors) control_is (clear_next (Controls k ctl) before (Some (order_of c)) (runs_at, λ q at_q. fits q) st.guarded st.clear))
-        (subst (λ (t : System). AllFiled (Some (order_of c)) t.processors) control_is (filed_next (Controls k ctl) before (Some (order_of c)) (runs_at, λ q at_q. fits q) st.guarded st.filed))
+        let is_done : (control before k ctl).after ≡ done.after = control_is ctl in
+        instructed done.after (Controls k ctl) (runs_at, λ q at_q. fits q) (ap (λ (t : System). record (machine_of c s) { system = t }) is_done) (control_stages_at ctl)
+        (subst (λ (t : System). AllClear (Some (order_of c)) t.processors) is_done (clear_next (Controls k ctl) before (Some (order_of c)) (runs_at, λ q at_q. fits q) st.guarded st.clear))
+        (subst (λ (t : System). AllFiled (Some (order_of c)) t.processors) is_done (filed_next (Controls k ctl) before (Some (order_of c)) (runs_at, λ q at_q. fits q) st.guarded st.filed))
         (control_since (order_of c) first.processors before k p ctl plain at running st.since)
-        no_event no_flush (aside_is ∙ controlled_is) goes_on counts_none right
+        no_event no_flush aside_is goes_on counts_none right
 
-    plain_control : (ctl : Control) → IsPlain ctl → ((q : Processor) → FitsControl q ctl) → (t : Step) → todo ≡ t → event_of t place.part p ≡ None → is_tlb_flush t ≡ false → aside t k before ≡ controlled ctl k before
+    plain_control : (ctl : Control) → IsPlain ctl → ((q : Processor) → FitsControl q ctl) → (t : Step) → todo ≡ t → event_of t place.part p ≡ None → is_other_flush p.phase t ≡ false → aside t k before ≡ (control_at before k p ctl).after
         → place_after place t None (length (writable c.goal)) ≡ step_behind place → counted t s.arrived ≡ s.arrived → fault_with k t (answer_aside t k before) p ≡ None → Goes c first s k
     plain_control ctl plain fits t todo_is no_event no_flush aside_is goes_on counts_none right =
         controls ctl plain fits
         (ap (λ (u : Step). event_of u place.part p) todo_is ∙ no_event)
-        (ap is_tlb_flush todo_is ∙ no_flush)
+        (ap (is_other_flush p.phase) todo_is ∙ no_flush)
         (ap (λ (u : Step). aside u k before) todo_is ∙ aside_is)
         (ap (λ (u : Step). place_after place u None (length (writable c.goal))) todo_is ∙ goes_on)
         (ap (λ (u : Step). counted u s.arrived) todo_is ∙ counts_none)
         (ap (λ (u : Step). fault_with k u (answer_aside u k before) p) todo_is ∙ right)
 
+    controlled_is : (ctl : Control) → controlled ctl k before ≡ (control_at before k p ctl).after
+    controlled_is ctl = ap (λ (x : Option Processor). option_map_or (λ q. (control_at before k q ctl).after) x before) at
+
+    -- outside an update a reload of CR3 is the control instruction alone
+    reloaded_is : aside list.ReloadCr3 k before ≡ (control_at before k p Cr3).after
+    reloaded_is =
+        ap (change reload_aside k) (controlled_is Cr3)
+        ∙ unchanged reload_aside k (control_at before k p Cr3).after
+        (λ x at_x.
+        let there : At (stages_of s.processors) k (stage_of x) = subst (λ (vs : List Stage). At vs k (stage_of x)) (control_stages_at Cr3) (stage_at _ k x at_x) in
+        let same : stage_of p ≡ stage_of x = let e : Some (stage_of p) ≡ Some (stage_of x) = sym here_stage ∙ there in cc in
+        let x_runs : x.phase ≡ Running = ap (λ (y : Stage). y.0) (sym same) ∙ runs in
+        λ i. record x { phase = (ap after_reload x_runs ∙ sym x_runs) i })
+
     by_step : (t : Step) → todo ≡ t → IsInstruction t → Goes c first s k
     by_step (list.Access op) todo_is fits = accesses op todo_is fits
-    by_step (list.Invlpg address) todo_is fits = plain_control (Invlpg address) tt (λ q. tt) (list.Invlpg address) todo_is refl refl refl refl refl refl
-    by_step (list.Pge on) todo_is fits = plain_control (Pge on) tt (λ q. tt) (list.Pge on) todo_is refl refl refl refl refl refl
-    by_step (list.Cd on) todo_is fits = plain_control (Cd on) tt (λ q. tt) (list.Cd on) todo_is refl refl refl refl refl refl
+    by_step list.ReloadCr3 todo_is fits =
+        plain_control Cr3 tt (λ q. tt) list.ReloadCr3 todo_is (ap (λ (ph : Phase). reloading ph p.page_global) runs) (ap not running) reloaded_is refl refl refl
+    by_step (list.Invlpg address) todo_is fits = plain_control (Invlpg address) tt (λ q. tt) (list.Invlpg address) todo_is refl refl (controlled_is (Invlpg address)) refl refl refl
+    by_step (list.Pge on) todo_is fits = plain_control (Pge on) tt (λ q. tt) (list.Pge on) todo_is refl refl (controlled_is (Pge on)) refl refl refl
+    by_step (list.Cd on) todo_is fits = plain_control (Cd on) tt (λ q. tt) (list.Cd on) todo_is refl refl (controlled_is (Cd on)) refl refl refl
     by_step other todo_is fits = absurd fits
 
   pub goes_here : length (writable p.file) ≡ length (writable c.goal) → Goes c first s k

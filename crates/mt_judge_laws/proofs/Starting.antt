@@ -1,6 +1,8 @@
 -- A right start of the manual's lists has what is kept, and the laws.
+use Rattle.mt_judge.specs.Verdicts.{IsRight}
+use Rattle.mt_judge.specs.Dues.{AreStepsDue, IsDue, IsDueAt}
 use Rattle.std.proofs.Common.{◌≡◌, ◌⊎◌, ◌∙◌, ap, refl, sym, subst, inl, inr, ⊎_elim, arith, ℕ, zero, suc, ◌<◌, ◌≤◌, Bool, true, false, List, [], ◌∷◌, drop, length, replicate, Option, None, Some}
-use Rattle.std.specs.Prelude.{cond, ◌||◌, if◌then◌else◌, is_some, nat_lt, not, slice_get}
+use Rattle.std.specs.Prelude.{cond, ◌||◌, if◌then◌else◌, is_some, nat_lt, not, slice_get, IfSome}
 use Rattle.std.specs.List.{All, count_by, list_all}
 use Rattle.std.specs.Option.{option_map, option_map_or}
 use Rattle.std.proofs.lemmas.Bool.{ltb-false, ltb-true}
@@ -32,10 +34,10 @@ use Rattle.mt_judge.specs.declared.step.Step.{Step}
 use Rattle.mt_judge.specs.Runs.{Case, GoesOn, IsEnded, IsRun, State, arrived_at, list_of, may_go, move_of, moved, next_move, place_of, run, step_at, system_of}
 use Rattle.mt_judge.specs.Searches.{AreAllFine, IsFound, fault_at, has_wrong, is_bad}
 use Rattle.mt_judge.specs.Wrongs.{fault_of}
-use Rattle.mt_judge_laws.specs.Manual.{IsDue, IsManual, IsRightStart, NothingGoesWrong, RunsAreTheMachines, SearchesFindNothing, StepsAreDue, at_rest, first_place, machine_of}
+use Rattle.mt_judge_laws.specs.Manual.{IsManual, IsRightStart, NothingGoesWrong, RunsAreTheMachines, SearchesFindNothing, at_rest, first_place, machine_of}
 use Rattle.mt_judge_laws.proofs.Counting.{again, arrived}
 use Rattle.mt_judge_laws.proofs.Placing.{IsPlace}
-use Rattle.mt_judge_laws.proofs.Progress.{progress}
+use Rattle.mt_judge_laws.proofs.Progress.{finished, progress}
 use Rattle.mt_judge_laws.proofs.Right.{AllRun, NoneWrong, Senses, none_wrong, nothing_wrong, start_agrees, start_right, stays_right}
 use Rattle.mt_judge_laws.proofs.Since.{AllSince, is_no_fill}
 use Rattle.mt_judge_laws.proofs.Standing.{AllPlaced, AreCounted, Goes as GoesHere, Stands, goes, order_of, snoops_at}
@@ -218,7 +220,7 @@ module _ (senses : Senses) (c : Case) (s : State) (right : IsRightStart c s) (ma
       let right_behind = right_in (moved c t k) g.stands in
       λ i. is_some (no_fault i) || right_behind i
 
-  pub fine : AreAllFine c s
+  fine : AreAllFine c s
   fine ks r =
       let st = stands ks r in
       record {
@@ -227,36 +229,30 @@ module _ (senses : Senses) (c : Case) (s : State) (right : IsRightStart c s) (ma
         goes = progress c s start_is manual.few (run c s ks) st;
       }
 
-  pub due_step : (ks : List ℕ) (k : ℕ) (m : Move) → IsRun c s ks → next_move c (run c s ks) k ≡ Some m → IsDue m
-  due_step ks k m r is = one (may_go c (run c s ks) k) refl
+  due_in_state : (t : State) → Stands c s t → AreStepsDue c t
+  due_in_state t st k within = one (may_go c t k) refl
     where
-      one : (b : Bool) → may_go c (run c s ks) k ≡ b → IsDue m
-      one true go =
-          let g = goes c s start_is manual.few (run c s ks) (stands ks r) k go in
-          let same : move_of c (run c s ks) k g.todo ≡ m = let e : Some (move_of c (run c s ks) k g.todo) ≡ Some m = sym (move_is (run c s ks) k g) ∙ is in cc in
-          subst IsDue same g.due_is
+      one : (b : Bool) → may_go c t k ≡ b → IsDueAt c t k
+      one true go = let g = goes c s start_is manual.few t st k go in subst (λ (x : Option Move). IfSome x IsDue) (sym (move_is t k g)) g.due_is
       one false stays =
-          absurd (let none_is : next_move c (run c s ks) k ≡ None = ap (λ (b : Bool). option_map (move_of c (run c s ks) k) (if b then step_at c (run c s ks) k else None)) stays in cc)
+          let none_is : next_move c t k ≡ None = ap (λ (b : Bool). option_map (move_of c t k) (if b then step_at c t k else None)) stays in
+          subst (λ (x : Option Move). IfSome x IsDue) (sym none_is) tt
 
-  -- no list is left where each processor's has ended
-  none_unended : (t : State) → length t.processors ≡ length s.processors → (k : ℕ) → ((k < length t.processors) → step_at c t k ≡ None) → step_at c t k ≡ None
-  none_unended t long k ended = one (nat_lt k (length t.processors)) refl
-    where
-      beyond : length s.processors ≤ k → list_of c k ≡ []
-      beyond past = let l = manual.one_each in get_or_past c.lists k [] (omega (arith, l, past))
-
-      one : (b : Bool) → nat_lt k (length t.processors) ≡ b → step_at c t k ≡ None
-      one true within = ended (ltb-true k (length t.processors) within)
-      one false past =
-          let above = ltb-false k (length t.processors) past in
-          ap (λ (ls : List Step). slice_get ls (place_of t k).step) (beyond (omega (arith, above, long)))
+  pub is_right : IsRight c s
+  is_right = record {
+    fine = fine;
+    order = record {
+      due = λ ks r. due_in_state (run c s ks) (stands ks r);
+      finished = λ ks r. finished c s start_is manual.few (run c s ks) (stands ks r);
+    };
+  }
 
   found_is : (f : Found) → IsFound c s f → (f ≡ ends.Nothing) ⊎ (f ≡ ends.Stopped)
   found_is ends.WrongStart h = absurd (let e = right.right in cc)
   found_is (ends.Wrong path) h =
       absurd (let w = (fine h.front h.runs).steps h.last h.wrong.goes in let bad = h.wrong.bad in cc)
   found_is (ends.Stuck path) h = absurd (⊎_elim
-      (λ (e : IsEnded c (run c s path.items)). h.unended.1 (none_unended (run c s path.items) (sym (length-map (run c s path.items).processors stage_of) ∙ (stands path.items h.runs).long) h.unended.0 (e h.unended.0)))
+      (λ (e : IsEnded c (run c s path.items)). h.unended.2 (e h.unended.0 h.unended.1))
       (λ (g : GoesOn c (run c s path.items)). let waits = h.waits g.0 in let on = g.1 in cc)
       (fine path.items h.runs).goes)
   found_is ends.Stopped h = inr refl
@@ -267,11 +263,8 @@ module _ (senses : Senses) (c : Case) (s : State) (right : IsRightStart c s) (ma
 pub runs_are : Senses → RunsAreTheMachines
 runs_are senses c s ks right manual r = (stands senses c s right manual ks r).reached
 
-pub steps_are : Senses → StepsAreDue
-steps_are senses c s ks k m right manual r is = due_step senses c s right manual ks k m r is
-
 pub none_goes_wrong : Senses → NothingGoesWrong
-none_goes_wrong senses c s right manual = fine senses c s right manual
+none_goes_wrong senses c s right manual = is_right senses c s right manual
 
 pub searches_find : Senses → SearchesFindNothing
 searches_find senses c s f right manual h = found_is senses c s right manual f h

@@ -3,10 +3,10 @@
 
 mod worked;
 
-ghost use Rattle.mt_judge_laws.specs.Manual.{NothingGoesWrong, RunsAreTheMachines, SearchesFindNothing, StepsAreDue};
+ghost use Rattle.mt_judge_laws.specs.Manual.{NothingGoesWrong, RunsAreTheMachines, SearchesFindNothing};
 
 use mt_judge::has_wrong_if_a_sense_holds;
-pub use worked::{worked_due_moves, worked_manual_list, worked_manual_lists, worked_right_starts};
+pub use worked::{worked_manual_list, worked_manual_lists, worked_right_starts};
 
 /// Each run of the lists is a run of the machine: its call, its go and events that are enabled lead to the run's state.
 pub fn runs_are_the_machines()
@@ -15,14 +15,8 @@ pub fn runs_are_the_machines()
     has_wrong_if_a_sense_holds(); // a fact for the proof
 }
 
-/// In every interleaving each step is the one that the manual's procedure has due.
-pub fn each_step_is_due()
-    ensures { StepsAreDue }
-{
-    has_wrong_if_a_sense_holds(); // a fact for the proof
-}
-
-/// In every interleaving nothing is wrong, and some processor may go unless all lists have ended.
+/// In every interleaving nothing is wrong, each step is due, and no list ends in the midst of the update. Some processor may go
+/// unless all lists have ended.
 pub fn nothing_goes_wrong()
     ensures { NothingGoesWrong }
 {

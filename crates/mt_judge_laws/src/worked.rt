@@ -1,12 +1,11 @@
 // Instances of what the laws require, and of what fails in one part.
-ghost use Rattle.std.specs.Prelude.{◌≡◌, [], ◌∷◌, false, true, None, Some, replicate};
+ghost use Rattle.std.specs.Prelude.{◌≡◌, [], ◌∷◌, false, true, replicate};
 ghost use Rattle.mt_judge.specs.WorkedWrongs.{dirty_line, mapped, registers, with_line};
-ghost use Rattle.mt_judge.specs.declared.step.Step.TheVariants.{Access, ArriveAt, ReloadCr3, WaitAt};
+ghost use Rattle.mt_judge.specs.declared.step.Step.TheVariants.{Access};
 ghost use Rattle.mt_machine.specs.declared.op.Op.TheVariants.{Load};
-ghost use Rattle.mt_machine.specs.declared.event.Event.TheVariants.{ArriveAgain, RestorePge};
 ghost use Rattle.mt_machine.specs.declared.phase.Phase.TheVariants.{Taken};
-ghost use Rattle.mt_judge_laws.specs.Manual.{IsDue, IsManual, IsManualList, IsRightStart, first_place};
-ghost use Rattle.mt_judge_laws.specs.WorkedManual.{first_list, move, odd_before, odd_behind, second_list, started, two_lists, two_started, with_lists};
+ghost use Rattle.mt_judge_laws.specs.Manual.{IsManual, IsManualList, IsRightStart, first_place};
+ghost use Rattle.mt_judge_laws.specs.WorkedManual.{first_list, odd_before, odd_behind, second_list, started, two_lists, two_started, with_lists};
 
 /// A right start of two processors, and what isn't one for one thing.
 pub fn worked_right_starts()
@@ -32,14 +31,5 @@ pub fn worked_manual_lists()
     ensures manual { IsManual two_lists two_started }
     ensures too_many { IsManual two_lists (started (replicate 65 (mapped 0x806))) → ⊥ }
     ensures other_kind { IsManual (record two_lists { goal = record (registers 0x800) { width = 40 } }) two_started → ⊥ }
-    ensures one_more { IsManual (with_lists (first_list ∷ second_list ∷ [] ∷ [])) two_started → ⊥ }
     ensures other_list { IsManual (with_lists ([] ∷ second_list ∷ [])) two_started → ⊥ }
-{}
-
-/// Steps that are due, and steps that aren't.
-pub fn worked_due_moves()
-    ensures due { IsDue (move (ArriveAt 1) (Some ArriveAgain) (Some ArriveAgain)) }
-    ensures waits { IsDue (move (WaitAt 1 2) None None) }
-    ensures early { IsDue (move (ArriveAt 1) (Some ArriveAgain) (Some RestorePge)) → ⊥ }
-    ensures aside { IsDue (move ReloadCr3 None (Some RestorePge)) → ⊥ }
 {}
