@@ -335,7 +335,7 @@ same_kind WP other h = absurd (cc)
 same_kind WB WB h = refl
 same_kind WB other h = absurd (cc)
 
-type_is_own : (t : MemType) → is_type t t ≡ true
+pub type_is_own : (t : MemType) → is_type t t ≡ true
 type_is_own t = eq-eqb (byte_of_type t) (byte_of_type t) refl
 
 -- the mapping by which an entry is right

@@ -18,7 +18,7 @@ use Rattle.mt_machine.specs.Machine.{is_arrived, is_arrived_again, is_changing}
 use Rattle.mt_machine.specs.Start.{IsStart}
 use Rattle.mt_machine.specs.System.{Processor, start_processor}
 use Rattle.mt_laws.proofs.Barrier.Claims.{all_get}
-use Rattle.mt_laws.proofs.Barrier.Ranks.{At, is_ahead, processor_at, stage_at}
+use Rattle.mt_laws.proofs.Barrier.Ranks.{At, is_ahead, processor_at, stage_at, and_left, and_right}
 use Rattle.mt_laws.proofs.Barrier.Stages.{Stage, stage_of, stages_of}
 use Rattle.mt_laws.proofs.Invariant.Standing.{stays_sound}
 use Rattle.mt_laws.proofs.Registers.UnderWay.{lines_are_low}
@@ -58,16 +58,8 @@ all_count q (x ∷ xs) h = count_more q x xs ∙ one (q x) (all_count q xs) h
 
 passes_at : (q : Stage → Bool) (xs : List Stage) (i : ℕ) (x : Stage) → list_all q xs ≡ true → At xs i x → q x ≡ true
 passes_at q [] i x all at = absurd (cc)
-passes_at q (y ∷ ys) zero x all at = let e : y ≡ x = cc in ap q (sym e) ∙ left (q y) (list_all q ys) all
-  where
-    left : (a b : Bool) → (a && b) ≡ true → a ≡ true
-    left true b h = refl
-    left false b h = h
-passes_at q (y ∷ ys) (suc i) x all at = passes_at q ys i x (right (q y) (list_all q ys) all) at
-  where
-    right : (a b : Bool) → (a && b) ≡ true → b ≡ true
-    right true b h = h
-    right false b h = absurd (cc)
+passes_at q (y ∷ ys) zero x all at = let e : y ≡ x = cc in ap q (sym e) ∙ and_left (q y) (list_all q ys) all
+passes_at q (y ∷ ys) (suc i) x all at = passes_at q ys i x (and_right (q y) (list_all q ys) all) at
 
 -- ---- the next step, and that it may be done
 

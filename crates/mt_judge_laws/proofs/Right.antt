@@ -29,7 +29,7 @@ use Rattle.mt_judge.specs.Runs.{State}
 use Rattle.mt_judge.specs.Searches.{has_wrong}
 use Rattle.mt_judge.specs.Wrongs.{disagree, holds_at, is_awake, is_stale_buffer, is_stale_entry, is_stale_line, is_wrong}
 use Rattle.mt_judge_laws.proofs.Emptied.{both}
-use Rattle.mt_judge_laws.proofs.Accessing.{AllKeep, Keeps, access_keeps}
+use Rattle.mt_judge_laws.proofs.Accessing.{AllKeep, Keeps, access_keeps, type_is_own}
 use Rattle.mt_judge_laws.proofs.Since.{AllSince, AreRight, Bare, Since, is_before, is_early, is_no_fill, none_right, re_right, right_buffer, right_entry, right_line, with_view}
 
 -- ---- tests over lists
@@ -126,9 +126,6 @@ same_types : (p q first second : Processor) → p.file ≡ first.file → p.mapp
 unfolding disagree
 same_types p q first second file mappings file' mappings' agree n =
     (λ i. list_any (λ m. (m.ppage == n) && disagree (with_view p (file i, mappings i)) (with_view q (file' i, mappings' i)) m) (mappings i)) ∙ agree n
-
-type_is_own : (t : MemType) → is_type t t ≡ true
-type_is_own t = eq-eqb (byte_of_type t) (byte_of_type t) refl
 
 -- one file gives one type
 same_file : (p q : Processor) → p.file ≡ q.file → Agree p q
