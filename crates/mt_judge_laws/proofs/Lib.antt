@@ -4,6 +4,7 @@ mod Accessing
 mod Right
 mod Counting
 mod Placing
+mod Holding
 mod Standing
 mod Progress
 mod Starting

@@ -1,4 +1,5 @@
 -- Unless all lists have ended, some processor may go.
+use Rattle.mt_judge_laws.proofs.Holding.{order_of}
 use Rattle.std.proofs.Math.Bool.{and-false}
 use Rattle.mt_judge.specs.Dues.{AreListsFinished}
 use Rattle.std.proofs.Common.{◌≡◌, ◌⊎◌, ◌∙◌, ap, refl, sym, subst, inl, inr, ⊎_elim, arith, ℕ, zero, suc, ◌+◌, ◌-◌, ◌^◌, ◌<◌, ◌≤◌, Bool, true, false, List, [], ◌∷◌, ◌++◌, drop, get_or, length, Option, Some, None}
@@ -32,7 +33,7 @@ use Rattle.mt_judge_laws.proofs.Counting.{again, arrived}
 use Rattle.mt_judge_laws.proofs.Emptied.{both}
 use Rattle.mt_judge_laws.proofs.Placing.{IsPlace, none_left, some_left}
 use Rattle.mt_judge_laws.proofs.Right.{or_left, or_right}
-use Rattle.mt_judge_laws.proofs.Standing.{Stands, order_of, placed_at, PlaceOf}
+use Rattle.mt_judge_laws.proofs.Standing.{Stands, placed_at, PlaceOf}
 
 -- ---- lists
 
@@ -134,18 +135,18 @@ released_left n r behind snoops arrivals left part other ahead is in_step place 
 module _ (c : Case) (first : State) (start : IsStart (at_rest c first)) (few : length first.processors ≤ 64) (s : State) (st : Stands c first s) where
   lines_low : (k : ℕ) (p : Processor) → slice_get s.processors k ≡ Some p → list_all (λ (l : CacheLine). nat_lt l.number (2 ^ 46)) p.lines ≡ true
   lines_low k p at =
-      let sound = stays_sound (at_rest c first) (machine_of c s) start st.reached in
+      let sound = stays_sound (at_rest c first) (machine_of c s) start st.holds.reached in
       let low = all_get (λ (q : Processor). All (λ (l : CacheLine). l.number < 2 ^ 46) q.lines × All (λ (l : CacheLine). l.number < 2 ^ 46) q.buffers) s.processors (lines_are_low (system_of c s) sound) k p at in
       list_all-from_AllPass (λ (l : CacheLine). nat_lt l.number (2 ^ 46)) p.lines (λ i d within. lt-ltb (get_or p.lines i d).number (2 ^ 46) (low.0 i d within))
 
   era_low : (k : ℕ) (p : Processor) → slice_get s.processors k ≡ Some p → nat_lt p.era (2 ^ 64 - 1) ≡ true
   era_low k p at =
       lt-ltb p.era (2 ^ 64 - 1)
-      (⊎_elim (λ (e : p.era ≡ 0). omega (arith, e)) (λ (e : p.era ≡ 0 + 1). omega (arith, e)) (st.guarded.eras k (stage_of p) (stage_at s.processors k p at)))
+      (⊎_elim (λ (e : p.era ≡ 0). omega (arith, e)) (λ (e : p.era ≡ 0 + 1). omega (arith, e)) (st.holds.guarded.eras k (stage_of p) (stage_at s.processors k p at)))
 
   fits : (k : ℕ) (p : Processor) → slice_get s.processors k ≡ Some p → is_fit c.goal p ≡ true
   fits k p at =
-      let alike = (st.filed.1 k p at).alike in
+      let alike = (st.holds.filed.1 k p at).alike in
       both _ _
       (both _ _
       (both _ _ (eq-eqb c.goal.width p.file.width (sym alike.width)) (eq-eqb c.goal.capabilities p.file.capabilities (sym alike.capabilities)))
@@ -208,7 +209,7 @@ module _ (c : Case) (first : State) (start : IsStart (at_rest c first)) (few : l
       (λ (left : drop q.0.place.step (list_of c k) ≡ []). inl (ap (λ (x : Place). slice_get (list_of c k) x.step) place_is ∙ none_left (list_of c k) q.0.place.step left))
       (λ (opens : Open s.arrived (drop q.0.place.step (list_of c k))). let g : GoesOn c s = (k, may k p q.0.place at q.0.here opens) in inr g)
       (released_left (length first.processors) (length (writable c.goal)) q.0.behind p.self_snoop s.arrived (drop q.0.place.step (list_of c k)) q.0.place.part p.phase (nat_lt 0 p.era)
-      (passes_at (is_ahead (order_of c)) (stages_of s.processors) k (stage_of p) all here) (st.guarded.in_step k (stage_of p) here) q.1)
+      (passes_at (is_ahead (order_of c)) (stages_of s.processors) k (stage_of p) all here) (st.holds.guarded.in_step k (stage_of p) here) q.1)
 
   abbrev AreEnded : ℕ → Type 0
   AreEnded n = (k : ℕ) → k < n → step_at c s k ≡ None

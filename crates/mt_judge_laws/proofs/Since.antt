@@ -399,16 +399,13 @@ since_changed o first p q same runs lines buffers fewer s =
       early = λ h.
           let e = s.early (ap (λ (x : Stage). is_before x.0 && not (nat_lt o.from_era x.1)) stage ∙ h) in
           record { file = file ∙ e.file; right = fewer_right first e.right };
-      disabled = λ h.
-          absurd (let on : is_no_fill p.phase ≡ true = ap (λ (x : Stage). is_no_fill x.0) stage ∙ h in
-          let off : is_no_fill p.phase ≡ false = running_fills p.phase runs in
-          cc);
+      disabled = λ h. absurd (not_filling p.phase runs (ap (λ (x : Stage). is_no_fill x.0) stage ∙ h));
       released = λ h. re_right p q q (sym file) (sym mappings) (fewer_right p (s.released (ap (λ (x : Stage). nat_lt o.from_era x.1) stage ∙ h)));
     }
   where
-    running_fills : (ph : Phase) → is_running ph ≡ true → is_no_fill ph ≡ false
-    running_fills Running h = refl
-    running_fills other h = absurd (cc)
+    not_filling : (ph : Phase) → is_running ph ≡ true → is_no_fill ph ≡ true → ⊥
+    not_filling Running runs h = cc
+    not_filling other runs h = cc
 
     fewer_right : (v : Processor) → AreRight v p → AreRight v q
     fewer_right v r = record {

@@ -1,4 +1,5 @@
 -- A right start of the manual's lists has what is kept, and the laws.
+use Rattle.mt_judge_laws.proofs.Holding.{order_of}
 use Rattle.mt_judge.specs.Verdicts.{IsRight}
 use Rattle.mt_judge.specs.Dues.{AreStepsDue, IsDue, IsDueAt}
 use Rattle.std.proofs.Common.{◌≡◌, ◌⊎◌, ◌∙◌, ap, refl, sym, subst, inl, inr, ⊎_elim, arith, ℕ, zero, suc, ◌<◌, ◌≤◌, Bool, true, false, List, [], ◌∷◌, drop, length, replicate, Option, None, Some}
@@ -40,7 +41,7 @@ use Rattle.mt_judge_laws.proofs.Placing.{IsPlace}
 use Rattle.mt_judge_laws.proofs.Progress.{finished, progress}
 use Rattle.mt_judge_laws.proofs.Right.{AllRun, NoneWrong, Senses, none_wrong, nothing_wrong, start_agrees, start_right, stays_right}
 use Rattle.mt_judge_laws.proofs.Since.{AllSince, is_no_fill}
-use Rattle.mt_judge_laws.proofs.Standing.{AllPlaced, AreCounted, Goes as GoesHere, Stands, goes, order_of, snoops_at}
+use Rattle.mt_judge_laws.proofs.Standing.{AllPlaced, AreCounted, Goes as GoesHere, Stands, goes, snoops_at}
 
 -- ---- lists
 
@@ -186,11 +187,7 @@ module _ (senses : Senses) (c : Case) (s : State) (right : IsRightStart c s) (ma
 
   stands_first : Stands c s s
   stands_first = record {
-    reached = reaches;
-    guarded = guards;
-    clear = clears;
-    filed = files;
-    since = since;
+    holds = record { reached = reaches; guarded = guards; clear = clears; filed = files; since = since };
     counts = counted;
     places = places;
     long = length-map s.processors stage_of;
@@ -208,7 +205,7 @@ module _ (senses : Senses) (c : Case) (s : State) (right : IsRightStart c s) (ma
   pub right_in : (t : State) → Stands c s t → has_wrong t ≡ false
   right_in t st =
       nothing_wrong senses t
-      (stays_right (order_of c) s.processors t.processors (start_agrees s.processors runs none) st.guarded st.clear st.filed st.since)
+      (stays_right (order_of c) s.processors t.processors (start_agrees s.processors runs none) st.holds.guarded st.holds.clear st.holds.filed st.holds.since)
 
   move_is : (t : State) (k : ℕ) (g : GoesHere c s t k) → next_move c t k ≡ Some (move_of c t k g.todo)
   move_is t k g = ap (option_map (move_of c t k)) g.is
@@ -261,7 +258,7 @@ module _ (senses : Senses) (c : Case) (s : State) (right : IsRightStart c s) (ma
 -- ---- the laws
 
 pub runs_are : Senses → RunsAreTheMachines
-runs_are senses c s ks right manual r = (stands senses c s right manual ks r).reached
+runs_are senses c s ks right manual r = (stands senses c s right manual ks r).holds.reached
 
 pub none_goes_wrong : Senses → NothingGoesWrong
 none_goes_wrong senses c s right manual = is_right senses c s right manual
