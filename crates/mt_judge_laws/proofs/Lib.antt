@@ -7,5 +7,7 @@ mod Placing
 mod Holding
 mod Standing
 mod Progress
+mod Beginning
 mod Starting
+mod Ordering
 mod OnWorked

@@ -1,52 +1,34 @@
 -- What holds in each state of the manual's lists, and that each step keeps it.
-use Rattle.mt_judge_laws.proofs.Holding.{Holds, due_alike, due_behind, holds_event, instructs, order_of, stages_are}
-use Rattle.mt_judge.specs.Dues.{IsDue, is_other_flush}
 use Rattle.std.proofs.Common.{◌≡◌, ◌≢◌, ◌⊎◌, ◌∙◌, ap, refl, sym, subst, inl, inr, ⊎_elim, arith, ℕ, zero, suc, ◌+◌, ◌≤◌, Bool, true, false, List, [], ◌∷◌, drop, length, set, Option, None, Some}
-use Rattle.std.specs.Prelude.{◌||◌, if◌then◌else◌, MatchOption, nat_lt, slice_get, slice_set, ◌==◌, ◌&&◌, not}
+use Rattle.std.specs.Prelude.{if◌then◌else◌, MatchOption, nat_lt, slice_get, slice_set, not}
 use Rattle.std.specs.List.{count_by, list_all, All}
 use Rattle.std.specs.Option.{option_map_or}
-use Rattle.std.proofs.lemmas.Bool.{and_parts, lt-ltb, eqb-true, le-ltb}
+use Rattle.std.proofs.lemmas.Bool.{and_parts, lt-ltb}
 use Rattle.std.proofs.lemmas.List.{length-set}
 use Rattle.std.proofs.lemmas.Option.{get_or_from_slice_get}
-use Rattle.mt_regs.specs.RegisterFile.{RegisterFile}
 use Rattle.mt_regs.specs.Registers.{writable}
-use Rattle.mt_machine.specs.declared.ruled.Ruled.TheVariants.{Busy as RuledBusy}
-use Rattle.mt_machine.specs.declared.control.Control.TheVariants.{Cd, Invlpg, Pge, Cr3}
-use Rattle.mt_machine.specs.declared.control.Control.{Control}
 use Rattle.mt_machine.specs.declared.event.Event.{Event}
-use Rattle.mt_machine.specs.declared.event.Event.TheVariants.{FlushTlb, Leave, Take}
+use Rattle.mt_machine.specs.declared.event.Event.TheVariants.{Leave}
 use Rattle.mt_machine.specs.declared.phase.Phase.{Phase}
 use Rattle.mt_machine.specs.declared.phase.Phase.TheVariants.{Running, Arrived2}
-use Rattle.mt_machine.specs.declared.op.Op.{Op}
-use Rattle.mt_machine.specs.declared.done.Done.TheVariants.{Busy}
-use Rattle.mt_machine.specs.Control.{RuledAfter, control, control_at}
-use Rattle.mt_machine.specs.Access.{is_running, Answered, access, access_at}
-use Rattle.mt_machine.specs.Machine.{IsEnabled, Order, Reached, Steps, after, after_flush, due, has_arrived, has_arrived_again, has_released, is_over, own_step, remaining_order, step, Accesses, FitsOp, is_cancelled, Controls, FitsControl, MachineEvent, next}
+use Rattle.mt_machine.specs.Access.{is_running}
+use Rattle.mt_machine.specs.Machine.{Order, due, has_arrived, has_arrived_again, step}
 use Rattle.mt_machine.specs.Start.{IsStart}
-use Rattle.mt_machine.specs.System.{Processor, System, change}
+use Rattle.mt_machine.specs.System.{Processor, System}
 use Rattle.mt_machine.proofs.Rows.{due_row}
-use Rattle.mt_laws.proofs.Barrier.Barriers.{flush_era, step_guarded, step_stages}
-use Rattle.mt_laws.proofs.Barrier.Ranks.{At, Guarded, all_at, at_set, stage_at, is_ahead}
-use Rattle.mt_laws.proofs.Barrier.Stages.{Stage, stage_of, stages_of, access_stages, stages, control_stages}
-use Rattle.mt_laws.proofs.Clearing.Renewed.{AllClear, steps_clear, clear_next}
-use Rattle.mt_laws.proofs.Invariant.Kept.{start_aligned}
-use Rattle.mt_laws.proofs.Invariant.Standing.{reached_standing, start_standing}
-use Rattle.mt_laws.proofs.Registers.Filed.{AllFiled, filed_steps, filed_next}
-use Rattle.mt_bus.specs.Parts.{answered}
+use Rattle.mt_laws.proofs.Barrier.Ranks.{At, at_set, stage_at}
+use Rattle.mt_laws.proofs.Barrier.Stages.{Stage, stage_of, stages_of}
 use Rattle.mt_judge.specs.declared.step.Place.{Place}
 use Rattle.mt_judge.specs.declared.step.Step.{Step}
 use Rattle.mt_judge.specs.declared.step.Step.TheVariants as list
-use Rattle.mt_judge.specs.declared.moves.Outcome.TheVariants.{Accessed}
-use Rattle.mt_judge.specs.Parts.{bus}
-use Rattle.mt_judge.specs.Runs.{Case, State, after as state_after, arrived_at, counted, due_in, due_of, event_in, is_fit, is_open, list_of, may_go, move_of, moved, next_step, place_after, place_of, procedure_order, step_at, step_behind, system_of, phase_in}
-use Rattle.mt_judge.specs.Steps.{after_step, event_of, passage, accessed, answer_of_step, answer_aside, aside, controlled, after_reload, reload_aside, reloading}
+use Rattle.mt_judge.specs.Dues.{IsDue, is_other_flush}
+use Rattle.mt_judge.specs.Runs.{Case, State, after as state_after, arrived_at, counted, due_in, due_of, event_in, is_fit, is_open, list_of, may_go, move_of, moved, next_step, place_after, place_of, step_at, step_behind, system_of, phase_in}
+use Rattle.mt_judge.specs.Steps.{after_step, event_of, passage, answer_of_step, reloading}
 use Rattle.mt_judge.specs.Wrongs.{fault_of, fault_with}
-use Rattle.mt_judge_laws.specs.Manual.{at_rest, machine_of, IsInstruction}
+use Rattle.mt_judge_laws.specs.Manual.{at_rest, IsInstruction}
+use Rattle.mt_judge_laws.proofs.Holding.{Holds, due_alike, due_behind, holds_event, instructs, order_of, stages_are}
 use Rattle.mt_judge_laws.proofs.Counting.{Counts, again, all_pass, all_staged, arrived, counts, era_after, first_after, phase_after, second_after, stage_after}
 use Rattle.mt_judge_laws.proofs.Placing.{IsPlace, Turn, Waits, place_up, turn, two_at_least, Instructs}
-use Rattle.mt_judge_laws.proofs.Since.{AllSince, steps_since, IsPlain, control_since}
-use Rattle.mt_judge_laws.proofs.Accessing.{access_right}
-use Rattle.mt_judge_laws.proofs.Right.{access_since, running_right}
 
 -- ---- lists
 

@@ -61,14 +61,18 @@ pub record IsRightStart (c : Case) (s : State) : Type 0 where
   pub quiet : IsQuiet (at_rest c s)
   pub first : All (λ p. p.era ≡ 0) s.processors
   pub right : has_wrong s ≡ false
-  pub places : s.places ≡ replicate (length s.processors) first_place
-  pub arrived : s.arrived ≡ replicate 8 0
 
--- each of at most 64 processors has the manual's list, for a goal for which an update may be called
+-- the machine may call an update to the goal
+abbrev pub MayCall : Case → State → Type 0
+MayCall c s = IsEnabled (at_rest c s) (Calls c.goal)
+
+-- each of at most 64 processors is at the beginning of the manual's list
 pub record IsManual (c : Case) (s : State) : Type 0 where
   pub few : length s.processors ≤ 64
-  pub goal : IsEnabled (at_rest c s) (Calls c.goal)
+  pub goal : MayCall c s
   pub lists : (k : ℕ) (p : Processor) → slice_get s.processors k ≡ Some p → IsManualList (length s.processors) p.self_snoop (list_of c k)
+  pub places : s.places ≡ replicate (length s.processors) first_place
+  pub arrived : s.arrived ≡ replicate 8 0
 
 -- ---- the laws
 
@@ -76,9 +80,13 @@ pub record IsManual (c : Case) (s : State) : Type 0 where
 abbrev pub machine_of : Case → State → Machine
 machine_of c s = record { system = system_of c s; order = remaining_order (procedure_order c.goal) s.processors }
 
+-- the run's state is the machine's
+abbrev pub IsMachines : Case → State → State → Type 0
+IsMachines c s t = Reached (at_rest c s) (machine_of c t)
+
 -- each run of the lists is a run of the machine
 abbrev pub RunsAreTheMachines : Type 0
-RunsAreTheMachines = (c : Case) (s : State) (ks : List ℕ) → IsRightStart c s → IsManual c s → IsRun c s ks → Reached (at_rest c s) (machine_of c (run c s ks))
+RunsAreTheMachines = (c : Case) (s : State) (ks : List ℕ) → IsRightStart c s → IsManual c s → IsRun c s ks → IsMachines c s (run c s ks)
 
 -- in every interleaving nothing is wrong, each step is due, and no list ends in the midst of the update
 abbrev pub NothingGoesWrong : Type 0

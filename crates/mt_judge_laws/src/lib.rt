@@ -4,11 +4,22 @@
 mod worked;
 
 ghost use Rattle.mt_judge_laws.specs.Manual.{NothingGoesWrong, RunsAreTheMachines, SearchesFindNothing};
+ghost use Rattle.mt_judge_laws.specs.Orderly.{OrderlyRunsAreRight};
 
 use mt_judge::has_wrong_if_a_sense_holds;
-pub use worked::{worked_manual_list, worked_manual_lists, worked_right_starts};
+pub use worked::{
+    worked_manual_list, worked_manual_lists, worked_orderly_moves, worked_orderly_runs,
+    worked_right_starts,
+};
 
-/// Each run of the lists is a run of the machine: its call, its go and events that are enabled lead to the run's state.
+/// If every step of a run is due, or may stand beside the events, nothing is wrong in its state, whatever the lists are.
+pub fn orderly_runs_are_right()
+    ensures { OrderlyRunsAreRight }
+{
+    has_wrong_if_a_sense_holds(); // a fact for the proof
+}
+
+/// Each run of the manual's lists is a run of the machine: its call, its go and events that are enabled lead to the run's state.
 pub fn runs_are_the_machines()
     ensures { RunsAreTheMachines }
 {
