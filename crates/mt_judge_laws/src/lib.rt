@@ -1,4 +1,4 @@
-//! Laws on the manual's own procedure as lists of steps: in every interleaving each step is due, and nothing is wrong.
+//! Laws on lists of steps: where each step is due nothing is wrong, and in every interleaving of the manual's lists each step is due.
 #![tactic(auto)]
 
 mod worked;
