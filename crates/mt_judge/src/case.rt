@@ -3,7 +3,7 @@ use mt_ports::NoMemory;
 use mt_text::Place;
 
 /// Why a text is no case.
-#[derive(Clone, Copy, Debug, PartialEq, Eq)]
+#[derive(Clone, Copy)]
 pub enum Reason {
     BadLine,
     BadNumber,
@@ -36,7 +36,7 @@ impl Reason {
 }
 
 /// Why no case was read.
-#[derive(Clone, Copy, Debug, PartialEq, Eq)]
+#[derive(Clone, Copy)]
 pub enum Trouble {
     NoMemory,
     Bad { place: Place, reason: Reason },
