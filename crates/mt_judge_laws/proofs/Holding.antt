@@ -118,7 +118,7 @@ not_over c ps k p at behind = one (list_all (has_released (order_of c)) ps) refl
 pub event_right : (goal : RegisterFile) (ps : List Processor) (p : Processor) (k part : ℕ) (todo : Step) (e : Event) (outcome : Outcome) → event_of todo part p ≡ Some e → due (procedure_order goal) ps p p.phase ≡ Some e
     → fault_with k todo outcome p ≡ None
 event_right goal ps p k part (list.Access op) e outcome is now_due = absurd (cc)
-event_right goal ps p k part list.Invd e outcome is now_due = dropped (first_dirty_line p.lines) (clean (write_back_or_drop p) refl (flushes p.phase (now_due ∙ sym is)))
+event_right goal ps p k part list.Invd e outcome is now_due = dropped (first_dirty_line p.lines) (flushes p.phase (now_due ∙ sym is))
   where
     flushes : (ph : Phase) → due (procedure_order goal) ps p ph ≡ Some DropLines → write_back_or_drop p ≡ DropLines
     flushes ph h = rows ph (due_row (procedure_order goal) ps p ph DropLines h) h
@@ -127,9 +127,6 @@ event_right goal ps p k part list.Invd e outcome is now_due = dropped (first_dir
         rows NoFill row g = first_flush_case p DropLines g (λ on f. absurd (cc)) (λ off f. cc)
         rows Enabled row g = cc
         rows other row g = absurd (cc)
-
-    clean : (e : Event) → write_back_or_drop p ≡ e → e ≡ DropLines → option_map_or write_back_event (first_dirty_line p.lines) DropLines ≡ DropLines
-    clean e is same = is ∙ same
 
     dropped : (x : Option CacheLine) → option_map_or write_back_event x DropLines ≡ DropLines → option_map_or (λ l. option_map (LostWord k l.number) (first_dirty_word l)) x None ≡ None
     dropped None g = refl
@@ -140,7 +137,7 @@ event_right goal ps p k part list.Invd e outcome is now_due = dropped (first_dir
         one (Some word) f = absurd (cc)
 event_right goal ps p k part other e outcome is now_due = refl
 
--- an event, and what an instruction leaves
+-- ---- a step
 
 module _ (c : Case) (first : State) (start : IsStart (at_rest c first)) (s : State) (h : Holds c first s.processors s.words) (k : ℕ) (p : Processor) (at : slice_get s.processors k ≡ Some p) where
   here_stage : At (stages_of s.processors) k (stage_of p)

@@ -80,16 +80,16 @@ module _ (c : Case) (first : State) (start : IsStart (at_rest c first)) (s : Sta
               ∙ made.1;
         }
 
-  -- only a processor that is there has a next step
-  not_there : (b : Bool) → slice_get s.processors k ≡ None → option_map_or (is_fit c.goal) (slice_get s.processors k) false ≡ false
-  not_there b none = ap (λ (x : Option Processor). option_map_or (is_fit c.goal) x false) none
+  -- only a processor that is there may go
+  not_there : slice_get s.processors k ≡ None → option_map_or (is_fit c.goal) (slice_get s.processors k) false ≡ false
+  not_there none = ap (λ (x : Option Processor). option_map_or (is_fit c.goal) x false) none
 
   pub keeps : (m : Move) → next_move c s k ≡ Some m → IsOrderly m → Keeps m
   keeps m is orderly = at_step (next_step c s k) refl is
     where
       at_processor : (todo : Step) → next_step c s k ≡ Some todo → IsOrderly (move_of c s k todo) → (x : Option Processor) → slice_get s.processors k ≡ x → Keeps (move_of c s k todo)
       at_processor todo next fine None none =
-          absurd (let stays : next_step c s k ≡ None = ap (λ (b : Bool). if b && option_map_or (is_open s.arrived) (step_at c s k) false then step_at c s k else None) (not_there true none) in cc)
+          absurd (let stays : next_step c s k ≡ None = ap (λ (b : Bool). if b && option_map_or (is_open s.arrived) (step_at c s k) false then step_at c s k else None) (not_there none) in cc)
       at_processor todo next fine (Some p) at = at_known p at todo next fine
 
       at_step : (x : Option Step) → next_step c s k ≡ x → option_map (move_of c s k) x ≡ Some m → Keeps m
