@@ -15,7 +15,7 @@ use Rattle.mt_judge.specs.Runs.{Case, State, after, due_in, due_of, event_in, is
 use Rattle.mt_judge.specs.Steps.{after_step, answer_aside, answer_of_step, aside, event_of}
 use Rattle.mt_judge.specs.Wrongs.{fault_of, fault_with}
 use Rattle.mt_judge_laws.specs.Manual.{IsInstruction, IsRightStart, MayCall, at_rest}
-use Rattle.mt_judge_laws.specs.Orderly.{AreOrderly, IsBeside, IsOrderly, IsRightRun, OrderlyRunsAreRight}
+use Rattle.mt_judge_laws.specs.Orderly.{AreOrderly, IsBeside, IsOrderly, OrderlyRunsAreRight, OrderlyRunsAreTheMachines, OrderlyStepsHaveNoFault}
 use Rattle.mt_judge_laws.proofs.Beginning.{holds_first, right_in, running_is, start_is}
 use Rattle.mt_judge_laws.proofs.Holding.{Holds, due_alike, event_right, holds_event, instructs, order_of}
 use Rattle.mt_judge_laws.proofs.Right.{Senses}
@@ -112,14 +112,15 @@ module _ (senses : Senses) (c : Case) (s : State) (right : IsRightStart c s) (go
       one None is fine = absurd fine
       one (Some m) is fine = (keeps c s starts t h k m is fine).holds
 
-  pub right_run : (ks : List ℕ) → AreOrderly c s ks → IsRightRun c s (run c s ks)
-  right_run ks orderly =
-      let h = holds_on ks s (holds_first senses c s right goal) orderly in
-      record {
-        machines = h.reached;
-        right = right_in senses c s right goal (run c s ks) h;
-        steps = λ k m is fine. (keeps c s starts (run c s ks) h k m is fine).right;
-      }
+  pub holds_at : (ks : List ℕ) → AreOrderly c s ks → Holds c s (run c s ks).processors (run c s ks).words
+  holds_at ks orderly = holds_on ks s (holds_first senses c s right goal) orderly
+
+pub orderly_are_machines : Senses → OrderlyRunsAreTheMachines
+orderly_are_machines senses c s ks right goal orderly = (holds_at senses c s right goal ks orderly).reached
 
 pub orderly_are_right : Senses → OrderlyRunsAreRight
-orderly_are_right senses c s ks right goal orderly = right_run senses c s right goal ks orderly
+orderly_are_right senses c s ks right goal orderly = right_in senses c s right goal (run c s ks) (holds_at senses c s right goal ks orderly)
+
+pub orderly_have_no_fault : Senses → OrderlyStepsHaveNoFault
+orderly_have_no_fault senses c s ks k m right goal orderly is fine =
+    (keeps c s (start_is senses c s right goal) (run c s ks) (holds_at senses c s right goal ks orderly) k m is fine).right

@@ -25,13 +25,18 @@ abbrev pub AreOrderly : Case → State → List ℕ → Type 0
 AreOrderly c s [] = Unit {0}
 AreOrderly c s (k ∷ ks) = IsSomeAnd (next_move c s k) IsOrderly × AreOrderly c (moved c s k) ks
 
--- ---- the law
+-- ---- the law: from a right start, whatever the lists are
 
-pub record IsRightRun (c : Case) (s t : State) : Type 0 where
-  pub machines : IsMachines c s t
-  pub right : has_wrong t ≡ false
-  pub steps : (k : ℕ) (m : Move) → next_move c t k ≡ Some m → IsOrderly m → fault_of t.processors m ≡ None
+-- such a run is one of the machine
+abbrev pub OrderlyRunsAreTheMachines : Type 0
+OrderlyRunsAreTheMachines = (c : Case) (s : State) (ks : List ℕ) → IsRightStart c s → MayCall c s → AreOrderly c s ks → IsMachines c s (run c s ks)
 
--- from a right start, whatever the lists are: a run of the machine, with nothing wrong in its state and no fault of an orderly step
+-- nothing is wrong in the state after it
 abbrev pub OrderlyRunsAreRight : Type 0
-OrderlyRunsAreRight = (c : Case) (s : State) (ks : List ℕ) → IsRightStart c s → MayCall c s → AreOrderly c s ks → IsRightRun c s (run c s ks)
+OrderlyRunsAreRight = (c : Case) (s : State) (ks : List ℕ) → IsRightStart c s → MayCall c s → AreOrderly c s ks → has_wrong (run c s ks) ≡ false
+
+-- and no such step behind it has a fault
+abbrev pub OrderlyStepsHaveNoFault : Type 0
+OrderlyStepsHaveNoFault =
+    (c : Case) (s : State) (ks : List ℕ) (k : ℕ) (m : Move) → IsRightStart c s → MayCall c s → AreOrderly c s ks → next_move c (run c s ks) k ≡ Some m
+    → IsOrderly m → fault_of (run c s ks).processors m ≡ None

@@ -4,7 +4,7 @@
 mod worked;
 
 ghost use Rattle.mt_judge_laws.specs.Manual.{NothingGoesWrong, RunsAreTheMachines, SearchesFindNothing};
-ghost use Rattle.mt_judge_laws.specs.Orderly.{OrderlyRunsAreRight};
+ghost use Rattle.mt_judge_laws.specs.Orderly.{OrderlyRunsAreRight, OrderlyRunsAreTheMachines, OrderlyStepsHaveNoFault};
 
 use mt_judge::has_wrong_if_a_sense_holds;
 pub use worked::{
@@ -12,9 +12,12 @@ pub use worked::{
     worked_right_starts,
 };
 
-/// If every step of a run is due, or may stand beside the events, nothing is wrong in its state, whatever the lists are.
+/// If each step of a run is due, or may stand beside the events, the run is one of the machine, nothing is wrong in its state, and no
+/// step has a fault, whatever the lists are.
 pub fn orderly_runs_are_right()
-    ensures { OrderlyRunsAreRight }
+    ensures machines { OrderlyRunsAreTheMachines }
+    ensures right { OrderlyRunsAreRight }
+    ensures steps { OrderlyStepsHaveNoFault }
 {
     has_wrong_if_a_sense_holds(); // a fact for the proof
 }
