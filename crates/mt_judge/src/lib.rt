@@ -16,6 +16,7 @@ mod judging;
 mod lines;
 mod listing;
 mod moves;
+mod numbers;
 mod order;
 mod program;
 mod ram;

@@ -1,10 +1,9 @@
-use crate::case::{Reason, Trouble};
+use crate::case::Trouble;
 use crate::judging::{Verdict, judge};
 use crate::reader::read_input;
-use mt_output::{exit_code, words_behind_name, written};
+use mt_output::{bad_text, exit_code, words_behind_name, written};
 use mt_ports::{Sink, Source, Status};
-use mt_text::Place;
-use std::alloc::{AllocError, Global};
+use std::alloc::Global;
 use std::env::Args;
 use std::io::{self, ErrorKind};
 use std::process::ExitCode;
@@ -67,13 +66,6 @@ fn read_all<S: Source>(alloc: Global, source: &mut S) -> Result<Vec<u8>, Status>
     Ok(bytes)
 }
 
-fn bad_line(alloc: Global, place: Place, reason: Reason) -> Result<String, AllocError> {
-    let line = place.line;
-    let column = place.column;
-    let why = reason.text();
-    format!(in alloc; "bad text {line}:{column} {why}\n")
-}
-
 // Writes the verdict on a text.
 fn answer<R: Eprint + AllocGlobal, K: Sink>(rt: &R, text: &[u8], sink: &mut K) -> Status {
     match read_input(rt.alloc(), text) {
@@ -83,10 +75,10 @@ fn answer<R: Eprint + AllocGlobal, K: Sink>(rt: &R, text: &[u8], sink: &mut K) -
             Err(_) => Status::NoMemory,
         },
         Err(Trouble::NoMemory) => Status::NoMemory,
-        Err(Trouble::Bad { place, reason }) => match bad_line(rt.alloc(), place, reason) {
-            Ok(line) => written(sink, line.as_bytes(), Status::BadText),
-            Err(_) => Status::NoMemory,
-        },
+        Err(Trouble::Bad { place, reason }) => {
+            let line = bad_text(place, reason.text());
+            written(sink, line.as_slice(), Status::BadText)
+        }
     }
 }
 

@@ -1,33 +1,23 @@
 use crate::due::{arrived, arrived_again, due_at};
 use crate::moves::{Case, Move, Outcome, State, phase_in};
+use crate::numbers::{push_decimal, push_hex};
 use crate::step::Step;
 use crate::wrong::{Fault, Wrong};
-use mt_kinds::{LINE_BYTES, PAGE_BYTES, WORD_BYTES};
+use mt_kinds::{LINE_BYTES, MemType, PAGE_BYTES, WORD_BYTES};
 use mt_machine::{Done, Event, Op, Phase};
 use mt_regs::RegFile;
 use std::alloc::AllocError;
-use std::fmt::Write;
-
-// Writes a word and a decimal number.
-fn tell_count(text: &mut String, word: &str, n: u32) -> Result<(), AllocError> {
-    write!(text, "{word} {n}")
-}
-
-// Writes a word and a hexadecimal number.
-fn tell_code(text: &mut String, word: &str, n: u64) -> Result<(), AllocError> {
-    write!(text, "{word} {n:x}")
-}
 
 fn tell_wait(text: &mut String, barrier: u32, count: u32) -> Result<(), AllocError> {
-    tell_count(text, "wait", barrier)?;
-    tell_count(text, "", count)
+    push_decimal(text, "wait ", barrier as u64)?;
+    push_decimal(text, " ", count as u64)
 }
 
 /// Writes the words of a step, as a procedure has them.
 fn tell_step(text: &mut String, step: Step) -> Result<(), AllocError> {
     match step {
         Step::Interrupt => text.push_str("take"),
-        Step::ArriveAt(barrier) => tell_count(text, "arrive", barrier),
+        Step::ArriveAt(barrier) => push_decimal(text, "arrive ", barrier as u64),
         Step::WaitAt { barrier, count } => tell_wait(text, barrier, count),
         Step::SetCd => text.push_str("set-cd"),
         Step::Wbinvd => text.push_str("wbinvd"),
@@ -41,35 +31,39 @@ fn tell_step(text: &mut String, step: Step) -> Result<(), AllocError> {
         Step::ReturnPge => text.push_str("restore-pge"),
         Step::GoOn => text.push_str("release"),
         Step::Access(op) => tell_access(text, op),
-        Step::Invlpg(va) => tell_code(text, "invlpg", va),
+        Step::Invlpg(va) => push_hex(text, "invlpg ", va, 1),
         Step::Pge(on) => text.push_str(if on { "pge on" } else { "pge off" }),
         Step::Cd(on) => text.push_str(if on { "cd on" } else { "cd off" }),
     }
 }
 
 fn tell_store(text: &mut String, va: u64, v: u64) -> Result<(), AllocError> {
-    tell_code(text, "store", va)?;
-    tell_code(text, "", v)
+    push_hex(text, "store ", va, 1)?;
+    push_hex(text, " ", v, 1)
 }
 
 fn tell_access(text: &mut String, op: Op) -> Result<(), AllocError> {
     match op {
-        Op::Load(va) => tell_code(text, "load", va),
+        Op::Load(va) => push_hex(text, "load ", va, 1),
         Op::Store(va, v) => tell_store(text, va, v),
         Op::Fence => text.push_str("fence"),
     }
 }
 
+fn tell_type(text: &mut String, front: &str, kind: MemType) -> Result<(), AllocError> {
+    text.push_str(front)?;
+    text.push_str(kind.name())
+}
+
+fn tell_value(text: &mut String, v: u64, kind: MemType) -> Result<(), AllocError> {
+    push_hex(text, " value ", v, 16)?;
+    tell_type(text, " ", kind)
+}
+
 fn tell_done(text: &mut String, done: Done) -> Result<(), AllocError> {
     match done {
-        Done::Value(v, kind) => {
-            let name = kind.name();
-            write!(text, " value {v:016x} {name}")
-        }
-        Done::Stored(kind) => {
-            text.push_str(" stored ")?;
-            text.push_str(kind.name())
-        }
+        Done::Value(v, kind) => tell_value(text, v, kind),
+        Done::Stored(kind) => tell_type(text, " stored ", kind),
         Done::Fenced => Ok(()),
         Done::Unmapped => text.push_str(" unmapped"),
         Done::NoRam => text.push_str(" no ram"),
@@ -84,15 +78,18 @@ fn tell_outcome(text: &mut String, outcome: Outcome) -> Result<(), AllocError> {
     }
 }
 
+fn tell_word(text: &mut String, address: u64, value: u64) -> Result<(), AllocError> {
+    push_hex(text, " word ", address, 13)?;
+    push_hex(text, " ", value, 16)
+}
+
 // What a step of several events did.
 fn tell_event(text: &mut String, goal: &RegFile, event: Option<Event>) -> Result<(), AllocError> {
     match event {
-        Some(Event::WriteBack { address, value }) => {
-            write!(text, " word {address:013x} {value:016x}")
-        }
+        Some(Event::WriteBack { address, value }) => tell_word(text, address, value),
         Some(Event::DropLines) => text.push_str(" lines"),
         Some(Event::Write(i)) => match goal.register(i) {
-            Some(msr) => write!(text, " {msr:03x}"),
+            Some(msr) => push_hex(text, " ", msr as u64, 3),
             None => Ok(()),
         },
         _ => Ok(()),
@@ -101,8 +98,8 @@ fn tell_event(text: &mut String, goal: &RegFile, event: Option<Event>) -> Result
 
 /// Writes the line of a step that was done.
 pub(crate) fn tell_move(text: &mut String, goal: &RegFile, m: &Move) -> Result<(), AllocError> {
-    let cpu = m.cpu;
-    write!(text, "{cpu} ")?;
+    push_decimal(text, "", m.cpu as u64)?;
+    text.push_str(" ")?;
     tell_step(text, m.step)?;
     tell_event(text, goal, m.event)?;
     tell_outcome(text, m.outcome)?;
@@ -137,6 +134,20 @@ fn event_word(event: Event, phase: Phase) -> &'static str {
     }
 }
 
+fn tell_barrier(text: &mut String, count: usize, of: usize, which: &str) -> Result<(), AllocError> {
+    push_decimal(text, "", count as u64)?;
+    push_decimal(text, " of ", of as u64)?;
+    text.push_str(" have arrived at the ")?;
+    text.push_str(which)?;
+    text.push_str(" barrier\n")
+}
+
+fn tell_event_due(text: &mut String, event: Event, phase: Phase) -> Result<(), AllocError> {
+    text.push_str("the manual has ")?;
+    text.push_str(event_word(event, phase))?;
+    text.push_str(" here\n")
+}
+
 // Writes the step that the manual's procedure has for a processor in a phase, or why it has none.
 fn tell_due(
     text: &mut String,
@@ -146,21 +157,11 @@ fn tell_due(
 ) -> Result<(), AllocError> {
     let cpus = state.cpus.as_slice();
     match (due, phase) {
-        (Some(event), _) => {
-            let word = event_word(event, phase);
-            write!(text, "the manual has {word} here\n")
-        }
+        (Some(event), _) => tell_event_due(text, event, phase),
         (None, Phase::Arrived) => tell_barrier(text, arrived(cpus), cpus.len(), "first"),
         (None, Phase::Arrived2) => tell_barrier(text, arrived_again(cpus), cpus.len(), "second"),
         (None, _) => text.push_str("the manual's procedure has ended\n"),
     }
-}
-
-fn tell_barrier(text: &mut String, count: usize, of: usize, which: &str) -> Result<(), AllocError> {
-    write!(
-        text,
-        "{count} of {of} have arrived at the {which} barrier\n"
-    )
 }
 
 /// Writes why the manual's procedure hasn't the step due, by the state before it.
@@ -174,7 +175,8 @@ pub(crate) fn tell_ends(text: &mut String, case: &Case, state: &State) -> Result
     let cpus = state.cpus.as_slice();
     for k in 0..cpus.len() {
         if state.is_unfinished(case, k) {
-            write!(text, "{k} has ended: ")?;
+            push_decimal(text, "", k as u64)?;
+            text.push_str(" has ended: ")?;
             tell_due(text, state, due_at(cpus, k), phase_in(cpus, k))?;
         }
     }
@@ -183,7 +185,9 @@ pub(crate) fn tell_ends(text: &mut String, case: &Case, state: &State) -> Result
 
 // Writes what is wrong at an address of a processor, without an end of the line.
 fn tell_at(text: &mut String, what: &str, address: u64, cpu: usize) -> Result<(), AllocError> {
-    write!(text, "  wrong: {what} {address:013x} of processor {cpu}")
+    text.push_str("  wrong: ")?;
+    push_hex(text, what, address, 13)?;
+    push_decimal(text, " of processor ", cpu as u64)
 }
 
 fn tell_two_types(
@@ -192,11 +196,9 @@ fn tell_two_types(
     cpu: usize,
     other: usize,
 ) -> Result<(), AllocError> {
-    let address = page.wrapping_mul(PAGE_BYTES);
-    write!(
-        text,
-        "  wrong: page {address:013x} has two types, of processors {cpu} and {other}"
-    )
+    push_hex(text, "  wrong: page ", page.wrapping_mul(PAGE_BYTES), 13)?;
+    push_decimal(text, " has two types, of processors ", cpu as u64)?;
+    push_decimal(text, " and ", other as u64)
 }
 
 /// Writes the line of a state's wrong.
@@ -204,19 +206,19 @@ pub(crate) fn tell_wrong(text: &mut String, wrong: &Wrong) -> Result<(), AllocEr
     match *wrong {
         Wrong::StaleLine { cpu, line } => tell_at(
             text,
-            "stale line",
+            "stale line ",
             line.wrapping_mul(LINE_BYTES),
             cpu,
         )?,
         Wrong::StaleBuffer { cpu, line } => tell_at(
             text,
-            "stale buffer",
+            "stale buffer ",
             line.wrapping_mul(LINE_BYTES),
             cpu,
         )?,
         Wrong::StaleEntry { cpu, vpage } => tell_at(
             text,
-            "stale entry",
+            "stale entry ",
             vpage.wrapping_mul(PAGE_BYTES),
             cpu,
         )?,
@@ -234,15 +236,15 @@ pub(crate) fn tell_fault(text: &mut String, fault: &Fault) -> Result<(), AllocEr
             used,
             given,
         } => {
-            tell_at(text, "access", address, cpu)?;
-            let used = used.name();
-            let given = given.name();
-            write!(text, " as {used}, its registers give {given}\n")
+            tell_at(text, "access ", address, cpu)?;
+            tell_type(text, " as ", used)?;
+            tell_type(text, ", its registers give ", given)?;
+            text.push_str("\n")
         }
         Fault::LostWord { cpu, line, word } => {
             let offset = WORD_BYTES * word as u64;
             let address = line.wrapping_mul(LINE_BYTES).wrapping_add(offset);
-            tell_at(text, "lost word", address, cpu)?;
+            tell_at(text, "lost word ", address, cpu)?;
             text.push_str("\n")
         }
     }
@@ -255,12 +257,13 @@ pub(crate) fn tell_pause(
     state: &State,
     k: usize,
 ) -> Result<(), AllocError> {
+    push_decimal(text, "", k as u64)?;
     match case.step_at(state, k) {
         Some(step) => {
-            write!(text, "{k} waits: ")?;
+            text.push_str(" waits: ")?;
             tell_step(text, step)?;
             text.push_str("\n")
         }
-        None => write!(text, "{k} has ended\n"),
+        None => text.push_str(" has ended\n"),
     }
 }
