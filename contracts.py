@@ -1,5 +1,6 @@
 """Reads the contracts of public functions out of crates/*/src. `./clauses` and `./proved` share it."""
 import dataclasses
+import itertools
 import pathlib
 import re
 
@@ -15,7 +16,7 @@ class Function:
     name: str
     doc: str  # its doc comment, in one line
     parts: list  # `pub fn ..` up to the first clause, and each clause
-    is_law: bool  # its body is empty
+    is_law: bool  # its body is empty, or only calls what a proof needs
 
     def title(self):
         return f"{self.owner}::{self.name}" if self.owner else self.name
@@ -36,6 +37,12 @@ def doc_above(lines, place):
     return " ".join(doc)
 
 
+def is_law(lines):
+    """Whether a body is empty, or has only calls that are marked as facts for the proof."""
+    calls = itertools.takewhile(lambda line: line != "}", lines[1:])
+    return lines[0] == "{}" or (lines[0] == "{" and all(line.endswith("// a fact for the proof") for line in calls))
+
+
 def functions_of(path, crate, file):
     """Yields each public function of a file, and each function of a trait or of its impls."""
     owner, whole, lines = "", False, path.read_text(encoding="utf-8").split("\n")
@@ -48,18 +55,18 @@ def functions_of(path, crate, file):
         head = FUNCTION.match(line)
         if not head or not (head.group(2) or (owner and whole)):
             continue
-        text, body = [], ""
-        for piece in lines[place:]:
+        text, body = [], [""]
+        for at, piece in enumerate(lines[place:], place):
             piece = piece.removeprefix(head.group(1))
             if piece.startswith("{") or (text and re.match(r"(pub |ghost |///|#\[|})", piece)):
-                body = piece
+                body = [piece, *lines[at + 1 :]]
                 break
             if not piece.strip().startswith("//"):
                 text.append(piece.strip())
             if piece.endswith(";") or (piece.endswith(" {") and len(text) == 1):
                 break
         parts = re.split(r" (?=(?:ensures|requires)\b)", " ".join(" ".join(text).removesuffix("{").split()))
-        yield Function(crate, file, owner, head.group(3), doc_above(lines, place), parts, body == "{}")
+        yield Function(crate, file, owner, head.group(3), doc_above(lines, place), parts, is_law(body))
 
 
 def functions_in(top):

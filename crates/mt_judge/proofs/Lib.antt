@@ -2,6 +2,7 @@ mod Alike
 mod Emptying
 mod Fits
 mod Gathered
+mod Keeping
 mod Others
 mod Places
 mod Searching

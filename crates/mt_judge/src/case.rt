@@ -1,9 +1,11 @@
+ghost use Rattle.std.specs.Prelude.{◌≤◌, length};
+
 use crate::moves::{Case, State};
 use mt_ports::NoMemory;
 use mt_text::Place;
 
 /// Why a text is no case.
-#[derive(Clone, Copy, Debug, PartialEq, Eq)]
+#[derive(Clone, Copy)]
 pub enum Reason {
     BadLine,
     BadNumber,
@@ -20,23 +22,25 @@ pub enum Reason {
 
 impl Reason {
     /// The words that are printed.
-    pub fn text(self) -> &'static str {
+    pub fn text(self) -> &'static [u8]
+        ensures { length result.now ≤ 20 }
+    {
         match self {
-            Reason::BadLine => "bad line",
-            Reason::BadNumber => "bad number",
-            Reason::UnknownRegister => "unknown register",
-            Reason::Repeated => "repeated",
-            Reason::OutOfRange => "out of range",
-            Reason::NotNow => "not now",
-            Reason::NoEnd => "no end",
-            Reason::BadDump => "bad dump",
-            Reason::Refused => "refused registers",
+            Reason::BadLine => b"bad line",
+            Reason::BadNumber => b"bad number",
+            Reason::UnknownRegister => b"unknown register",
+            Reason::Repeated => b"repeated",
+            Reason::OutOfRange => b"out of range",
+            Reason::NotNow => b"not now",
+            Reason::NoEnd => b"no end",
+            Reason::BadDump => b"bad dump",
+            Reason::Refused => b"refused registers",
         }
     }
 }
 
 /// Why no case was read.
-#[derive(Clone, Copy, Debug, PartialEq, Eq)]
+#[derive(Clone, Copy)]
 pub enum Trouble {
     NoMemory,
     Bad { place: Place, reason: Reason },

@@ -5,6 +5,7 @@ ghost use Rattle.mt_machine.specs.Machine.{first_flush, has_arrived, has_arrived
 ghost use Rattle.mt_judge.specs.Runs.{due_in, due_of, procedure_order};
 
 use crate::cpu::Cpu;
+use crate::moves::are_physical;
 use crate::steps::write_back_or_drop;
 use mt_machine::{Event, Phase};
 
@@ -124,6 +125,18 @@ pub(crate) fn due(cpus: &[Cpu], k: usize) -> Option<Event>
     ensures { result ≡ due_in cpus.now k }
 {
     due_of(cpus, &cpus[k])
+}
+
+/// The event that is due, if the processor's lines are within the physical addresses.
+pub(crate) fn due_at(cpus: &[Cpu], k: usize) -> Option<Event>
+    requires { k < length cpus.now }
+{
+    let cpu = &cpus[k];
+    if are_physical(cpu.lines()) {
+        due_of(cpus, cpu)
+    } else {
+        None
+    }
 }
 
 fn due_of(cpus: &[Cpu], cpu: &Cpu) -> Option<Event>

@@ -7,6 +7,7 @@ mod accesses;
 mod buffers;
 mod case;
 mod controls;
+mod counts;
 mod cpu;
 mod due;
 mod fills;
@@ -15,6 +16,8 @@ mod judging;
 mod lines;
 mod listing;
 mod moves;
+mod numbers;
+mod order;
 mod program;
 mod ram;
 mod reader;
@@ -37,7 +40,7 @@ pub use reader::read_input;
 pub use search::{Found, Node, Origin, Search, has_wrong_if_a_sense_holds};
 pub use step::{Place, Step};
 pub use worked::{
-    worked_lost_words, worked_old_types, worked_stale_buffers, worked_stale_entries,
+    worked_lost_words, worked_old_types, worked_orders, worked_stale_buffers, worked_stale_entries,
     worked_stale_lines, worked_two_types,
 };
 pub use wrong::{Fault, Kept, Wrong, fault_of, wrongs_of};

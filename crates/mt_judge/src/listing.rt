@@ -69,20 +69,35 @@ fn word_address(words: &Words<'_>, i: usize) -> Result<u64, Trouble> {
     address(words, i, WORD_BYTES, VIRTUAL_END)
 }
 
-// An access or a control instruction, whose first argument is the word of this number.
-pub(crate) fn instruction(words: &Words<'_>, first: usize) -> Result<Step, Trouble>
-    requires { first < 3 }
+// The number of an instruction's first argument behind the processor, which it has outside the lists.
+fn first_argument(cpus: Option<u64>) -> usize
+    ensures { result < 3 }
 {
+    if cpus.is_some() { 2 } else { 1 }
+}
+
+// Whether a line has so many words, and outside the lists one of so many processors as the first argument.
+fn form(words: &Words<'_>, size: usize, cpus: Option<u64>) -> Result<(), Trouble> {
+    shape(words, size)?;
+    if let Some(cpus) = cpus {
+        count(words, 1, 0, cpus.saturating_sub(1))?;
+    }
+    Ok(())
+}
+
+/// An access or a control instruction: a step of a list or, with the number of processors, a line outside the lists.
+pub(crate) fn instruction(words: &Words<'_>, cpus: Option<u64>) -> Result<Step, Trouble> {
     let word = words.text(0);
+    let first = first_argument(cpus);
     if is(word, "load") {
-        shape(words, first + 1)?;
+        form(words, first + 1, cpus)?;
         Ok(Step::Access(Op::Load(word_address(words, first)?)))
     } else if is(word, "store") {
-        shape(words, first + 2)?;
+        form(words, first + 2, cpus)?;
         let va = word_address(words, first)?;
         Ok(Step::Access(Op::Store(va, value(words, first + 1)?)))
     } else if is(word, "invlpg") {
-        shape(words, first + 1)?;
+        form(words, first + 1, cpus)?;
         Ok(Step::Invlpg(address(words, first, 1, VIRTUAL_END)?))
     } else {
         switching(words, first)
@@ -122,5 +137,5 @@ pub(crate) fn step_of(words: &Words<'_>) -> Result<Step, Trouble> {
         shape(words, 1)?;
         return Ok(step);
     }
-    instruction(words, 1)
+    instruction(words, None)
 }

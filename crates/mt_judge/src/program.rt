@@ -1,10 +1,9 @@
-use crate::case::{Reason, Trouble};
+use crate::case::Trouble;
 use crate::judging::{Verdict, judge};
 use crate::reader::read_input;
-use mt_output::{exit_code, words_behind_name, written};
+use mt_output::{bad_text, exit_code, words_behind_name, written};
 use mt_ports::{Sink, Source, Status};
-use mt_text::Place;
-use std::alloc::{AllocError, Global};
+use std::alloc::Global;
 use std::env::Args;
 use std::io::{self, ErrorKind};
 use std::process::ExitCode;
@@ -24,7 +23,8 @@ each processor on the machine of mtrr, and writes what they leave wrong.
 
 Exit status:
   0  nothing is wrong
-  1  something is wrong, a step isn't due, or the search stopped
+  1  something is wrong, a step isn't due, a list ends in the midst of an
+     update, or the search stopped
   2  wrong usage
   3  the input is no case
   4  reading failed
@@ -35,47 +35,50 @@ Exit status:
 
 const VERSION: &[u8] = b"mtrr-judge 1.0.0\n";
 
-// All bytes of a source.
-fn read_all<S: Source>(alloc: Global, source: &mut S) -> Result<Vec<u8>, Status> {
-    let mut bytes = Vec::new(alloc);
+// Adds the next bytes of a source. False if there are no more.
+fn take_more<S: Source>(bytes: &mut Vec<u8>, source: &mut S) -> Result<bool, Status> {
     let mut buffer = [0; 8192];
+    let Ok(count) = source.take(&mut buffer) else {
+        return Err(Status::ReadFault);
+    };
+    if count > LONGEST.saturating_sub(bytes.len()) {
+        return Err(Status::TooLong);
+    }
+    match bytes.extend_from_slice(&buffer[..count]) {
+        Ok(()) => Ok(count > 0),
+        Err(_) => Err(Status::NoMemory),
+    }
+}
+
+fn take_all<S: Source>(bytes: &mut Vec<u8>, source: &mut S) -> Result<(), Status> {
     for _ in 0..=LONGEST {
-        let Ok(count) = source.take(&mut buffer) else {
-            return Err(Status::ReadFault);
-        };
-        if count == 0 {
-            return Ok(bytes);
-        }
-        if bytes.len() + count > LONGEST {
-            return Err(Status::TooLong);
-        }
-        if bytes.extend_from_slice(&buffer[..count]).is_err() {
-            return Err(Status::NoMemory);
+        if !take_more(bytes, source)? {
+            return Ok(());
         }
     }
     Err(Status::TooLong)
 }
 
-fn bad_line(alloc: Global, place: Place, reason: Reason) -> Result<String, AllocError> {
-    let line = place.line;
-    let column = place.column;
-    let why = reason.text();
-    format!(in alloc; "bad text {line}:{column} {why}\n")
+// All bytes of a source.
+fn read_all<S: Source>(alloc: Global, source: &mut S) -> Result<Vec<u8>, Status> {
+    let mut bytes = Vec::new(alloc);
+    take_all(&mut bytes, source)?;
+    Ok(bytes)
 }
 
 // Writes the verdict on a text.
 fn answer<R: Eprint + AllocGlobal, K: Sink>(rt: &R, text: &[u8], sink: &mut K) -> Status {
     match read_input(rt.alloc(), text) {
-        Ok(input) => match judge(rt, input) {
+        Ok(input) => match judge(rt, &input) {
             Ok(Verdict { text, wrong: true }) => written(sink, text.as_bytes(), Status::Refused),
             Ok(Verdict { text, wrong: false }) => written(sink, text.as_bytes(), Status::Done),
             Err(_) => Status::NoMemory,
         },
         Err(Trouble::NoMemory) => Status::NoMemory,
-        Err(Trouble::Bad { place, reason }) => match bad_line(rt.alloc(), place, reason) {
-            Ok(line) => written(sink, line.as_bytes(), Status::BadText),
-            Err(_) => Status::NoMemory,
-        },
+        Err(Trouble::Bad { place, reason }) => {
+            let line = bad_text(place, reason.text());
+            written(sink, line.as_slice(), Status::BadText)
+        }
     }
 }
 

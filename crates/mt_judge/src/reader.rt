@@ -13,7 +13,7 @@ use mt_machine::Ruled;
 use mt_ports::NoMemory;
 use mt_ram::{Ram, RamFault};
 use mt_regs::{RegFile, first_refusal};
-use mt_text::{Line, Place, Words, end_place, next_line};
+use mt_text::{Line, Place, Words, end_place, hex64, next_line, without_ending};
 use mt_tlb::Mapping;
 use std::alloc::Global;
 
@@ -49,50 +49,56 @@ fn push<T: Drop>(list: &mut Vec<T>, item: T) -> Result<(), Trouble> {
     }
 }
 
-// What a processor has at the start of a case.
-fn start_of(alloc: Global, dump: &Dump, cpus: u32) -> Result<(State, Vec<Procedure>), Trouble>
-    requires { cpus ≤ 16 }
-{
-    let mut start = State {
-        cpus: Vec::new(alloc),
-        words: Vec::new(alloc),
-        places: Vec::new(alloc),
-        arrived: Vec::new(alloc),
-    };
-    let mut lists = Vec::new(alloc);
-    for file in dump.files_for(cpus).as_slice() {
-        push(&mut start.cpus, Cpu::new(alloc, file.same()))?;
-        push(&mut start.places, ListPlace { step: 0, part: 0 })?;
-        push(
-            &mut lists,
-            Procedure {
-                steps: Vec::new(alloc),
-            },
-        )?;
+impl State {
+    // A state without processors, at whose barriers nobody has arrived.
+    fn empty(alloc: Global) -> State {
+        State {
+            cpus: Vec::new(alloc),
+            words: Vec::new(alloc),
+            places: Vec::new(alloc),
+            arrived: Vec::new(alloc),
+        }
     }
-    for _ in 0..BARRIERS {
-        push(&mut start.arrived, 0)?;
-    }
-    Ok((start, lists))
 }
 
 impl Reader {
-    fn new(alloc: Global, dump: &Dump, cpus: u32) -> Result<Reader, Trouble>
-        requires { cpus ≤ 16 }
-    {
-        let (start, lists) = start_of(alloc, dump, cpus)?;
-        Ok(Reader {
+    // A reader without processors.
+    fn empty(alloc: Global, goal: RegFile) -> Reader {
+        Reader {
             alloc,
             case: Case {
                 layout: Ram::new(alloc),
-                goal: dump.first_file().same(),
-                lists,
+                goal,
+                lists: Vec::new(alloc),
             },
-            start,
+            start: State::empty(alloc),
             has_goal: false,
             ask: None,
             section: Section::Outside,
-        })
+        }
+    }
+
+    fn new(alloc: Global, dump: &Dump, cpus: u32) -> Result<Reader, Trouble>
+        requires { cpus ≤ 16 }
+    {
+        let mut reader = Reader::empty(alloc, dump.first_file().same());
+        for file in dump.files_for(cpus).as_slice() {
+            reader.add_cpu(file)?;
+        }
+        for _ in 0..BARRIERS {
+            push(&mut reader.start.arrived, 0)?;
+        }
+        Ok(reader)
+    }
+
+    // Adds a processor with these registers.
+    fn add_cpu(&mut self, file: &RegFile) -> Result<(), Trouble> {
+        push(&mut self.start.cpus, Cpu::new(self.alloc, file.same()))?;
+        push(&mut self.start.places, ListPlace { step: 0, part: 0 })?;
+        let list = Procedure {
+            steps: Vec::new(self.alloc),
+        };
+        push(&mut self.case.lists, list)
     }
 
     fn cpus(&self) -> u64 {
@@ -107,9 +113,9 @@ impl Reader {
     fn ram(&mut self, words: &Words<'_>) -> Result<(), Trouble> {
         shape(words, 3)?;
         let end = PAGE_BYTES * self.case.goal.pages();
-        let base = address(words, 1, LINE_BYTES, end)?;
+        let base = address(words, 1, LINE_BYTES, u64::MAX)?;
         let lines = count(words, 2, 1, MOST_LINES)?;
-        if LINE_BYTES * lines > end - base {
+        if base >= end || LINE_BYTES * lines > end - base {
             return bad(words.place(2), Reason::OutOfRange);
         }
         match self.case.layout.add(base, lines as u32) {
@@ -149,7 +155,7 @@ impl Reader {
 
     // An access or a control instruction before the procedures begin.
     fn before(&mut self, words: &Words<'_>) -> Result<(), Trouble> {
-        let step = instruction(words, 2)?;
+        let step = instruction(words, Some(self.cpus()))?;
         let k = self.cpu(words, 1)?;
         if k >= self.start.cpus.len() {
             return bad(words.place(1), Reason::OutOfRange);
@@ -251,7 +257,7 @@ impl Reader {
     // A line of the goal.
     fn register(&mut self, words: &Words<'_>) -> Result<(), Trouble> {
         shape(words, 2)?;
-        let number = value(words, 0)?;
+        let number = register_number(words)?;
         let v = value(words, 1)?;
         if number > u32::MAX as u64 || self.case.goal.set(number as u32, v).is_err() {
             return bad(words.place(0), Reason::UnknownRegister);
@@ -310,18 +316,46 @@ impl Reader {
         }
     }
 
+    // Reads the lines from an offset on.
+    fn lines(&mut self, source: &[u8], from: usize, number: u64) -> Result<(), Trouble>
+        requires { from ≤ length source.now }
+    {
+        let mut at = from;
+        let mut count = number;
+        while let Some(line) = next_line(source, at, count) {
+            self.line(&line)?;
+            at = line.next;
+            count = count.saturating_add(1);
+        }
+        Ok(())
+    }
+
+    fn is_outside(&self) -> bool {
+        matches!(self.section, Section::Outside)
+    }
+
     fn input(self, end: Place) -> Result<Input, Trouble> {
+        if !self.is_outside() {
+            return bad(end, Reason::NoEnd);
+        }
         let Reader {
             case,
             start,
             ask,
-            section,
             ..
         } = self;
-        match (section, ask) {
-            (Section::Outside, Some(ask)) => Ok(Input { case, start, ask }),
-            _ => bad(end, Reason::NoEnd),
+        match ask {
+            Some(ask) => Ok(Input { case, start, ask }),
+            None => bad(end, Reason::NoEnd),
         }
+    }
+}
+
+// The register's number that begins a line, with or without a colon behind it.
+fn register_number(words: &Words<'_>) -> Result<u64, Trouble> {
+    match hex64(without_ending(words.text(0), b':')) {
+        Ok(number) => Ok(number),
+        Err(_) => bad(words.place(0), Reason::BadNumber),
     }
 }
 
@@ -370,6 +404,20 @@ fn dump_end<'a>(source: &'a [u8], from: usize, number: u64) -> Result<Line<'a>, 
     bad(end_place(source), Reason::NoEnd)
 }
 
+// A reader of what is behind the text of a dump, which begins behind so many lines.
+fn reader_of(
+    alloc: Global,
+    text: &[u8],
+    lines: u64,
+    cpus: u32,
+    end: Place,
+) -> Result<Reader, Trouble>
+    requires { cpus ≤ 16 }
+{
+    let dump = dump_of(text, lines, cpus, end)?;
+    Reader::new(alloc, &dump, cpus)
+}
+
 // The dump of N processors, each accepted.
 fn dump_of(text: &[u8], lines: u64, cpus: u32, end: Place) -> Result<Dump, Trouble> {
     match read_dump(text) {
@@ -386,31 +434,36 @@ fn dump_of(text: &[u8], lines: u64, cpus: u32, end: Place) -> Result<Dump, Troub
     }
 }
 
-/// The case that a text gives.
-pub fn read_input(alloc: Global, source: &[u8]) -> Result<Input, Trouble> {
-    let first = next_worded(source, 0, 1)?;
-    let words = first.first_words();
+// The number of processors, by the first line.
+fn cpus_of(line: &Line<'_>) -> Result<u32, Trouble>
+    ensures { IfOk result (λ n. n ≤ 4) }
+{
+    let words = line.first_words();
     if !is(words.text(0), "cpus") {
         return bad(words.place(0), Reason::BadLine);
     }
     shape(&words, 2)?;
-    let cpus = count(&words, 1, 1, MOST_CPUS)? as u32;
-    let second = next_worded(source, first.next, first.number.saturating_add(1))?;
-    let words = second.first_words();
+    Ok(count(&words, 1, 1, MOST_CPUS)? as u32)
+}
+
+// Whether a line begins the dump.
+fn begins_dump(line: &Line<'_>) -> Result<(), Trouble> {
+    let words = line.first_words();
     if !is(words.text(0), "dump") {
         return bad(words.place(0), Reason::BadLine);
     }
-    shape(&words, 1)?;
+    shape(&words, 1)
+}
+
+/// The case that a text gives.
+pub fn read_input(alloc: Global, source: &[u8]) -> Result<Input, Trouble> {
+    let first = next_worded(source, 0, 1)?;
+    let cpus = cpus_of(&first)?;
+    let second = next_worded(source, first.next, first.number.saturating_add(1))?;
+    begins_dump(&second)?;
     let end = dump_end(source, second.next, second.number.saturating_add(1))?;
     let text = &source[second.next..end.offset];
-    let dump = dump_of(text, second.number, cpus, end.first_words().place(0))?;
-    let mut reader = Reader::new(alloc, &dump, cpus)?;
-    let mut at = end.next;
-    let mut number = end.number.saturating_add(1);
-    while let Some(line) = next_line(source, at, number) {
-        reader.line(&line)?;
-        at = line.next;
-        number = number.saturating_add(1);
-    }
+    let mut reader = reader_of(alloc, text, second.number, cpus, end.first_words().place(0))?;
+    reader.lines(source, end.next, end.number.saturating_add(1))?;
     reader.input(end_place(source))
 }

@@ -1,7 +1,7 @@
 use mt_machine::Op;
 
 /// A step of a list.
-#[derive(Clone, Copy, Debug, PartialEq, Eq)]
+#[derive(Clone, Copy)]
 pub enum Step {
     /// The interrupt is taken: the write-combining buffers are emptied.
     Interrupt,
@@ -41,7 +41,7 @@ pub enum Step {
 }
 
 /// Where a processor is in its list.
-#[derive(Clone, Copy, Debug, PartialEq, Eq)]
+#[derive(Clone, Copy)]
 pub struct Place {
     /// The number of steps that are done.
     pub step: usize,

@@ -1,19 +1,24 @@
-use crate::due::{arrived, arrived_again};
-use crate::moves::{Case, Move, Outcome, State};
+use crate::due::{arrived, arrived_again, due_at};
+use crate::moves::{Case, Move, Outcome, State, phase_in};
+use crate::numbers::{push_decimal, push_hex};
 use crate::step::Step;
 use crate::wrong::{Fault, Wrong};
-use mt_kinds::{LINE_BYTES, PAGE_BYTES, WORD_BYTES};
+use mt_kinds::{LINE_BYTES, MemType, PAGE_BYTES, WORD_BYTES};
 use mt_machine::{Done, Event, Op, Phase};
 use mt_regs::RegFile;
 use std::alloc::AllocError;
-use std::fmt::Write;
+
+fn tell_wait(text: &mut String, barrier: u32, count: u32) -> Result<(), AllocError> {
+    push_decimal(text, "wait ", barrier as u64)?;
+    push_decimal(text, " ", count as u64)
+}
 
 /// Writes the words of a step, as a procedure has them.
 fn tell_step(text: &mut String, step: Step) -> Result<(), AllocError> {
     match step {
         Step::Interrupt => text.push_str("take"),
-        Step::ArriveAt(barrier) => write!(text, "arrive {barrier}"),
-        Step::WaitAt { barrier, count } => write!(text, "wait {barrier} {count}"),
+        Step::ArriveAt(barrier) => push_decimal(text, "arrive ", barrier as u64),
+        Step::WaitAt { barrier, count } => tell_wait(text, barrier, count),
         Step::SetCd => text.push_str("set-cd"),
         Step::Wbinvd => text.push_str("wbinvd"),
         Step::Invd => text.push_str("invd"),
@@ -26,30 +31,39 @@ fn tell_step(text: &mut String, step: Step) -> Result<(), AllocError> {
         Step::ReturnPge => text.push_str("restore-pge"),
         Step::GoOn => text.push_str("release"),
         Step::Access(op) => tell_access(text, op),
-        Step::Invlpg(va) => write!(text, "invlpg {va:x}"),
+        Step::Invlpg(va) => push_hex(text, "invlpg ", va, 1),
         Step::Pge(on) => text.push_str(if on { "pge on" } else { "pge off" }),
         Step::Cd(on) => text.push_str(if on { "cd on" } else { "cd off" }),
     }
 }
 
+fn tell_store(text: &mut String, va: u64, v: u64) -> Result<(), AllocError> {
+    push_hex(text, "store ", va, 1)?;
+    push_hex(text, " ", v, 1)
+}
+
 fn tell_access(text: &mut String, op: Op) -> Result<(), AllocError> {
     match op {
-        Op::Load(va) => write!(text, "load {va:x}"),
-        Op::Store(va, v) => write!(text, "store {va:x} {v:x}"),
+        Op::Load(va) => push_hex(text, "load ", va, 1),
+        Op::Store(va, v) => tell_store(text, va, v),
         Op::Fence => text.push_str("fence"),
     }
 }
 
+fn tell_type(text: &mut String, front: &str, kind: MemType) -> Result<(), AllocError> {
+    text.push_str(front)?;
+    text.push_str(kind.name())
+}
+
+fn tell_value(text: &mut String, v: u64, kind: MemType) -> Result<(), AllocError> {
+    push_hex(text, " value ", v, 16)?;
+    tell_type(text, " ", kind)
+}
+
 fn tell_done(text: &mut String, done: Done) -> Result<(), AllocError> {
     match done {
-        Done::Value(v, kind) => {
-            let name = kind.name();
-            write!(text, " value {v:016x} {name}")
-        }
-        Done::Stored(kind) => {
-            let name = kind.name();
-            write!(text, " stored {name}")
-        }
+        Done::Value(v, kind) => tell_value(text, v, kind),
+        Done::Stored(kind) => tell_type(text, " stored ", kind),
         Done::Fenced => Ok(()),
         Done::Unmapped => text.push_str(" unmapped"),
         Done::NoRam => text.push_str(" no ram"),
@@ -64,15 +78,18 @@ fn tell_outcome(text: &mut String, outcome: Outcome) -> Result<(), AllocError> {
     }
 }
 
+fn tell_word(text: &mut String, address: u64, value: u64) -> Result<(), AllocError> {
+    push_hex(text, " word ", address, 13)?;
+    push_hex(text, " ", value, 16)
+}
+
 // What a step of several events did.
 fn tell_event(text: &mut String, goal: &RegFile, event: Option<Event>) -> Result<(), AllocError> {
     match event {
-        Some(Event::WriteBack { address, value }) => {
-            write!(text, " word {address:013x} {value:016x}")
-        }
+        Some(Event::WriteBack { address, value }) => tell_word(text, address, value),
         Some(Event::DropLines) => text.push_str(" lines"),
         Some(Event::Write(i)) => match goal.register(i) {
-            Some(msr) => write!(text, " {msr:03x}"),
+            Some(msr) => push_hex(text, " ", msr as u64, 3),
             None => Ok(()),
         },
         _ => Ok(()),
@@ -81,8 +98,8 @@ fn tell_event(text: &mut String, goal: &RegFile, event: Option<Event>) -> Result
 
 /// Writes the line of a step that was done.
 pub(crate) fn tell_move(text: &mut String, goal: &RegFile, m: &Move) -> Result<(), AllocError> {
-    let cpu = m.cpu;
-    write!(text, "{cpu} ")?;
+    push_decimal(text, "", m.cpu as u64)?;
+    text.push_str(" ")?;
     tell_step(text, m.step)?;
     tell_event(text, goal, m.event)?;
     tell_outcome(text, m.outcome)?;
@@ -117,65 +134,97 @@ fn event_word(event: Event, phase: Phase) -> &'static str {
     }
 }
 
+fn tell_barrier(text: &mut String, count: usize, of: usize, which: &str) -> Result<(), AllocError> {
+    push_decimal(text, "", count as u64)?;
+    push_decimal(text, " of ", of as u64)?;
+    text.push_str(" have arrived at the ")?;
+    text.push_str(which)?;
+    text.push_str(" barrier\n")
+}
+
+fn tell_event_due(text: &mut String, event: Event, phase: Phase) -> Result<(), AllocError> {
+    text.push_str("the manual has ")?;
+    text.push_str(event_word(event, phase))?;
+    text.push_str(" here\n")
+}
+
+// Writes the step that the manual's procedure has for a processor in a phase, or why it has none.
+fn tell_due(
+    text: &mut String,
+    state: &State,
+    due: Option<Event>,
+    phase: Phase,
+) -> Result<(), AllocError> {
+    let cpus = state.cpus.as_slice();
+    match (due, phase) {
+        (Some(event), _) => tell_event_due(text, event, phase),
+        (None, Phase::Arrived) => tell_barrier(text, arrived(cpus), cpus.len(), "first"),
+        (None, Phase::Arrived2) => tell_barrier(text, arrived_again(cpus), cpus.len(), "second"),
+        (None, _) => text.push_str("the manual's procedure has ended\n"),
+    }
+}
+
 /// Writes why the manual's procedure hasn't the step due, by the state before it.
 pub(crate) fn tell_undue(text: &mut String, before: &State, m: &Move) -> Result<(), AllocError> {
-    let cpus = before.cpus.as_slice();
-    let of = cpus.len();
-    match (m.due, m.phase) {
-        (Some(event), phase) => {
-            let word = event_word(event, phase);
-            write!(text, "  not due: the manual has {word} here\n")
+    text.push_str("  not due: ")?;
+    tell_due(text, before, m.due, m.phase)
+}
+
+/// Writes a line for each processor whose list has ended in the midst of an update.
+pub(crate) fn tell_ends(text: &mut String, case: &Case, state: &State) -> Result<(), AllocError> {
+    let cpus = state.cpus.as_slice();
+    for k in 0..cpus.len() {
+        if state.is_unfinished(case, k) {
+            push_decimal(text, "", k as u64)?;
+            text.push_str(" has ended: ")?;
+            tell_due(text, state, due_at(cpus, k), phase_in(cpus, k))?;
         }
-        (None, Phase::Arrived) => {
-            let count = arrived(cpus);
-            write!(
-                text,
-                "  not due: {count} of {of} have arrived at the first barrier\n"
-            )
-        }
-        (None, Phase::Arrived2) => {
-            let count = arrived_again(cpus);
-            write!(
-                text,
-                "  not due: {count} of {of} have arrived at the second barrier\n"
-            )
-        }
-        (None, _) => text.push_str("  not due: the manual's procedure has ended\n"),
     }
+    Ok(())
+}
+
+// Writes what is wrong at an address of a processor, without an end of the line.
+fn tell_at(text: &mut String, what: &str, address: u64, cpu: usize) -> Result<(), AllocError> {
+    text.push_str("  wrong: ")?;
+    push_hex(text, what, address, 13)?;
+    push_decimal(text, " of processor ", cpu as u64)
+}
+
+fn tell_two_types(
+    text: &mut String,
+    page: u64,
+    cpu: usize,
+    other: usize,
+) -> Result<(), AllocError> {
+    push_hex(text, "  wrong: page ", page.wrapping_mul(PAGE_BYTES), 13)?;
+    push_decimal(text, " has two types, of processors ", cpu as u64)?;
+    push_decimal(text, " and ", other as u64)
 }
 
 /// Writes the line of a state's wrong.
 pub(crate) fn tell_wrong(text: &mut String, wrong: &Wrong) -> Result<(), AllocError> {
     match *wrong {
-        Wrong::StaleLine { cpu, line } => {
-            let address = line.wrapping_mul(LINE_BYTES);
-            write!(
-                text,
-                "  wrong: stale line {address:013x} of processor {cpu}\n"
-            )
-        }
-        Wrong::StaleBuffer { cpu, line } => {
-            let address = line.wrapping_mul(LINE_BYTES);
-            write!(
-                text,
-                "  wrong: stale buffer {address:013x} of processor {cpu}\n"
-            )
-        }
-        Wrong::StaleEntry { cpu, vpage } => {
-            let address = vpage.wrapping_mul(PAGE_BYTES);
-            write!(
-                text,
-                "  wrong: stale entry {address:013x} of processor {cpu}\n"
-            )
-        }
-        Wrong::Disagree { cpu, other, page } => {
-            let address = page.wrapping_mul(PAGE_BYTES);
-            write!(
-                text,
-                "  wrong: page {address:013x} has two types, of processors {cpu} and {other}\n"
-            )
-        }
+        Wrong::StaleLine { cpu, line } => tell_at(
+            text,
+            "stale line ",
+            line.wrapping_mul(LINE_BYTES),
+            cpu,
+        )?,
+        Wrong::StaleBuffer { cpu, line } => tell_at(
+            text,
+            "stale buffer ",
+            line.wrapping_mul(LINE_BYTES),
+            cpu,
+        )?,
+        Wrong::StaleEntry { cpu, vpage } => tell_at(
+            text,
+            "stale entry ",
+            vpage.wrapping_mul(PAGE_BYTES),
+            cpu,
+        )?,
+        Wrong::Disagree { cpu, other, page } => tell_two_types(text, page, cpu, other)?,
     }
+    text.push_str("\n")
 }
 
 /// Writes the line of a step's fault.
@@ -187,21 +236,16 @@ pub(crate) fn tell_fault(text: &mut String, fault: &Fault) -> Result<(), AllocEr
             used,
             given,
         } => {
-            let used = used.name();
-            let given = given.name();
-            write!(
-                text,
-                "  wrong: access {address:013x} of processor {cpu} as {used}, its registers give {given}\n"
-            )
+            tell_at(text, "access ", address, cpu)?;
+            tell_type(text, " as ", used)?;
+            tell_type(text, ", its registers give ", given)?;
+            text.push_str("\n")
         }
         Fault::LostWord { cpu, line, word } => {
-            let address = line
-                .wrapping_mul(LINE_BYTES)
-                .wrapping_add(WORD_BYTES * word as u64);
-            write!(
-                text,
-                "  wrong: lost word {address:013x} of processor {cpu}\n"
-            )
+            let offset = WORD_BYTES * word as u64;
+            let address = line.wrapping_mul(LINE_BYTES).wrapping_add(offset);
+            tell_at(text, "lost word ", address, cpu)?;
+            text.push_str("\n")
         }
     }
 }
@@ -213,12 +257,13 @@ pub(crate) fn tell_pause(
     state: &State,
     k: usize,
 ) -> Result<(), AllocError> {
+    push_decimal(text, "", k as u64)?;
     match case.step_at(state, k) {
         Some(step) => {
-            write!(text, "{k} waits: ")?;
+            text.push_str(" waits: ")?;
             tell_step(text, step)?;
             text.push_str("\n")
         }
-        None => write!(text, "{k} has ended\n"),
+        None => text.push_str(" has ended\n"),
     }
 }

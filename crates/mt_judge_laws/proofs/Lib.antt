@@ -4,7 +4,10 @@ mod Accessing
 mod Right
 mod Counting
 mod Placing
+mod Holding
 mod Standing
 mod Progress
+mod Beginning
 mod Starting
+mod Ordering
 mod OnWorked

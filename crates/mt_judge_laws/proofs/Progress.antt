@@ -1,8 +1,9 @@
 -- Unless all lists have ended, some processor may go.
 use Rattle.std.proofs.Common.{◌≡◌, ◌⊎◌, ◌∙◌, ap, refl, sym, subst, inl, inr, ⊎_elim, arith, ℕ, zero, suc, ◌+◌, ◌-◌, ◌^◌, ◌<◌, ◌≤◌, Bool, true, false, List, [], ◌∷◌, ◌++◌, drop, get_or, length, Option, Some, None}
-use Rattle.std.specs.Prelude.{cond, ◌&&◌, nat_lt, slice_get}
+use Rattle.std.specs.Prelude.{cond, ◌&&◌, nat_lt, slice_get, is_none, not}
 use Rattle.std.specs.List.{All, count_by, list_all}
 use Rattle.std.specs.Option.{option_map_or}
+use Rattle.std.proofs.Math.Bool.{and-false}
 use Rattle.std.proofs.lemmas.List.Elements.{All-head}
 use Rattle.std.proofs.lemmas.Bool.{eq-eqb, le-leb, lt-ltb, ltb-false, ltb-true}
 use Rattle.std.proofs.lemmas.List.Sums.{list_all-from_AllPass}
@@ -24,13 +25,15 @@ use Rattle.mt_laws.proofs.Steps.StepCounts.{count_more}
 use Rattle.mt_judge.specs.declared.step.Place.{Place}
 use Rattle.mt_judge.specs.declared.step.Step.{Step}
 use Rattle.mt_judge.specs.declared.step.Step.TheVariants as list
+use Rattle.mt_judge.specs.Dues.{AreListsFinished}
 use Rattle.mt_judge.specs.Runs.{Case, GoesOn, IsEnded, State, arrived_at, is_fit, is_open, list_of, may_go, place_of, step_at, system_of}
 use Rattle.mt_judge_laws.specs.Manual.{IsInstruction, at_rest, first_flush, machine_of, manual_list, since_flush}
+use Rattle.mt_judge_laws.proofs.Holding.{order_of}
 use Rattle.mt_judge_laws.proofs.Counting.{again, arrived}
 use Rattle.mt_judge_laws.proofs.Emptied.{both}
 use Rattle.mt_judge_laws.proofs.Placing.{IsPlace, none_left, some_left}
 use Rattle.mt_judge_laws.proofs.Right.{or_left, or_right}
-use Rattle.mt_judge_laws.proofs.Standing.{Stands, order_of, placed_at}
+use Rattle.mt_judge_laws.proofs.Standing.{Stands, placed_at, PlaceOf}
 
 -- ---- lists
 
@@ -74,41 +77,49 @@ flush_first n false behind = (list.Wbinvd, _, refl, λ arrivals. refl)
 
 instruction_open : (arrivals : List ℕ) (t : Step) → IsInstruction t → is_open arrivals t ≡ true
 instruction_open arrivals (list.Access op) fit = refl
+instruction_open arrivals list.ReloadCr3 fit = refl
 instruction_open arrivals (list.Invlpg address) fit = refl
 instruction_open arrivals (list.Pge on) fit = refl
 instruction_open arrivals (list.Cd on) fit = refl
 instruction_open arrivals other fit = absurd fit
 
-open_before : (arrivals : List ℕ) (left : List Step) (n : ℕ) (snoops : Bool) (behind ts : List Step) → All IsInstruction ts → left ≡ ts ++ (manual_list n snoops ++ behind) → Open arrivals left
-open_before arrivals left n snoops behind [] fit is = record { todo = list.Interrupt; more = _; is = is; opened = refl }
-open_before arrivals left n snoops behind (t ∷ ts) fit is = record { todo = t; more = _; is = is; opened = instruction_open arrivals t (All-head IsInstruction t ts fit) }
+-- the step is open if the barrier is at which a processor in this phase waits
+pub record Next (n : ℕ) (arrivals : List ℕ) (ph : Phase) (left : List Step) : Type 0 where
+  pub todo : Step
+  pub more : List Step
+  pub is : left ≡ todo ∷ more
+  pub opened : (ph ≡ Arrived → n ≤ arrived_at arrivals 0) → (ph ≡ Arrived2 → n ≤ arrived_at arrivals 1) → is_open arrivals todo ≡ true
 
--- a processor that hasn't released has a next step, which is open if its barrier is
-open_left : (n r : ℕ) (behind : List Step) (snoops : Bool) (arrivals : List ℕ) (left : List Step) (part : ℕ) (ph : Phase) (ahead : Bool) → IsPlace n r behind snoops (arrived_at arrivals 1) ph ahead left part
-    → (ph ≡ Running → ahead ≡ false) → (ph ≡ Arrived → n ≤ arrived_at arrivals 0) → (ph ≡ Arrived2 → n ≤ arrived_at arrivals 1) → Open arrivals left
-open_left n r behind snoops arrivals left part Running true place late first second = absurd (let e : true ≡ false = late refl in cc)
-open_left n r behind snoops arrivals left part Running false place late first second = open_before arrivals left n snoops behind place.0 place.1 place.2
-open_left n r behind snoops arrivals left part Taken ahead place late first second = record { todo = list.ArriveAt 0; more = _; is = place; opened = refl }
-open_left n r behind snoops arrivals left part Arrived ahead place late first second =
-    record { todo = list.WaitAt 0 n; more = _; is = place; opened = le-leb n (arrived_at arrivals 0) (first refl) }
-open_left n r behind snoops arrivals left part Passed ahead place late first second = record { todo = list.SetCd; more = _; is = place; opened = refl }
-open_left n r behind snoops arrivals left part NoFill ahead place late first second =
-    let f = flush_first n snoops (behind) in record { todo = f.0; more = f.1; is = place ∙ f.2; opened = f.3 arrivals }
-open_left n r behind snoops arrivals left part (Writing i) ahead place late first second = ⊎_elim
-    (λ (h : (left ≡ list.WriteRegisters ∷ _) × (part ≡ i) × (i + 1 < r)). record { todo = list.WriteRegisters; more = _; is = h.0; opened = refl })
-    (λ (h : (left ≡ list.WriteDefault ∷ _) × (r ≤ i + 1)). record { todo = list.WriteDefault; more = _; is = h.0; opened = refl })
+next_before : (arrivals : List ℕ) (left : List Step) (n : ℕ) (snoops : Bool) (behind ts : List Step) → All IsInstruction ts → left ≡ ts ++ (manual_list n snoops ++ behind) → Next n arrivals Running left
+next_before arrivals left n snoops behind [] fit is = record { todo = list.Interrupt; more = _; is = is; opened = λ first second. refl }
+next_before arrivals left n snoops behind (t ∷ ts) fit is = record { todo = t; more = _; is = is; opened = λ first second. instruction_open arrivals t (All-head IsInstruction t ts fit) }
+
+-- a processor that hasn't released has a next step
+next_left : (n r : ℕ) (behind : List Step) (snoops : Bool) (arrivals : List ℕ) (left : List Step) (part : ℕ) (ph : Phase) (ahead : Bool) → IsPlace n r behind snoops (arrived_at arrivals 1) ph ahead left part
+    → (ph ≡ Running → ahead ≡ false) → Next n arrivals ph left
+next_left n r behind snoops arrivals left part Running true place late = absurd (let e : true ≡ false = late refl in cc)
+next_left n r behind snoops arrivals left part Running false place late = next_before arrivals left n snoops behind place.0 place.1 place.2
+next_left n r behind snoops arrivals left part Taken ahead place late = record { todo = list.ArriveAt 0; more = _; is = place; opened = λ first second. refl }
+next_left n r behind snoops arrivals left part Arrived ahead place late =
+    record { todo = list.WaitAt 0 n; more = _; is = place; opened = λ first second. le-leb n (arrived_at arrivals 0) (first refl) }
+next_left n r behind snoops arrivals left part Passed ahead place late = record { todo = list.SetCd; more = _; is = place; opened = λ first second. refl }
+next_left n r behind snoops arrivals left part NoFill ahead place late =
+    let f = flush_first n snoops (behind) in record { todo = f.0; more = f.1; is = place ∙ f.2; opened = λ first second. f.3 arrivals }
+next_left n r behind snoops arrivals left part (Writing i) ahead place late = ⊎_elim
+    (λ (h : (left ≡ list.WriteRegisters ∷ _) × (part ≡ i) × (i + 1 < r)). record { todo = list.WriteRegisters; more = _; is = h.0; opened = λ first second. refl })
+    (λ (h : (left ≡ list.WriteDefault ∷ _) × (r ≤ i + 1)). record { todo = list.WriteDefault; more = _; is = h.0; opened = λ first second. refl })
     place
-open_left n r behind snoops arrivals left part Arrived2 ahead place late first second = ⊎_elim
-    (λ (h : left ≡ list.WaitAt 1 n ∷ list.GoOn ∷ behind). record { todo = list.WaitAt 1 n; more = _; is = h; opened = le-leb n (arrived_at arrivals 1) (second refl) })
-    (λ (h : (left ≡ list.GoOn ∷ behind) × (n ≤ arrived_at arrivals 1)). record { todo = list.GoOn; more = _; is = h.0; opened = refl })
+next_left n r behind snoops arrivals left part Arrived2 ahead place late = ⊎_elim
+    (λ (h : left ≡ list.WaitAt 1 n ∷ list.GoOn ∷ behind). record { todo = list.WaitAt 1 n; more = _; is = h; opened = λ first second. le-leb n (arrived_at arrivals 1) (second refl) })
+    (λ (h : (left ≡ list.GoOn ∷ behind) × (n ≤ arrived_at arrivals 1)). record { todo = list.GoOn; more = _; is = h.0; opened = λ first second. refl })
     place
-open_left n r behind snoops arrivals left part Flushed ahead place late first second = record { todo = list.ClearPge; more = _; is = place; opened = refl }
-open_left n r behind snoops arrivals left part TlbFlushed ahead place late first second = record { todo = list.ClearEnable; more = _; is = place; opened = refl }
-open_left n r behind snoops arrivals left part Enabled ahead place late first second = record { todo = list.Wbinvd; more = _; is = place; opened = refl }
-open_left n r behind snoops arrivals left part Flushed2 ahead place late first second = record { todo = list.ReloadCr3; more = _; is = place; opened = refl }
-open_left n r behind snoops arrivals left part TlbFlushed2 ahead place late first second = record { todo = list.ClearCd; more = _; is = place; opened = refl }
-open_left n r behind snoops arrivals left part Normal ahead place late first second = record { todo = list.ReturnPge; more = _; is = place; opened = refl }
-open_left n r behind snoops arrivals left part Restored ahead place late first second = record { todo = list.ArriveAt 1; more = _; is = place; opened = refl }
+next_left n r behind snoops arrivals left part Flushed ahead place late = record { todo = list.ClearPge; more = _; is = place; opened = λ first second. refl }
+next_left n r behind snoops arrivals left part TlbFlushed ahead place late = record { todo = list.ClearEnable; more = _; is = place; opened = λ first second. refl }
+next_left n r behind snoops arrivals left part Enabled ahead place late = record { todo = list.Wbinvd; more = _; is = place; opened = λ first second. refl }
+next_left n r behind snoops arrivals left part Flushed2 ahead place late = record { todo = list.ReloadCr3; more = _; is = place; opened = λ first second. refl }
+next_left n r behind snoops arrivals left part TlbFlushed2 ahead place late = record { todo = list.ClearCd; more = _; is = place; opened = λ first second. refl }
+next_left n r behind snoops arrivals left part Normal ahead place late = record { todo = list.ReturnPge; more = _; is = place; opened = λ first second. refl }
+next_left n r behind snoops arrivals left part Restored ahead place late = record { todo = list.ArriveAt 1; more = _; is = place; opened = λ first second. refl }
 
 -- a processor that has released has instructions left, or none
 released_left : (n r : ℕ) (behind : List Step) (snoops : Bool) (arrivals : List ℕ) (left : List Step) (part : ℕ) (ph : Phase) (ahead : Bool) → ahead ≡ true → (is_running ph ≡ false → ahead ≡ false)
@@ -124,18 +135,18 @@ released_left n r behind snoops arrivals left part other ahead is in_step place 
 module _ (c : Case) (first : State) (start : IsStart (at_rest c first)) (few : length first.processors ≤ 64) (s : State) (st : Stands c first s) where
   lines_low : (k : ℕ) (p : Processor) → slice_get s.processors k ≡ Some p → list_all (λ (l : CacheLine). nat_lt l.number (2 ^ 46)) p.lines ≡ true
   lines_low k p at =
-      let sound = stays_sound (at_rest c first) (machine_of c s) start st.reached in
+      let sound = stays_sound (at_rest c first) (machine_of c s) start st.holds.reached in
       let low = all_get (λ (q : Processor). All (λ (l : CacheLine). l.number < 2 ^ 46) q.lines × All (λ (l : CacheLine). l.number < 2 ^ 46) q.buffers) s.processors (lines_are_low (system_of c s) sound) k p at in
       list_all-from_AllPass (λ (l : CacheLine). nat_lt l.number (2 ^ 46)) p.lines (λ i d within. lt-ltb (get_or p.lines i d).number (2 ^ 46) (low.0 i d within))
 
   era_low : (k : ℕ) (p : Processor) → slice_get s.processors k ≡ Some p → nat_lt p.era (2 ^ 64 - 1) ≡ true
   era_low k p at =
       lt-ltb p.era (2 ^ 64 - 1)
-      (⊎_elim (λ (e : p.era ≡ 0). omega (arith, e)) (λ (e : p.era ≡ 0 + 1). omega (arith, e)) (st.guarded.eras k (stage_of p) (stage_at s.processors k p at)))
+      (⊎_elim (λ (e : p.era ≡ 0). omega (arith, e)) (λ (e : p.era ≡ 0 + 1). omega (arith, e)) (st.holds.guarded.eras k (stage_of p) (stage_at s.processors k p at)))
 
   fits : (k : ℕ) (p : Processor) → slice_get s.processors k ≡ Some p → is_fit c.goal p ≡ true
   fits k p at =
-      let alike = (st.filed.1 k p at).alike in
+      let alike = (st.holds.filed.1 k p at).alike in
       both _ _
       (both _ _
       (both _ _ (eq-eqb c.goal.width p.file.width (sym alike.width)) (eq-eqb c.goal.capabilities p.file.capabilities (sym alike.capabilities)))
@@ -158,11 +169,18 @@ module _ (c : Case) (first : State) (start : IsStart (at_rest c first)) (few : l
       let found = processor_at s.processors k x at in
       let p = found.0 in
       let q = placed_at c first start few s st k p found.1 in
-      let opens =
-      open_left (length first.processors) (length (writable c.goal)) q.0.behind p.self_snoop s.arrived (drop q.0.place.step (list_of c k)) q.0.place.part p.phase (nat_lt 0 p.era) q.1
-      (subst (λ (y : Stage). y.0 ≡ Running → nat_lt 0 y.1 ≡ false) (sym found.2) late)
-      (subst (λ (y : Stage). y.0 ≡ Arrived → length first.processors ≤ arrived_at s.arrived 0) (sym found.2) one)
-      (subst (λ (y : Stage). y.0 ≡ Arrived2 → length first.processors ≤ arrived_at s.arrived 1) (sym found.2) two) in
+      let after =
+      next_left (length first.processors) (length (writable c.goal)) q.0.behind p.self_snoop s.arrived (drop q.0.place.step (list_of c k)) q.0.place.part p.phase (nat_lt 0 p.era) q.1
+      (subst (λ (y : Stage). y.0 ≡ Running → nat_lt 0 y.1 ≡ false) (sym found.2) late) in
+      let opens : Open s.arrived (drop q.0.place.step (list_of c k)) =
+      record {
+        todo = after.todo;
+        more = after.more;
+        is = after.is;
+        opened = after.opened
+            (subst (λ (y : Stage). y.0 ≡ Arrived → length first.processors ≤ arrived_at s.arrived 0) (sym found.2) one)
+            (subst (λ (y : Stage). y.0 ≡ Arrived2 → length first.processors ≤ arrived_at s.arrived 1) (sym found.2) two);
+      } in
       (k, may k p q.0.place found.1 q.0.here opens)
 
   all_at_first : list_all (arrived (order_of c)) (stages_of s.processors) ≡ true → length first.processors ≤ arrived_at s.arrived 0
@@ -191,7 +209,7 @@ module _ (c : Case) (first : State) (start : IsStart (at_rest c first)) (few : l
       (λ (left : drop q.0.place.step (list_of c k) ≡ []). inl (ap (λ (x : Place). slice_get (list_of c k) x.step) place_is ∙ none_left (list_of c k) q.0.place.step left))
       (λ (opens : Open s.arrived (drop q.0.place.step (list_of c k))). let g : GoesOn c s = (k, may k p q.0.place at q.0.here opens) in inr g)
       (released_left (length first.processors) (length (writable c.goal)) q.0.behind p.self_snoop s.arrived (drop q.0.place.step (list_of c k)) q.0.place.part p.phase (nat_lt 0 p.era)
-      (passes_at (is_ahead (order_of c)) (stages_of s.processors) k (stage_of p) all here) (st.guarded.in_step k (stage_of p) here) q.1)
+      (passes_at (is_ahead (order_of c)) (stages_of s.processors) k (stage_of p) all here) (st.holds.guarded.in_step k (stage_of p) here) q.1)
 
   abbrev AreEnded : ℕ → Type 0
   AreEnded n = (k : ℕ) → k < n → step_at c s k ≡ None
@@ -242,3 +260,23 @@ module _ (c : Case) (first : State) (start : IsStart (at_rest c first)) (few : l
 
       one_missing : list_all (arrived (order_of c)) (stages_of s.processors) ≡ true → IsEnded c s ⊎ GoesOn c s
       one_missing all = ⊎_elim (none_missing all) (λ (m : Missing (again (order_of c))). inr (on_second all m)) (all_or_one (again (order_of c)) (stages_of s.processors))
+
+  -- no list ends in the midst of the update
+  pub finished : AreListsFinished c s
+  finished k within =
+      let p = get_or s.processors k (start_processor c.goal) in
+      let at : slice_get s.processors k ≡ Some p = slice_get-get_or s.processors k (start_processor c.goal) within in
+      let q = placed_at c first start few s st k p at in
+      ap (λ (x : Option Processor). is_none (step_at c s k) && not (is_running (option_map_or (λ y. y.phase) x Running))) at ∙ one p q.0 q.1 (is_running p.phase) refl
+    where
+      one : (p : Processor) (q : PlaceOf c first s k (stage_of p))
+          → IsPlace (length first.processors) (length (writable c.goal)) q.behind p.self_snoop (arrived_at s.arrived 1) p.phase (nat_lt 0 p.era) (drop q.place.step (list_of c k)) q.place.part
+          → (b : Bool) → is_running p.phase ≡ b → (is_none (step_at c s k) && not b) ≡ false
+      one p q place true runs = and-false (is_none (step_at c s k))
+      one p q place false still =
+          let after =
+          next_left (length first.processors) (length (writable c.goal)) q.behind p.self_snoop s.arrived (drop q.place.step (list_of c k)) q.place.part p.phase (nat_lt 0 p.era) place
+          (λ e. absurd (let runs : is_running p.phase ≡ true = ap is_running e in cc)) in
+          let place_is : place_of s k ≡ q.place = get_or_from_slice_get s.places k q.place (record { step = 0; part = 0 }) q.here in
+          let next : step_at c s k ≡ Some after.todo = ap (λ (x : Place). slice_get (list_of c k) x.step) place_is ∙ some_left (list_of c k) q.place.step after.todo after.more after.is in
+          ap (λ (x : Option Step). is_none x && true) next

@@ -399,16 +399,13 @@ since_changed o first p q same runs lines buffers fewer s =
       early = λ h.
           let e = s.early (ap (λ (x : Stage). is_before x.0 && not (nat_lt o.from_era x.1)) stage ∙ h) in
           record { file = file ∙ e.file; right = fewer_right first e.right };
-      disabled = λ h.
-          absurd (let on : is_no_fill p.phase ≡ true = ap (λ (x : Stage). is_no_fill x.0) stage ∙ h in
-          let off : is_no_fill p.phase ≡ false = running_fills p.phase runs in
-          cc);
+      disabled = λ h. absurd (not_filling p.phase runs (ap (λ (x : Stage). is_no_fill x.0) stage ∙ h));
       released = λ h. re_right p q q (sym file) (sym mappings) (fewer_right p (s.released (ap (λ (x : Stage). nat_lt o.from_era x.1) stage ∙ h)));
     }
   where
-    running_fills : (ph : Phase) → is_running ph ≡ true → is_no_fill ph ≡ false
-    running_fills Running h = refl
-    running_fills other h = absurd (cc)
+    not_filling : (ph : Phase) → is_running ph ≡ true → is_no_fill ph ≡ true → ⊥
+    not_filling Running runs h = cc
+    not_filling other runs h = cc
 
     fewer_right : (v : Processor) → AreRight v p → AreRight v q
     fewer_right v r = record {
@@ -439,10 +436,9 @@ drained_since o firsts s k p at runs all f kept j q at_q =
     (λ (m : (j ≢ k) × (slice_get (drain k s).processors j ≡ Some q)). since_in o firsts Take k s all j q m.1)
     (at_change f k (drain k s) j q at_q)
 
--- neither a mapping nor a reload of CR3
+-- all but a mapping
 abbrev pub IsPlain : Control → Type 0
 IsPlain (Map m) = ⊥
-IsPlain Cr3 = ⊥
 IsPlain other = Unit {0}
 
 pub control_since : (o : Order) (firsts : List Processor) (s : System) (k : ℕ) (p : Processor) (c : Control) → IsPlain c → slice_get s.processors k ≡ Some p → is_running p.phase ≡ true
@@ -456,4 +452,6 @@ control_since o firsts s k p (Cd on) plain at runs all =
     drained_since o firsts s k p at runs all (λ q. record q { cache_disabled = on })
     (λ first x running since. since_changed o first x (record x { cache_disabled = on }) refl running refl refl (λ test h. h) since)
 control_since o firsts s k p (Map m) plain at runs all = absurd plain
-control_since o firsts s k p Cr3 plain at runs all = absurd plain
+control_since o firsts s k p Cr3 plain at runs all =
+    drained_since o firsts s k p at runs all reload_cr3
+    (λ first x running since. since_changed o first x (reload_cr3 x) refl running refl refl (λ test h. all_filter test (λ e. e.global) x.entries h) since)

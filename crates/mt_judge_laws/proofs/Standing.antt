@@ -1,50 +1,34 @@
 -- What holds in each state of the manual's lists, and that each step keeps it.
 use Rattle.std.proofs.Common.{◌≡◌, ◌≢◌, ◌⊎◌, ◌∙◌, ap, refl, sym, subst, inl, inr, ⊎_elim, arith, ℕ, zero, suc, ◌+◌, ◌≤◌, Bool, true, false, List, [], ◌∷◌, drop, length, set, Option, None, Some}
-use Rattle.std.specs.Prelude.{◌||◌, if◌then◌else◌, MatchOption, nat_lt, slice_get, slice_set, ◌==◌, ◌&&◌, not}
+use Rattle.std.specs.Prelude.{if◌then◌else◌, MatchOption, nat_lt, slice_get, slice_set, not}
 use Rattle.std.specs.List.{count_by, list_all, All}
 use Rattle.std.specs.Option.{option_map_or}
-use Rattle.std.proofs.lemmas.Bool.{and_parts, lt-ltb, eqb-true, le-ltb}
+use Rattle.std.proofs.lemmas.Bool.{and_parts, lt-ltb}
 use Rattle.std.proofs.lemmas.List.{length-set}
 use Rattle.std.proofs.lemmas.Option.{get_or_from_slice_get}
-use Rattle.mt_regs.specs.RegisterFile.{RegisterFile}
 use Rattle.mt_regs.specs.Registers.{writable}
-use Rattle.mt_machine.specs.declared.ruled.Ruled.TheVariants.{Busy as RuledBusy}
-use Rattle.mt_machine.specs.declared.control.Control.TheVariants.{Cd, Invlpg, Pge}
-use Rattle.mt_machine.specs.declared.control.Control.{Control}
 use Rattle.mt_machine.specs.declared.event.Event.{Event}
-use Rattle.mt_machine.specs.declared.event.Event.TheVariants.{FlushTlb, Leave, Take}
+use Rattle.mt_machine.specs.declared.event.Event.TheVariants.{Leave}
 use Rattle.mt_machine.specs.declared.phase.Phase.{Phase}
 use Rattle.mt_machine.specs.declared.phase.Phase.TheVariants.{Running, Arrived2}
-use Rattle.mt_machine.specs.declared.op.Op.{Op}
-use Rattle.mt_machine.specs.declared.done.Done.TheVariants.{Busy}
-use Rattle.mt_machine.specs.Control.{RuledAfter, control, control_at}
-use Rattle.mt_machine.specs.Access.{is_running, Answered, access, access_at}
-use Rattle.mt_machine.specs.Machine.{IsEnabled, Order, Reached, Steps, after, after_flush, due, has_arrived, has_arrived_again, has_released, is_over, own_step, remaining_order, step, Accesses, FitsOp, is_cancelled, Controls, FitsControl, MachineEvent, next}
+use Rattle.mt_machine.specs.Access.{is_running}
+use Rattle.mt_machine.specs.Machine.{Order, due, has_arrived, has_arrived_again, step}
 use Rattle.mt_machine.specs.Start.{IsStart}
 use Rattle.mt_machine.specs.System.{Processor, System}
 use Rattle.mt_machine.proofs.Rows.{due_row}
-use Rattle.mt_laws.proofs.Barrier.Barriers.{flush_era, step_guarded, step_stages}
-use Rattle.mt_laws.proofs.Barrier.Ranks.{At, Guarded, all_at, at_set, stage_at, is_ahead}
-use Rattle.mt_laws.proofs.Barrier.Stages.{Stage, stage_of, stages_of, access_stages, stages, control_stages}
-use Rattle.mt_laws.proofs.Clearing.Renewed.{AllClear, steps_clear, clear_next}
-use Rattle.mt_laws.proofs.Invariant.Kept.{start_aligned}
-use Rattle.mt_laws.proofs.Invariant.Standing.{reached_standing, start_standing}
-use Rattle.mt_laws.proofs.Registers.Filed.{AllFiled, filed_steps, filed_next}
-use Rattle.mt_bus.specs.Parts.{answered}
+use Rattle.mt_laws.proofs.Barrier.Ranks.{At, at_set, stage_at}
+use Rattle.mt_laws.proofs.Barrier.Stages.{Stage, stage_of, stages_of}
 use Rattle.mt_judge.specs.declared.step.Place.{Place}
 use Rattle.mt_judge.specs.declared.step.Step.{Step}
 use Rattle.mt_judge.specs.declared.step.Step.TheVariants as list
-use Rattle.mt_judge.specs.declared.moves.Outcome.TheVariants.{Accessed}
-use Rattle.mt_judge.specs.Parts.{bus}
-use Rattle.mt_judge.specs.Runs.{Case, State, after as state_after, arrived_at, counted, due_in, due_of, event_in, is_fit, is_open, list_of, may_go, move_of, moved, next_step, place_after, place_of, procedure_order, step_at, step_behind, system_of}
-use Rattle.mt_judge.specs.Steps.{after_step, event_of, passage, accessed, answer_of_step, answer_aside, aside, controlled}
+use Rattle.mt_judge.specs.Dues.{IsDue, is_other_flush}
+use Rattle.mt_judge.specs.Runs.{Case, State, after as state_after, arrived_at, counted, due_in, due_of, event_in, is_fit, is_open, list_of, may_go, move_of, moved, next_step, place_after, place_of, step_at, step_behind, system_of, phase_in}
+use Rattle.mt_judge.specs.Steps.{after_step, event_of, passage, answer_of_step, reloading}
 use Rattle.mt_judge.specs.Wrongs.{fault_of, fault_with}
-use Rattle.mt_judge_laws.specs.Manual.{IsDue, at_rest, is_tlb_flush, machine_of, IsInstruction}
+use Rattle.mt_judge_laws.specs.Manual.{at_rest, IsInstruction}
+use Rattle.mt_judge_laws.proofs.Holding.{Holds, due_alike, due_behind, holds_event, instructs, order_of, stages_are}
 use Rattle.mt_judge_laws.proofs.Counting.{Counts, again, all_pass, all_staged, arrived, counts, era_after, first_after, phase_after, second_after, stage_after}
 use Rattle.mt_judge_laws.proofs.Placing.{IsPlace, Turn, Waits, place_up, turn, two_at_least, Instructs}
-use Rattle.mt_judge_laws.proofs.Since.{AllSince, steps_since, IsPlain, control_since}
-use Rattle.mt_judge_laws.proofs.Accessing.{access_right}
-use Rattle.mt_judge_laws.proofs.Right.{access_since, running_right}
 
 -- ---- lists
 
@@ -65,27 +49,7 @@ set_same [] k x y at = absurd (cc)
 set_same (z ∷ xs) zero x y at = refl
 set_same (z ∷ xs) (suc k) x y at = set_same xs k x y at
 
-abbrev pick_answer : Bool → Answered → Answered → Answered
-pick_answer b x y = if b then x else y
-
-abbrev pick_ruled : Bool → RuledAfter → RuledAfter → RuledAfter
-pick_ruled b x y = if b then x else y
-
--- ---- the stage after an event
-
-own_stage : (goal : RegisterFile) (e : Event) (p : Processor) → stage_of (own_step goal e p) ≡ stage_after e (stage_of p)
-own_stage goal FlushTlb p = λ i. (after_flush p.phase, flush_era p.phase p i)
-own_stage goal other p = refl
-
--- what is due goes by no goal
-due_alike : (f g : RegisterFile) (ps : List Processor) (p : Processor) (ph : Phase) → due (procedure_order f) ps p ph ≡ due (procedure_order g) ps p ph
-due_alike f g ps p Running = refl
-due_alike f g ps p other = refl
-
 -- ---- what holds
-
-abbrev pub order_of : Case → Order
-order_of c = procedure_order c.goal
 
 abbrev pub snoops_at : State → ℕ → Bool
 snoops_at first k = option_map_or (λ p. p.self_snoop) (slice_get first.processors k) false
@@ -105,11 +69,7 @@ abbrev pub AreCounted : Order → List Stage → List ℕ → Type 0
 AreCounted o vs arrivals = (xs : List ℕ) × (arrivals ≡ count_by (arrived o) vs ∷ count_by (again o) vs ∷ xs)
 
 pub record Stands (c : Case) (first s : State) : Type 0 where
-  pub reached : Reached (at_rest c first) (machine_of c s)
-  pub guarded : Guarded (order_of c) (stages_of s.processors)
-  pub clear : AllClear (Some (order_of c)) s.processors
-  pub filed : AllFiled (Some (order_of c)) s.processors
-  pub since : AllSince (order_of c) first.processors s.processors
+  pub holds : Holds c first s.processors s.words
   pub counts : AreCounted (order_of c) (stages_of s.processors) s.arrived
   pub places : AllPlaced c first s
   pub long : length (stages_of s.processors) ≡ length first.processors
@@ -134,27 +94,6 @@ pub record Goes (c : Case) (first s : State) (k : ℕ) : Type 0 where
   pub due_is : IsDue (move_of c s k todo)
   pub right : fault_of s.processors (move_of c s k todo) ≡ None
   pub stands : Stands c first (moved c s k)
-
--- a processor with an event that is due hasn't released
-due_behind : (o : Order) (ps : List Processor) (p : Processor) (e : Event) → (is_running p.phase ≡ false → has_released o p ≡ false) → due o ps p p.phase ≡ Some e → has_released o p ≡ false
-due_behind o ps p e in_step h = by_phase p.phase in_step h
-  where
-    takes : (a b : Bool) → (p.era == o.from_era) ≡ a → (if a && not b then Some Take else None) ≡ Some e → has_released o p ≡ false
-    takes false b is g = absurd (cc)
-    takes true true is g = absurd (cc)
-    takes true false is g = let same = eqb-true p.era o.from_era is in le-ltb o.from_era p.era (omega (arith, same))
-
-    by_phase : (ph : Phase) → (is_running ph ≡ false → has_released o p ≡ false) → due o ps p ph ≡ Some e → has_released o p ≡ false
-    by_phase Running still g = takes (p.era == o.from_era) (is_cancelled o.go) refl g
-    by_phase other still g = still refl
-
--- an update isn't over where a processor hasn't released
-not_over : (c : Case) (ps : List Processor) (k : ℕ) (p : Processor) → slice_get ps k ≡ Some p → has_released (order_of c) p ≡ false → is_over (order_of c) ps ≡ false
-not_over c ps k p at behind = one (list_all (has_released (order_of c)) ps) refl
-  where
-    one : (b : Bool) → list_all (has_released (order_of c)) ps ≡ b → (b || false) ≡ false
-    one true all = absurd (let ahead = all_at (has_released (order_of c)) ps k p all at in cc)
-    one false all = refl
 
 module _ (c : Case) (first : State) (start : IsStart (at_rest c first)) (few : length first.processors ≤ 64) (s : State) (st : Stands c first s) (k : ℕ) (p : Processor)
     (at : slice_get s.processors k ≡ Some p) (todo : Step) (place : Place) (here : slice_get s.places k ≡ Some place) (next_is : slice_get (list_of c k) place.step ≡ Some todo)
@@ -187,6 +126,9 @@ module _ (c : Case) (first : State) (start : IsStart (at_rest c first)) (few : l
       ap (λ (x : Option Processor). option_map_or (due_of s.processors) x None) at
       ∙ due_alike p.file c.goal s.processors p p.phase
 
+  abbrev EventIsDue : Option Event → Type 0
+  EventIsDue x = MatchOption x (is_other_flush (phase_in s.processors k) todo ≡ false) (λ e. due_in s.processors k ≡ Some e)
+
   fault_is : fault_with k todo (move_of c s k todo).outcome p ≡ None → fault_of s.processors (move_of c s k todo) ≡ None
   fault_is none =
       ap (λ (x : Option Processor). option_map_or (fault_with k todo (move_of c s k todo).outcome) x None) at ∙ none
@@ -206,42 +148,20 @@ module _ (c : Case) (first : State) (start : IsStart (at_rest c first)) (few : l
       (counted_is : (a b : ℕ) (xs : List ℕ) → counted todo (a ∷ b ∷ xs) ≡ first_after e a ∷ second_after e b ∷ xs)
       (after_is : IsPlace (length first.processors) (length (writable c.goal)) rest p.self_snoop (arrived_at s.arrived 1) (phase_after e p.phase) (nat_lt 0 (era_after e p.era))
       (drop (place_after place todo (Some e) (length (writable c.goal))).step (list_of c k)) (place_after place todo (Some e) (length (writable c.goal))).part) where
-    behind : nat_lt 0 p.era ≡ false
-    behind = due_behind (order_of c) s.processors p e (st.guarded.in_step k (stage_of p) here_stage) now_due
-
     abbrev to : System
     to = step c.goal e k (system_of c s)
 
     abbrev staged : List Stage
     staged = set (stages_of s.processors) k (stage_after e (stage_of p))
 
-    stages_are : stages_of to.processors ≡ staged
-    stages_are = step_stages c.goal e k (system_of c s) p at ∙ ap (set (stages_of s.processors) k) (own_stage c.goal e p)
+    staged_is : stages_of to.processors ≡ staged
+    staged_is = stages_are c first start s st.holds k p at e now_due
 
     counts_are : Counts (order_of c) (stages_of s.processors) k e (stage_of p)
     counts_are =
         let long = st.long in
-        counts (order_of c) (stages_of s.processors) k p.era (omega (arith, long, few)) behind later e p.phase (due_row (order_of c) s.processors p p.phase e now_due) stays here_stage
-
-    reaches : Reached (at_rest c first) (record { system = to; order = remaining_order (order_of c) to.processors })
-    reaches =
-        let lasts : remaining_order (order_of c) s.processors ≡ Some (order_of c) =
-        ap (λ (b : Bool). if b then None else Some (order_of c)) (not_over c s.processors k p at behind) in
-        let under_way : Reached (at_rest c first) (record { system = system_of c s; order = Some (order_of c) }) =
-        subst (λ (o : Option Order). Reached (at_rest c first) (record { system = system_of c s; order = o })) lasts st.reached in
-        let enabled : IsEnabled (record { system = system_of c s; order = Some (order_of c) }) (Steps k e) =
-        ap (λ (x : Option Processor). option_map_or (λ q. due (order_of c) s.processors q q.phase) x None) at ∙ now_due in
-        after (Steps k e) under_way enabled
-
-    windows_are : to.memory.windows ≡ c.layout.windows
-    windows_are = (reached_standing c.layout.windows (start_aligned (at_rest c first) start) reaches (start_standing (at_rest c first) start)).agrees.stands.memory.windows
-
-    -- the system of the state behind is the machine's
-    system_is : to ≡ bus c.layout to.processors to.memory.words
-    system_is = λ i. record { processors = to.processors; memory = record { windows = windows_are i; words = to.memory.words } }
-
-    reaches_state : Reached (at_rest c first) (machine_of c (built c s k todo place (Some e)))
-    reaches_state = subst (λ (t : System). Reached (at_rest c first) (record { system = t; order = remaining_order (order_of c) to.processors })) system_is reaches
+        counts (order_of c) (stages_of s.processors) k p.era (omega (arith, long, few)) (due_behind (order_of c) s.processors p e (st.holds.guarded.in_step k (stage_of p) here_stage) now_due) later
+        e p.phase (due_row (order_of c) s.processors p p.phase e now_due) stays here_stage
 
     counts_to : AreCounted (order_of c) (stages_of to.processors) (counted todo s.arrived)
     counts_to = (
@@ -249,14 +169,14 @@ module _ (c : Case) (first : State) (start : IsStart (at_rest c first)) (few : l
       ap (counted todo) st.counts.1
           ∙ counted_is (count_by (arrived (order_of c)) (stages_of s.processors)) (count_by (again (order_of c)) (stages_of s.processors)) st.counts.0
           ∙ (λ i. counts_are.first i ∷ counts_are.second i ∷ st.counts.0)
-          ∙ ap (λ (vs : List Stage). count_by (arrived (order_of c)) vs ∷ count_by (again (order_of c)) vs ∷ st.counts.0) (sym stages_are),
+          ∙ ap (λ (vs : List Stage). count_by (arrived (order_of c)) vs ∷ count_by (again (order_of c)) vs ∷ st.counts.0) (sym staged_is),
     )
 
     up : arrived_at s.arrived 1 ≤ arrived_at (counted todo s.arrived) 1
     up =
         let was : arrived_at s.arrived 1 ≡ count_by (again (order_of c)) (stages_of s.processors) = ap (λ (xs : List ℕ). arrived_at xs 1) st.counts.1 in
         let is_now : arrived_at (counted todo s.arrived) 1 ≡ count_by (again (order_of c)) (stages_of to.processors) = ap (λ (xs : List ℕ). arrived_at xs 1) counts_to.1 in
-        let same : count_by (again (order_of c)) (stages_of to.processors) ≡ count_by (again (order_of c)) staged = ap (count_by (again (order_of c))) stages_are in
+        let same : count_by (again (order_of c)) (stages_of to.processors) ≡ count_by (again (order_of c)) staged = ap (count_by (again (order_of c))) staged_is in
         let more = counts_are.up in
         omega (arith, was, is_now, same, more)
 
@@ -277,7 +197,7 @@ module _ (c : Case) (first : State) (start : IsStart (at_rest c first)) (few : l
 
     places_to : AllPlaced c first (built c s k todo place (Some e))
     places_to j x at_x =
-        let there : At staged j x = subst (λ (vs : List Stage). At vs j x) stages_are at_x in
+        let there : At staged j x = subst (λ (vs : List Stage). At vs j x) staged_is at_x in
         ⊎_elim
         (λ (h : (j ≡ k) × (slice_get (set s.places k place') j ≡ Some place')).
         let own : At staged k x = subst (λ (i : ℕ). At staged i x) h.0 there in
@@ -302,21 +222,17 @@ module _ (c : Case) (first : State) (start : IsStart (at_rest c first)) (few : l
 
     pub stands_to : Stands c first (built c s k todo place (Some e))
     stands_to = record {
-      reached = reaches_state;
-      guarded = step_guarded (order_of c) e k (system_of c s) p at now_due st.guarded;
-      clear = steps_clear (order_of c) (system_of c s) k p at st.guarded st.clear p.phase e refl now_due;
-      filed = filed_steps (order_of c) e k (system_of c s) p at now_due st.guarded st.filed;
-      since = steps_since (order_of c) first.processors e k (system_of c s) p at now_due st.guarded st.clear st.since;
+      holds = holds_event c first start s st.holds k p at e now_due;
       counts = counts_to;
       places = places_to;
-      long = ap length stages_are ∙ length-set (stages_of s.processors) k (stage_after e (stage_of p)) ∙ st.long;
+      long = ap length staged_is ∙ length-set (stages_of s.processors) k (stage_after e (stage_of p)) ∙ st.long;
     }
 
   turned : TurnHere → Goes c first s k
   turned t = record {
     todo = todo;
     is = is;
-    due_is = subst (λ (x : Option Event). MatchOption x (is_tlb_flush todo ≡ false) (λ e. due_in s.processors k ≡ Some e)) (sym (event_is (Some t.event) t.is)) (due_is ∙ t.due_is);
+    due_is = inr (subst EventIsDue (sym (event_is (Some t.event) t.is)) (due_is ∙ t.due_is));
     right = fault_is (t.right k (move_of c s k todo).outcome p);
     stands = subst (Stands c first) (sym (moved_is (Some t.event) t.is)) (stands_to t.event t.is t.due_is t.stays t.counts t.place);
   }
@@ -352,11 +268,7 @@ module _ (c : Case) (first : State) (start : IsStart (at_rest c first)) (few : l
       let none : event_of todo place.part p ≡ None = ap (λ (t : Step). event_of t place.part p) w.is ∙ ap passage w.phase in
       let stands : Stands c first behind_wait =
       record {
-        reached = st.reached;
-        guarded = st.guarded;
-        clear = st.clear;
-        filed = st.filed;
-        since = st.since;
+        holds = st.holds;
         counts = st.counts;
         places = waited_places w.left w.full w.phase;
         long = st.long;
@@ -364,57 +276,62 @@ module _ (c : Case) (first : State) (start : IsStart (at_rest c first)) (few : l
       record {
         todo = todo;
         is = is;
-        due_is = subst (λ (x : Option Event). MatchOption x (is_tlb_flush todo ≡ false) (λ e. due_in s.processors k ≡ Some e)) (sym (event_is None none)) (ap is_tlb_flush w.is);
+        due_is = inr (subst EventIsDue (sym (event_is None none)) (ap (is_other_flush (phase_in s.processors k)) w.is));
         right = fault_is (ap (λ (t : Step). fault_with k t (move_of c s k todo).outcome p) w.is);
         stands = subst (Stands c first) (sym (moved_is None none ∙ ap (λ (t : Step). built c s k t place None) w.is)) stands;
       }
 
-  -- ---- an instruction of a processor that runs, which is no event of an update
+  -- ---- an instruction of a processor that runs
 
-  module _ (runs : p.phase ≡ Running)
-      (after_is : IsPlace (length first.processors) (length (writable c.goal)) rest p.self_snoop (arrived_at s.arrived 1) Running (nat_lt 0 p.era) (drop (place.step + 1) (list_of c k)) 0) where
-    running : is_running p.phase ≡ true
-    running = ap is_running runs
+  -- it is no event of an update, and the next step follows it
+  pub record IsAside (t : Step) : Type 0 where
+    pub no_event : event_of t place.part p ≡ None
+    pub no_flush : is_other_flush p.phase t ≡ false
+    pub goes_on : place_after place t None (length (writable c.goal)) ≡ step_behind place
+    pub counts_none : counted t s.arrived ≡ s.arrived
 
-    abbrev before : System
-    before = system_of c s
+  asides : p.phase ≡ Running → (t : Step) → IsInstruction t → IsAside t
+  asides runs (list.Access op) fits = record { no_event = refl; no_flush = refl; goes_on = refl; counts_none = refl }
+  asides runs list.ReloadCr3 fits =
+      record { no_event = ap (λ (ph : Phase). reloading ph p.page_global) runs; no_flush = ap (λ (ph : Phase). not (is_running ph)) runs; goes_on = refl; counts_none = refl }
+  asides runs (list.Invlpg address) fits = record { no_event = refl; no_flush = refl; goes_on = refl; counts_none = refl }
+  asides runs (list.Pge on) fits = record { no_event = refl; no_flush = refl; goes_on = refl; counts_none = refl }
+  asides runs (list.Cd on) fits = record { no_event = refl; no_flush = refl; goes_on = refl; counts_none = refl }
+  asides runs other fits = absurd fits
 
-    -- an event that leaves this system, stages and the rest that is kept
-    module _ (to : System) (e : MachineEvent) (enabled : IsEnabled (machine_of c s) e) (next_to : next (machine_of c s) e ≡ record (machine_of c s) { system = to }) (same_stages : stages_of to.processors ≡ stages_of s.processors)
-        (clear : AllClear (Some (order_of c)) to.processors) (filed : AllFiled (Some (order_of c)) to.processors) (since : AllSince (order_of c) first.processors to.processors)
-        (no_event : event_of todo place.part p ≡ None) (no_flush : is_tlb_flush todo ≡ false) (aside_is : aside todo k before ≡ to) (goes_on : place_after place todo None (length (writable c.goal)) ≡ step_behind place)
-        (counts_none : counted todo s.arrived ≡ s.arrived) (right : fault_with k todo (answer_aside todo k before) p ≡ None) where
-      same_order : remaining_order (order_of c) s.processors ≡ remaining_order (order_of c) to.processors
-      same_order =
-          let all_same : list_all (has_released (order_of c)) s.processors ≡ list_all (has_released (order_of c)) to.processors =
-          all_staged (is_ahead (order_of c)) s.processors ∙ ap (list_all (is_ahead (order_of c))) (sym same_stages) ∙ sym (all_staged (is_ahead (order_of c)) to.processors) in
-          ap (λ (b : Bool). if b || false then None else Some (order_of c)) all_same
-
-      reaches_to : Reached (at_rest c first) (record { system = to; order = remaining_order (order_of c) to.processors })
-      reaches_to =
-          subst (λ (o : Option Order). Reached (at_rest c first) (record { system = to; order = o })) same_order
-          (subst (Reached (at_rest c first)) next_to (after e st.reached enabled))
-
-      same_windows : to.memory.windows ≡ c.layout.windows
-      same_windows = (reached_standing c.layout.windows (start_aligned (at_rest c first) start) reaches_to (start_standing (at_rest c first) start)).agrees.stands.memory.windows
-
-      same_system : to ≡ bus c.layout to.processors to.memory.words
-      same_system = λ i. record { processors = to.processors; memory = record { windows = same_windows i; words = to.memory.words } }
-
-      abbrev behind_it : State
-      behind_it = record { processors = to.processors; words = to.memory.words; places = slice_set s.places k (step_behind place); arrived = s.arrived }
-
-      built_is : built c s k todo place None ≡ behind_it
-      built_is = λ i. record { processors = (aside_is i).processors; words = (aside_is i).memory.words; places = slice_set s.places k (goes_on i); arrived = counts_none i }
-
-      places_behind : AllPlaced c first behind_it
-      places_behind j x at_x =
+  instructed : InstructsHere → Goes c first s k
+  instructed w =
+      let a = asides w.phase todo w.fit in
+      let i = instructs c first start s st.holds k p at w.phase todo w.fit in
+      let behind_it : State = record { processors = i.to.processors; words = i.to.memory.words; places = slice_set s.places k (step_behind place); arrived = s.arrived } in
+      let built_is : built c s k todo place None ≡ behind_it =
+      λ d. record { processors = (i.is d).processors; words = (i.is d).memory.words; places = slice_set s.places k (a.goes_on d); arrived = a.counts_none d } in
+      record {
+        todo = todo;
+        is = is;
+        due_is = inr (subst EventIsDue (sym (event_is None a.no_event)) (ap (λ (x : Option Processor). is_other_flush (option_map_or (λ q. q.phase) x Running) todo) at ∙ a.no_flush));
+        right = fault_is (ap (λ (x : Option Event). fault_with k todo (answer_of_step x todo k (system_of c s)) p) (event_is None a.no_event) ∙ i.right);
+        stands = subst (Stands c first) (sym (moved_is None a.no_event ∙ built_is))
+            (record {
+              holds = i.holds;
+              counts = subst (λ (vs : List Stage). AreCounted (order_of c) vs s.arrived) (sym i.same_stages) st.counts;
+              places = places_behind i.to w.phase w.place i.same_stages;
+              long = ap length i.same_stages ∙ st.long;
+            });
+      }
+    where
+      places_behind : (to : System) → p.phase ≡ Running
+          → IsPlace (length first.processors) (length (writable c.goal)) rest p.self_snoop (arrived_at s.arrived 1) Running (nat_lt 0 p.era) (drop (place.step + 1) (list_of c k)) 0
+          → stages_of to.processors ≡ stages_of s.processors
+          → AllPlaced c first (record { processors = to.processors; words = to.memory.words; places = slice_set s.places k (step_behind place); arrived = s.arrived })
+      places_behind to runs after_is same_stages j x at_x =
+          let next_state : State = record { processors = to.processors; words = to.memory.words; places = slice_set s.places k (step_behind place); arrived = s.arrived } in
           let there : At (stages_of s.processors) j x = subst (λ (vs : List Stage). At vs j x) same_stages at_x in
           ⊎_elim
           (λ (h : (j ≡ k) × (slice_get (set s.places k (step_behind place)) j ≡ Some (step_behind place))).
           let own : At (stages_of s.processors) k x = subst (λ (i : ℕ). At (stages_of s.processors) i x) h.0 there in
           let same : (Running, p.era) ≡ x = let i : Some (stage_of p) ≡ Some x = sym here_stage ∙ own in (λ i. (sym runs i, p.era)) ∙ (let e : stage_of p ≡ x = cc in e) in
-          let here_now : PlaceOf c first behind_it k (Running, p.era) =
+          let here_now : PlaceOf c first next_state k (Running, p.era) =
           record {
             behind = rest;
             fit = fit;
@@ -422,93 +339,15 @@ module _ (c : Case) (first : State) (start : IsStart (at_rest c first)) (few : l
             here = set_same s.places k place (step_behind place) here;
             is = subst (λ (b : Bool). IsPlace (length first.processors) (length (writable c.goal)) rest b (arrived_at s.arrived 1) Running (nat_lt 0 p.era) (drop (place.step + 1) (list_of c k)) 0) (sym snoops) after_is;
           } in
-          subst (λ (i : ℕ). PlaceOf c first behind_it i x) (sym h.0) (subst (λ (y : Stage). PlaceOf c first behind_it k y) same here_now))
+          subst (λ (i : ℕ). PlaceOf c first next_state i x) (sym h.0) (subst (λ (y : Stage). PlaceOf c first next_state k y) same here_now))
           (λ (h : (j ≢ k) × (slice_get (set s.places k (step_behind place)) j ≡ slice_get s.places j)).
           let q = st.places j x there in
-          let r : PlaceOf c first behind_it j x = record { behind = q.behind; fit = q.fit; place = q.place; here = h.1 ∙ q.here; is = q.is } in r)
+          let r : PlaceOf c first next_state j x = record { behind = q.behind; fit = q.fit; place = q.place; here = h.1 ∙ q.here; is = q.is } in r)
           (set_get s.places k place (step_behind place) j here)
-
-      stands_behind : Stands c first behind_it
-      stands_behind = record {
-        reached = subst (λ (t : System). Reached (at_rest c first) (record { system = t; order = remaining_order (order_of c) to.processors })) same_system reaches_to;
-        guarded = subst (Guarded (order_of c)) (sym same_stages) st.guarded;
-        clear = clear;
-        filed = filed;
-        since = since;
-        counts = subst (λ (vs : List Stage). AreCounted (order_of c) vs s.arrived) (sym same_stages) st.counts;
-        places = places_behind;
-        long = ap length same_stages ∙ st.long;
-      }
-
-      instructed : Goes c first s k
-      instructed = record {
-        todo = todo;
-        is = is;
-        due_is = subst (λ (x : Option Event). MatchOption x (is_tlb_flush todo ≡ false) (λ e. due_in s.processors k ≡ Some e)) (sym (event_is None no_event)) no_flush;
-        right = fault_is (ap (λ (x : Option Event). fault_with k todo (answer_of_step x todo k before) p) (event_is None no_event) ∙ right);
-        stands = subst (Stands c first) (sym (moved_is None no_event ∙ built_is)) stands_behind;
-      }
-
-    runs_at : option_map_or (λ (q : Processor). is_running q.phase) (slice_get s.processors k) false ≡ true
-    runs_at = ap (λ (x : Option Processor). option_map_or (λ q. is_running q.phase) x false) at ∙ running
-
-    accesses : (op : Op) → todo ≡ list.Access op → FitsOp op → Goes c first s k
-    accesses op todo_is fits =
-        let done : Answered = access_at before k p op in
-        let access_is : (access before k op).after ≡ done.after =
-        ap (λ (x : Option Processor). (option_map_or (λ q. if is_running q.phase then access_at before k q op else record { answer = Busy; after = before }) x (record { answer = Busy; after = before })).after) at
-        ∙ ap (λ (b : Bool). (pick_answer b done (record { answer = Busy; after = before })).after) running in
-        let accessed_is : accessed op k before ≡ done = ap (λ (x : Option Processor). option_map_or (λ q. access_at before k q op) x (answered Busy before)) at in
-        let same_stages : stages_of done.after.processors ≡ stages_of s.processors = ap stages (sym access_is) ∙ access_stages before k op in
-        instructed done.after (Accesses k op) (runs_at, fits) (ap (λ (t : System). record (machine_of c s) { system = t }) access_is) same_stages
-        (subst (λ (t : System). AllClear (Some (order_of c)) t.processors) access_is (clear_next (Accesses k op) before (Some (order_of c)) (runs_at, fits) st.guarded st.clear))
-        (subst (λ (t : System). AllFiled (Some (order_of c)) t.processors) access_is (filed_next (Accesses k op) before (Some (order_of c)) (runs_at, fits) st.guarded st.filed))
-        (access_since (order_of c) first.processors s.processors st.guarded st.clear st.since before.memory k p op at running same_stages)
-        (ap (λ (t : Step). event_of t place.part p) todo_is)
-        (ap is_tlb_flush todo_is)
-        (ap (λ (t : Step). aside t k before) todo_is ∙ ap (λ (x : Answered). x.after) accessed_is)
-        (ap (λ (t : Step). place_after place t None (length (writable c.goal))) todo_is)
-        (ap (λ (t : Step). counted t s.arrived) todo_is)
-        (ap (λ (t : Step). fault_with k t (answer_aside t k before) p) todo_is
-        ∙ ap (λ (x : Answered). fault_with k (list.Access op) (Accessed x.answer) p) accessed_is
-        ∙ access_right k k p (running_right (order_of c) first.processors s.processors st.guarded st.clear st.since k p at running) before op)
-
-    controls : (ctl : Control) → IsPlain ctl → ((q : Processor) → FitsControl q ctl) → event_of todo place.part p ≡ None → is_tlb_flush todo ≡ false → aside todo k before ≡ controlled ctl k before
-        → place_after place todo None (length (writable c.goal)) ≡ step_behind place → counted todo s.arrived ≡ s.arrived → fault_with k todo (answer_aside todo k before) p ≡ None → Goes c first s k
-    controls ctl plain fits no_event no_flush aside_is goes_on counts_none right =
-        let done : RuledAfter = control_at before k p ctl in
-        let control_is : (control before k ctl).after ≡ done.after =
-        ap (λ (x : Option Processor). (option_map_or (λ q. if is_running q.phase then control_at before k q ctl else record { answer = RuledBusy; after = before }) x (record { answer = RuledBusy; after = before })).after) at
-        ∙ ap (λ (b : Bool). (pick_ruled b done (record { answer = RuledBusy; after = before })).after) running in
-        let controlled_is : controlled ctl k before ≡ done.after = ap (λ (x : Option Processor). option_map_or (λ q. (control_at before k q ctl).after) x before) at in
-        let same_stages : stages_of done.after.processors ≡ stages_of s.processors = ap stages (sym control_is) ∙ control_stages before k ctl in
-        instructed done.after (Controls k ctl) (runs_at, λ q at_q. fits q) (ap (λ (t : System). record (machine_of c s) { system = t }) control_is) same_stages
-        (subst (λ (t : System). AllClear (Some (order_of c)) t.processors) control_is (clear_next (Controls k ctl) before (Some (order_of c)) (runs_at, λ q at_q. fits q) st.guarded st.clear))
-        (subst (λ (t : System). AllFiled (Some (order_of c)) t.processors) control_is (filed_next (Controls k ctl) before (Some (order_of c)) (runs_at, λ q at_q. fits q) st.guarded st.filed))
-        (control_since (order_of c) first.processors before k p ctl plain at running st.since)
-        no_event no_flush (aside_is ∙ controlled_is) goes_on counts_none right
-
-    plain_control : (ctl : Control) → IsPlain ctl → ((q : Processor) → FitsControl q ctl) → (t : Step) → todo ≡ t → event_of t place.part p ≡ None → is_tlb_flush t ≡ false → aside t k before ≡ controlled ctl k before
-        → place_after place t None (length (writable c.goal)) ≡ step_behind place → counted t s.arrived ≡ s.arrived → fault_with k t (answer_aside t k before) p ≡ None → Goes c first s k
-    plain_control ctl plain fits t todo_is no_event no_flush aside_is goes_on counts_none right =
-        controls ctl plain fits
-        (ap (λ (u : Step). event_of u place.part p) todo_is ∙ no_event)
-        (ap is_tlb_flush todo_is ∙ no_flush)
-        (ap (λ (u : Step). aside u k before) todo_is ∙ aside_is)
-        (ap (λ (u : Step). place_after place u None (length (writable c.goal))) todo_is ∙ goes_on)
-        (ap (λ (u : Step). counted u s.arrived) todo_is ∙ counts_none)
-        (ap (λ (u : Step). fault_with k u (answer_aside u k before) p) todo_is ∙ right)
-
-    by_step : (t : Step) → todo ≡ t → IsInstruction t → Goes c first s k
-    by_step (list.Access op) todo_is fits = accesses op todo_is fits
-    by_step (list.Invlpg address) todo_is fits = plain_control (Invlpg address) tt (λ q. tt) (list.Invlpg address) todo_is refl refl refl refl refl refl
-    by_step (list.Pge on) todo_is fits = plain_control (Pge on) tt (λ q. tt) (list.Pge on) todo_is refl refl refl refl refl refl
-    by_step (list.Cd on) todo_is fits = plain_control (Cd on) tt (λ q. tt) (list.Cd on) todo_is refl refl refl refl refl refl
-    by_step other todo_is fits = absurd fits
 
   pub goes_here : length (writable p.file) ≡ length (writable c.goal) → Goes c first s k
   goes_here registers =
-      ⊎_elim turned (λ (other : WaitsHere ⊎ InstructsHere). ⊎_elim waited (λ (a : InstructsHere). by_step a.phase a.place todo refl a.fit) other)
+      ⊎_elim turned (λ (other : WaitsHere ⊎ InstructsHere). ⊎_elim waited instructed other)
       (turn c.goal s.processors (length first.processors) (length (writable c.goal)) rest fit (list_of c k) place p todo s.arrived next_is registers (two_at_least c.goal) opened first_open second_open later
       p.phase (nat_lt 0 p.era) refl refl placed)
     where
@@ -528,11 +367,11 @@ module _ (c : Case) (first : State) (start : IsStart (at_rest c first)) (few : l
 
 module _ (c : Case) (first : State) (start : IsStart (at_rest c first)) (few : length first.processors ≤ 64) (s : State) (st : Stands c first s) (k : ℕ) where
   registers_are : (p : Processor) → slice_get s.processors k ≡ Some p → length (writable p.file) ≡ length (writable c.goal)
-  registers_are p at = ap (λ (cap : ℕ). length (writable (record c.goal { capabilities = cap }))) (st.filed.1 k p at).alike.capabilities
+  registers_are p at = ap (λ (cap : ℕ). length (writable (record c.goal { capabilities = cap }))) (st.holds.filed.1 k p at).alike.capabilities
 
   snoops_are : (p : Processor) → slice_get s.processors k ≡ Some p → snoops_at first k ≡ p.self_snoop
   snoops_are p at =
-      let f = st.since k p at in
+      let f = st.holds.since k p at in
       ap (λ (x : Option Processor). option_map_or (λ (q : Processor). q.self_snoop) x false) f.1 ∙ sym f.2.self_snoop
 
   -- where the processor is in its list

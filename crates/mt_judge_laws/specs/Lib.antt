@@ -1,2 +1,3 @@
 pub mod Manual
+pub mod Orderly
 pub mod WorkedManual

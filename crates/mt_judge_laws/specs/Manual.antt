@@ -1,18 +1,18 @@
 -- The manual's own procedure as a list of steps, the starts of it, and what is proved of each of its runs (own).
 -- Intel SDM volume 3A, chapter Memory Cache Control, section "MTRR Considerations in MP Systems".
-use Rattle.std.specs.Prelude.{◌≡◌, ◌⊎◌, ℕ, ◌≤◌, Bool, true, false, List, [], ◌∷◌, ◌++◌, length, replicate, slice_get, None, Some, MatchOption}
+use Rattle.std.specs.Prelude.{◌≡◌, ◌⊎◌, ℕ, ◌≤◌, Bool, true, false, List, [], ◌∷◌, ◌++◌, length, replicate, slice_get, None, Some}
 use Rattle.std.specs.List.{All}
 use Rattle.mt_machine.specs.Machine.{Calls, FitsOp, IsEnabled, Machine, Reached, remaining_order}
 use Rattle.mt_machine.specs.Start.{IsQuiet}
 use Rattle.mt_machine.specs.System.{Processor}
-use Rattle.mt_judge.specs.declared.moves.Move.{Move}
 use Rattle.mt_judge.specs.declared.search.Found.{Found}
 use Rattle.mt_judge.specs.declared.search.Found.TheVariants as found
 use Rattle.mt_judge.specs.declared.step.Place.{Place}
 use Rattle.mt_judge.specs.declared.step.Step.{Step}
 use Rattle.mt_judge.specs.declared.step.Step.TheVariants as list
-use Rattle.mt_judge.specs.Runs.{Case, IsRun, State, list_of, next_move, procedure_order, run, system_of}
-use Rattle.mt_judge.specs.Searches.{AreAllFine, IsFound, has_wrong}
+use Rattle.mt_judge.specs.Runs.{Case, IsRun, State, list_of, procedure_order, run, system_of}
+use Rattle.mt_judge.specs.Searches.{IsFound, has_wrong}
+use Rattle.mt_judge.specs.Verdicts.{IsRight}
 
 -- ---- the list
 
@@ -34,6 +34,7 @@ manual_list count self_snoop = list.Interrupt ∷ list.ArriveAt 0 ∷ list.WaitA
 -- an access or a control instruction of a processor that runs
 abbrev pub IsInstruction : Step → Type 0
 IsInstruction (list.Access op) = FitsOp op
+IsInstruction list.ReloadCr3 = Unit {0}
 IsInstruction (list.Invlpg address) = Unit {0}
 IsInstruction (list.Pge on) = Unit {0}
 IsInstruction (list.Cd on) = Unit {0}
@@ -60,15 +61,18 @@ pub record IsRightStart (c : Case) (s : State) : Type 0 where
   pub quiet : IsQuiet (at_rest c s)
   pub first : All (λ p. p.era ≡ 0) s.processors
   pub right : has_wrong s ≡ false
-  pub places : s.places ≡ replicate (length s.processors) first_place
-  pub arrived : s.arrived ≡ replicate 8 0
 
--- each of at most 64 processors has the manual's list, for a goal for which an update may be called
+-- the machine may call an update to the goal
+abbrev pub MayCall : Case → State → Type 0
+MayCall c s = IsEnabled (at_rest c s) (Calls c.goal)
+
+-- each of at most 64 processors is at the beginning of the manual's list
 pub record IsManual (c : Case) (s : State) : Type 0 where
   pub few : length s.processors ≤ 64
-  pub goal : IsEnabled (at_rest c s) (Calls c.goal)
-  pub one_each : length c.lists ≡ length s.processors
+  pub goal : MayCall c s
   pub lists : (k : ℕ) (p : Processor) → slice_get s.processors k ≡ Some p → IsManualList (length s.processors) p.self_snoop (list_of c k)
+  pub places : s.places ≡ replicate (length s.processors) first_place
+  pub arrived : s.arrived ≡ replicate 8 0
 
 -- ---- the laws
 
@@ -76,27 +80,17 @@ pub record IsManual (c : Case) (s : State) : Type 0 where
 abbrev pub machine_of : Case → State → Machine
 machine_of c s = record { system = system_of c s; order = remaining_order (procedure_order c.goal) s.processors }
 
+-- the run's state is the machine's
+abbrev pub IsMachines : Case → State → State → Type 0
+IsMachines c s t = Reached (at_rest c s) (machine_of c t)
+
 -- each run of the lists is a run of the machine
 abbrev pub RunsAreTheMachines : Type 0
-RunsAreTheMachines = (c : Case) (s : State) (ks : List ℕ) → IsRightStart c s → IsManual c s → IsRun c s ks → Reached (at_rest c s) (machine_of c (run c s ks))
+RunsAreTheMachines = (c : Case) (s : State) (ks : List ℕ) → IsRightStart c s → IsManual c s → IsRun c s ks → IsMachines c s (run c s ks)
 
-abbrev pub is_tlb_flush : Step → Bool
-is_tlb_flush list.ClearPge = true
-is_tlb_flush list.ReloadCr3 = true
-is_tlb_flush other = false
-
--- a step that is an event is the one that is due, and one that is none is no flush of the TLB
-abbrev pub IsDue : Move → Type 0
-IsDue m = MatchOption m.event (is_tlb_flush m.step ≡ false) (λ e. m.due ≡ Some e)
-
-abbrev pub StepsAreDue : Type 0
-StepsAreDue =
-    (c : Case) (s : State) (ks : List ℕ) (k : ℕ) (m : Move) → IsRightStart c s → IsManual c s → IsRun c s ks → next_move c (run c s ks) k ≡ Some m
-    → IsDue m
-
--- nothing is wrong in the state after a run, nor with a step from it, and some processor may go unless all lists have ended
+-- in every interleaving nothing is wrong, each step is due, and no list ends in the midst of the update
 abbrev pub NothingGoesWrong : Type 0
-NothingGoesWrong = (c : Case) (s : State) → IsRightStart c s → IsManual c s → AreAllFine c s
+NothingGoesWrong = (c : Case) (s : State) → IsRightStart c s → IsManual c s → IsRight c s
 
 -- so a search finds nothing, unless it stops
 abbrev pub SearchesFindNothing : Type 0

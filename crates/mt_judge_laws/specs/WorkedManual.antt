@@ -1,14 +1,14 @@
 -- A start of the manual's lists for instances (own): two processors, of which the second is self-snooping, and a dirty line of a WB page.
 -- The first one loads from the page and sets PGE behind its release, and the second loads before its interrupt.
 use Rattle.std.specs.Prelude.{false, true, List, [], ◌∷◌, ◌++◌, replicate, Option}
-use Rattle.mt_machine.specs.declared.op.Op.TheVariants.{Load}
+use Rattle.mt_machine.specs.declared.phase.Phase.{Phase}
 use Rattle.mt_machine.specs.declared.event.Event.{Event}
-use Rattle.mt_machine.specs.declared.phase.Phase.TheVariants.{Restored}
+use Rattle.mt_machine.specs.declared.op.Op.TheVariants.{Load}
 use Rattle.mt_machine.specs.Start.{zero_memory}
 use Rattle.mt_machine.specs.System.{Processor}
-use Rattle.mt_judge.specs.declared.step.Step.TheVariants.{Access, Pge}
-use Rattle.mt_judge.specs.declared.moves.Move.{Move}
 use Rattle.mt_judge.specs.declared.moves.Outcome.TheVariants.{Nothing}
+use Rattle.mt_judge.specs.declared.moves.Move.{Move}
+use Rattle.mt_judge.specs.declared.step.Step.TheVariants.{Access, Pge}
 use Rattle.mt_judge.specs.declared.step.Step.{Step}
 use Rattle.mt_judge.specs.Runs.{Case, State}
 use Rattle.mt_judge.specs.WorkedWrongs.{dirty_line, mapped, registers, with_line}
@@ -48,6 +48,6 @@ started ps = record {
 abbrev pub two_started : State
 two_started = started two_processors
 
--- a step of processor 0, the event that it is, and the one that is due
-abbrev pub move : Step → Option Event → Option Event → Move
-move todo event due = record { cpu = 0; phase = Restored; step = todo; event = event; due = due; outcome = Nothing }
+-- a step of processor 0 in this phase, the event that it is, and the one that is due
+abbrev pub move : Phase → Step → Option Event → Option Event → Move
+move phase todo event due = record { cpu = 0; phase = phase; step = todo; event = event; due = due; outcome = Nothing }

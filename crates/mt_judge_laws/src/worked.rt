@@ -1,11 +1,12 @@
 // Instances of what the laws require, and of what fails in one part.
 ghost use Rattle.std.specs.Prelude.{◌≡◌, [], ◌∷◌, false, true, None, Some, replicate};
 ghost use Rattle.mt_judge.specs.WorkedWrongs.{dirty_line, mapped, registers, with_line};
-ghost use Rattle.mt_judge.specs.declared.step.Step.TheVariants.{Access, ArriveAt, ReloadCr3, WaitAt};
+ghost use Rattle.mt_judge.specs.declared.step.Step.TheVariants.{Access, ArriveAt, ClearPge, WaitAt};
 ghost use Rattle.mt_machine.specs.declared.op.Op.TheVariants.{Load};
-ghost use Rattle.mt_machine.specs.declared.event.Event.TheVariants.{ArriveAgain, RestorePge};
-ghost use Rattle.mt_machine.specs.declared.phase.Phase.TheVariants.{Taken};
-ghost use Rattle.mt_judge_laws.specs.Manual.{IsDue, IsManual, IsManualList, IsRightStart, first_place};
+ghost use Rattle.mt_machine.specs.declared.event.Event.TheVariants.{ArriveAgain, RestorePge, Take};
+ghost use Rattle.mt_machine.specs.declared.phase.Phase.TheVariants.{Arrived2, Restored, Running, Taken};
+ghost use Rattle.mt_judge_laws.specs.Manual.{IsManual, IsManualList, IsRightStart, first_place};
+ghost use Rattle.mt_judge_laws.specs.Orderly.{AreOrderly, IsOrderly};
 ghost use Rattle.mt_judge_laws.specs.WorkedManual.{first_list, move, odd_before, odd_behind, second_list, started, two_lists, two_started, with_lists};
 
 /// A right start of two processors, and what isn't one for one thing.
@@ -14,8 +15,6 @@ pub fn worked_right_starts()
     ensures taken { IsRightStart two_lists (started (record (mapped 0x806) { phase = Taken } ∷ mapped 0x806 ∷ [])) → ⊥ }
     ensures finished { IsRightStart two_lists (started (record (mapped 0x806) { era = 1 } ∷ record (mapped 0x806) { era = 1 } ∷ [])) → ⊥ }
     ensures stale { IsRightStart two_lists (started (with_line dirty_line (mapped 0x800) ∷ mapped 0x800 ∷ [])) → ⊥ }
-    ensures past_a_step { IsRightStart two_lists (record two_started { places = record first_place { step = 1 } ∷ first_place ∷ [] }) → ⊥ }
-    ensures arrived { IsRightStart two_lists (record two_started { arrived = replicate 8 1 }) → ⊥ }
 {}
 
 /// The manual's list of a processor with instructions around it, and what isn't one for one thing.
@@ -32,14 +31,23 @@ pub fn worked_manual_lists()
     ensures manual { IsManual two_lists two_started }
     ensures too_many { IsManual two_lists (started (replicate 65 (mapped 0x806))) → ⊥ }
     ensures other_kind { IsManual (record two_lists { goal = record (registers 0x800) { width = 40 } }) two_started → ⊥ }
-    ensures one_more { IsManual (with_lists (first_list ∷ second_list ∷ [] ∷ [])) two_started → ⊥ }
+    ensures past_a_step { IsManual two_lists (record two_started { places = record first_place { step = 1 } ∷ first_place ∷ [] }) → ⊥ }
+    ensures arrived { IsManual two_lists (record two_started { arrived = replicate 8 1 }) → ⊥ }
     ensures other_list { IsManual (with_lists ([] ∷ second_list ∷ [])) two_started → ⊥ }
 {}
 
-/// Steps that are due, and steps that aren't.
-pub fn worked_due_moves()
-    ensures due { IsDue (move (ArriveAt 1) (Some ArriveAgain) (Some ArriveAgain)) }
-    ensures waits { IsDue (move (WaitAt 1 2) None None) }
-    ensures early { IsDue (move (ArriveAt 1) (Some ArriveAgain) (Some RestorePge)) → ⊥ }
-    ensures aside { IsDue (move ReloadCr3 None (Some RestorePge)) → ⊥ }
+/// Steps that are due or may stand beside the events, and steps that aren't so for one thing.
+pub fn worked_orderly_moves()
+    ensures due { IsOrderly (move Restored (ArriveAt 1) (Some ArriveAgain) (Some ArriveAgain)) }
+    ensures waits { IsOrderly (move Arrived2 (WaitAt 1 2) None None) }
+    ensures loads { IsOrderly (move Running (Access (Load 0x1000)) None (Some Take)) }
+    ensures early { IsOrderly (move Restored (ArriveAt 1) (Some ArriveAgain) (Some RestorePge)) → ⊥ }
+    ensures in_the_midst { IsOrderly (move Restored (Access (Load 0x1000)) None (Some ArriveAgain)) → ⊥ }
+    ensures no_instruction { IsOrderly (move Running ClearPge None (Some Take)) → ⊥ }
+{}
+
+/// A run of orderly steps of two processors, and a run that isn't one.
+pub fn worked_orderly_runs()
+    ensures orderly { AreOrderly two_lists two_started (0 ∷ 1 ∷ 1 ∷ 0 ∷ []) }
+    ensures not_there { AreOrderly two_lists two_started (2 ∷ []) → ⊥ }
 {}

@@ -4,13 +4,10 @@ use Rattle.mt_judge_laws.proofs.OnWorked.{lists_are, not_empty}
 use Rattle.mt_judge_laws.proofs.worked.worked_manual_lists.Goals as goal
 
 pub returns-clause-manual : goal.returns-clause-manual
-returns-clause-manual c = record { few = search rules; goal = search rules; one_each = refl; lists = lists_are }
+returns-clause-manual c = record { few = search rules; goal = search rules; lists = lists_are; places = refl; arrived = refl }
 
 pub returns-clause-other_kind : goal.returns-clause-other_kind
 returns-clause-other_kind c h = let e : 40 ≡ 36 = (h.goal.3 0 (mapped 0) (lit< tt)).width in omega (arith, e)
-
-pub returns-clause-one_more : goal.returns-clause-one_more
-returns-clause-one_more c h = let e : 3 ≡ 2 = h.one_each in omega (arith, e)
 
 pub returns-clause-other_list : goal.returns-clause-other_list
 returns-clause-other_list c h = not_empty (h.lists 0 (with_line dirty_line (mapped 0x806)) refl)

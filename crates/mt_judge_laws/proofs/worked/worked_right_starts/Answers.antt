@@ -20,8 +20,6 @@ returns-clause-right c = record {
   };
   first = search rules;
   right = starts_right;
-  places = refl;
-  arrived = refl;
 }
 
 pub returns-clause-taken : goal.returns-clause-taken

@@ -1,5 +1,5 @@
 use Rattle.std.proofs.Common.{◌-◌, ◌≤◌, length}
-use Rattle.mt_judge.proofs.reader.read_input.Given as goal
+use Rattle.mt_judge.proofs.reader.Reader.lines.Given as goal
 
 abbrev pub invariant-loop-line : goal.invariant-loop-line
 invariant-loop-line l = l.at ≤ length l.source

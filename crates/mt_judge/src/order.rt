@@ -1,0 +1,145 @@
+ghost use Rattle.std.specs.Prelude.{◌≡◌, ◌<◌, ◌^◌, ◌↔◌, IsFalse, IsTrue, MatchOption, Some, false, length, nat_lt, slice_get, true};
+ghost use Rattle.std.specs.List.{list_all};
+ghost use Rattle.mt_machine.specs.System.{Processor};
+ghost use Rattle.mt_machine.specs.Access.{is_running};
+ghost use Rattle.mt_judge.specs.Dues.{AreListsFinished, AreStepsDue, IsDue, IsDueAt, IsInOrder, IsStepDue, is_first_flush, is_other_flush, is_unfinished};
+ghost use Rattle.mt_judge.specs.Runs.{due_in, event_in, phase_in, place_of};
+
+use crate::due::due;
+use crate::moves::{Case, Move, State, event_in, phase_in, place_at};
+use crate::step::Step;
+use crate::wrong::is_running;
+use mt_machine::{Event, Phase};
+
+// Whether a step is the first flush of the caches.
+fn is_first_flush(phase: Phase, step: Step) -> bool
+    ensures { result ≡ is_first_flush phase step }
+{
+    matches!((phase, step), (Phase::NoFill, Step::Wbinvd))
+}
+
+// Whether a step is a flush of the TLB, in an update.
+fn is_other_flush(phase: Phase, step: Step) -> bool
+    ensures { result ≡ is_other_flush phase step }
+{
+    match step {
+        Step::ClearPge | Step::ReloadCr3 => !is_running(phase),
+        _ => false,
+    }
+}
+
+// Whether an event is the one that is due. A step that is no event is due unless it is a flush by the other way.
+fn is_event_due(event: Option<Event>, due: Option<Event>, astray: bool) -> bool
+    ensures { IsTrue result ↔ MatchOption event (astray ≡ false) (λ e. due ≡ Some e) }
+{
+    match event {
+        Some(e) => due == Some(e),
+        None => !astray,
+    }
+}
+
+// Whether a step is due, by the event that it is and the one that is due.
+fn is_in_order(phase: Phase, step: Step, event: Option<Event>, due: Option<Event>) -> bool
+    ensures { IsTrue result ↔ IsInOrder phase step event due }
+{
+    is_first_flush(phase, step) || is_event_due(event, due, is_other_flush(phase, step))
+}
+
+impl Move {
+    /// Whether the manual's procedure has the step due. A step that is no event of the machine is due at any time, except a flush of
+    /// the TLB by the other way than the one that is due.
+    pub fn is_due(&self) -> bool
+        ensures { IsTrue result ↔ IsDue self.now }
+    {
+        is_in_order(self.phase, self.step, self.event, self.due)
+    }
+}
+
+impl State {
+    // Whether a step, which is the next one of a processor, is due.
+    fn is_step_due(&self, k: usize, step: Step) -> bool
+        requires processor { k < length self.now.processors }
+        requires numbers { (p : Processor) → slice_get self.now.processors k ≡ Some p → list_all (λ l. nat_lt l.number (2 ^ 46)) p.lines ≡ true }
+        ensures { IsTrue result ↔ IsStepDue self.now k step }
+    {
+        let cpus = self.cpus.as_slice();
+        let part = place_at(self.places.as_slice(), k).part;
+        is_in_order(
+            phase_in(cpus, k),
+            step,
+            event_in(cpus, k, step, part),
+            due(cpus, k),
+        )
+    }
+
+    /// Whether the next step of a processor is due. True if it can't go on.
+    pub fn is_due(&self, case: &Case, k: usize) -> bool
+        ensures { IsTrue result ↔ IsDueAt case.now self.now k }
+    {
+        if !self.may_go(case, k) {
+            return true;
+        }
+        match case.step_at(self, k) {
+            Some(step) => self.is_step_due(k, step),
+            None => true,
+        }
+    }
+
+    /// The number of processors that may go on.
+    pub fn step_count(&self, case: &Case) -> u64 {
+        let mut count = 0u64;
+        for k in 0..self.cpus.len() {
+            if self.may_go(case, k) {
+                count = sum(count, 1);
+            }
+        }
+        count
+    }
+
+    // 1 if the next step of a processor isn't due, else 0.
+    fn undue_at(&self, case: &Case, k: usize) -> u64
+        ensures { result ≡ 0 → IsDueAt case.now self.now k }
+    {
+        if self.is_due(case, k) { 0 } else { 1 }
+    }
+
+    /// The number of processors whose next step isn't due.
+    pub fn undue_count(&self, case: &Case) -> u64
+        ensures { result ≡ 0 → AreStepsDue case.now self.now }
+    {
+        let mut count = 0u64;
+        for k in 0..self.cpus.len() {
+            count = sum(count, self.undue_at(case, k));
+        }
+        count
+    }
+
+    /// Whether the list of a processor has ended, and the processor is in an update.
+    pub fn is_unfinished(&self, case: &Case, k: usize) -> bool
+        ensures { result ≡ is_unfinished case.now self.now k }
+    {
+        case.step_at(self, k).is_none() && !is_running(phase_in(self.cpus.as_slice(), k))
+    }
+
+    /// Whether the list of a processor has ended in the midst of an update.
+    pub fn has_unfinished(&self, case: &Case) -> bool
+        ensures { IsFalse result → AreListsFinished case.now self.now }
+    {
+        for k in 0..self.cpus.len() {
+            if self.is_unfinished(case, k) {
+                return true;
+            }
+        }
+        false
+    }
+}
+
+/// The sum of two numbers, or 2^64 - 1 if it is greater.
+pub(crate) fn sum(a: u64, b: u64) -> u64
+    ensures { result ≡ 0 → (a ≡ 0) × (b ≡ 0) }
+{
+    match a.checked_add(b) {
+        Some(sum) => sum,
+        None => u64::MAX,
+    }
+}
