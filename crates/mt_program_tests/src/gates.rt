@@ -123,26 +123,22 @@ fn processors_meet(rt: HostRuntime) -> Result<(), Fail> {
     expect_meeting(&rt, jobs, 2)
 }
 
-// The gate is asked and told so often of each of so many processors, each of which starts as it allows.
-fn expect_each<R: AllocGlobal + Threads + Wait + Abort + Files + Clock + Sync>(
+// Whether the gate was asked and told so often of each of so many processors, each of which started as it allows.
+fn is_each<R>(gate: &InOrder<R>, cpus: u32, times: u64) -> bool {
+    gate.is_kept()
+        && gate.starts().asked_each(0..cpus, times)
+        && gate.starts().told_each(0..cpus, times)
+}
+
+// The run ends with status 0.
+fn expect_done<R: AllocGlobal + Threads + Wait + Abort + Sync, G: Gate>(
     rt: &R,
     call: Call<'_>,
     input: &[u8],
-    cpus: u32,
-    times: u64,
+    gate: &G,
 ) -> Result<(), Fail> {
-    let gate = InOrder::new(rt, 16);
-    let ran = run_under(rt, call, &Ports::new(input, 4096), &gate)?;
+    let ran = run_under(rt, call, &Ports::new(input, 4096), gate)?;
     assert_eq!(rt; ran.status, Status::Done);
-    assert!(rt; gate.is_kept(), "{cpus} processors");
-    assert!(rt;
-        gate.starts().asked_each(0..cpus, times),
-        "{cpus} processors"
-    );
-    assert!(rt;
-        gate.starts().told_each(0..cpus, times),
-        "{cpus} processors"
-    );
     Ok(())
 }
 
@@ -169,11 +165,15 @@ fn each_processor_starts_and_arrives_once(rt: HostRuntime) -> Result<(), Fail> {
     for (requests, times) in requests() {
         let text = repeated(rt.alloc(), FOUR_GIGABYTES, requests, 1)?;
         for cpus in 1..=16 {
-            expect_each(&rt, Call::Proc(cpus), &text, cpus, times)?;
+            let gate = InOrder::new(&rt, 16);
+            expect_done(&rt, Call::Proc(cpus), &text, &gate)?;
+            assert!(rt; is_each(&gate, cpus, times), "{cpus} processors");
         }
-        expect_each(&rt, Call::Tool(&["proc", "1"]), &text, 1, times)?;
-        expect_each(&rt, Call::Tool(&["proc", "3"]), &text, 3, times)?;
-        expect_each(&rt, Call::Tool(&["proc", "16"]), &text, 16, times)?;
+        for (words, cpus) in [(["proc", "1"], 1), (["proc", "3"], 3), (["proc", "16"], 16)] {
+            let gate = InOrder::new(&rt, 16);
+            expect_done(&rt, Call::Tool(&words), &text, &gate)?;
+            assert!(rt; is_each(&gate, cpus, times), "{cpus} processors");
+        }
     }
     Ok(())
 }
@@ -183,10 +183,22 @@ fn each_processor_starts_and_arrives_once(rt: HostRuntime) -> Result<(), Fail> {
 fn each_update_starts_and_arrives_once(rt: HostRuntime) -> Result<(), Fail> {
     let round = b"store 0 1000 2a\nupdate\n200 4\nend\nstore 1 1040 2b\nupdate\n200 6\nend\n";
     let script = repeated(rt.alloc(), TRIO, round, 3)?;
-    expect_each(&rt, Call::Tool(&["replay"]), &script, 3, 6)?;
-    expect_each(&rt, Call::Replay, &script, 3, 6)?;
-    expect_each(&rt, Call::Tool(&["big", "7"]), b"", 16, 8)?;
-    expect_each(&rt, Call::Tool(&["private", "3", "7", "4"]), b"", 3, 1)
+    for (call, input, cpus, times) in [
+        (Call::Tool(&["replay"]), script.as_slice(), 3, 6),
+        (Call::Replay, script.as_slice(), 3, 6),
+        (Call::Tool(&["big", "7"]), b"".as_slice(), 16, 8),
+        (
+            Call::Tool(&["private", "3", "7", "4"]),
+            b"".as_slice(),
+            3,
+            1,
+        ),
+    ] {
+        let gate = InOrder::new(&rt, 16);
+        expect_done(&rt, call, input, &gate)?;
+        assert!(rt; is_each(&gate, cpus, times), "{cpus} processors");
+    }
+    Ok(())
 }
 
 // So do two updates of a script of each number of processors, over a memory of one line.
@@ -196,7 +208,9 @@ fn each_processor_of_a_script_starts_and_arrives_once(rt: HostRuntime) -> Result
         let script = format!(in rt.alloc();
             "cpus {cpus}\ndump\n0fe 508\n200 6\n201 f00000800\n2ff 800\nend\nram 100000 1\nupdate\n200 0\nend\nupdate\n200 6\nend\n"
         )?;
-        expect_each(&rt, Call::Replay, script.as_str().as_bytes(), cpus, 2)?;
+        let gate = InOrder::new(&rt, 16);
+        expect_done(&rt, Call::Replay, script.as_str().as_bytes(), &gate)?;
+        assert!(rt; is_each(&gate, cpus, 2), "{cpus} processors");
     }
     Ok(())
 }
