@@ -379,17 +379,21 @@ fn cpu_item(text: &mut String, cpu: &CpuDiff<'_>) -> Result<(), AllocError> {
     end_object(text)
 }
 
+fn cpus_member(text: &mut String, report: &DiffReport<'_>) -> Result<(), AllocError> {
+    begin_list(text, "cpus")?;
+    for cpu in &report.cpus {
+        cpu_item(text, cpu)?;
+    }
+    end_list(text)
+}
+
 /// Adds the object that a report is, as a line.
 pub fn diff_json(text: &mut String, report: &DiffReport<'_>) -> Result<(), AllocError> {
     begin_object(text)?;
     side_member(text, "old", &report.old)?;
     side_member(text, "new", &report.new)?;
     member(text, "differ", report.differ)?;
-    begin_list(text, "cpus")?;
-    for cpu in &report.cpus {
-        cpu_item(text, cpu)?;
-    }
-    end_list(text)?;
+    cpus_member(text, report)?;
     end_object(text)?;
     text.push_str("\n")
 }

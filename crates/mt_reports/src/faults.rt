@@ -1,6 +1,3 @@
-ghost use Rattle.std.specs.Prelude.{◌≡◌, None};
-ghost use Rattle.mt_regs.specs.Faults.{register_fault};
-
 use crate::given::{Given, width_members};
 use crate::json::{Escaped, begin_list, begin_object, end_list, end_object, member, text_member};
 use crate::registers::{pairs_member, pairs_text, register_member, register_text};

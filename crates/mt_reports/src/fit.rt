@@ -1,5 +1,3 @@
-ghost use Rattle.std.specs.Prelude.{◌<◌};
-
 use crate::given::{Given, width_members};
 use crate::json::{
     Escaped, begin_list, begin_object, begin_object_member, end_list, end_object, member,
@@ -290,24 +288,36 @@ fn budget_member(text: &mut String, has: Budget) -> Result<(), AllocError> {
     end_object(text)
 }
 
-/// Adds the object that a report is, as a line.
-pub fn fit_json(text: &mut String, report: &FitReport<'_>) -> Result<(), AllocError> {
-    begin_object(text)?;
+fn head_members(text: &mut String, report: &FitReport<'_>) -> Result<(), AllocError> {
     text_member(text, "file", Escaped(report.file))?;
     width_members(text, report.given)?;
     budget_member(text, report.has)?;
     member(text, "needs", report.needs)?;
-    member(text, "fits", report.fits)?;
+    member(text, "fits", report.fits)
+}
+
+fn chunks_member(text: &mut String, report: &FitReport<'_>) -> Result<(), AllocError> {
     begin_list(text, "chunks")?;
     for run in &report.chunks {
         chunk_item(text, report.has, run)?;
     }
-    end_list(text)?;
+    end_list(text)
+}
+
+fn granules_member(text: &mut String, report: &FitReport<'_>) -> Result<(), AllocError> {
     begin_list(text, "granules")?;
     for granules in &report.granules {
         granules_item(text, report.has, granules)?;
     }
-    end_list(text)?;
+    end_list(text)
+}
+
+/// Adds the object that a report is, as a line.
+pub fn fit_json(text: &mut String, report: &FitReport<'_>) -> Result<(), AllocError> {
+    begin_object(text)?;
+    head_members(text, report)?;
+    chunks_member(text, report)?;
+    granules_member(text, report)?;
     end_object(text)?;
     text.push_str("\n")
 }

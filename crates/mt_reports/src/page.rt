@@ -242,22 +242,31 @@ fn effective_items(text: &mut String, pat: u64, kind: MemType) -> Result<(), All
     Ok(())
 }
 
-fn cpu_item(text: &mut String, k: usize, cpu: &CpuPage<'_>) -> Result<(), AllocError> {
-    let f = cpu.registers;
+fn effective_member(text: &mut String, pat: u64, kind: PageType) -> Result<(), AllocError> {
+    begin_list(text, "effective")?;
+    if let PageType::Kind(kind) = kind {
+        effective_items(text, pat, kind)?;
+    }
+    end_list(text)
+}
+
+fn rule_members(text: &mut String, k: usize, cpu: &CpuPage<'_>) -> Result<(), AllocError> {
     let Decision { kind, rule, .. } = cpu.decision;
-    begin_object(text)?;
     member(text, "cpu", k)?;
     text_member(text, "type", kind_name(kind))?;
     text_member(text, "rule", rule_name(rule))?;
     text_member(text, "because", because(rule))?;
-    member(text, "at_fault", cpu.at_fault)?;
+    member(text, "at_fault", cpu.at_fault)
+}
+
+fn cpu_item(text: &mut String, k: usize, cpu: &CpuPage<'_>) -> Result<(), AllocError> {
+    let f = cpu.registers;
+    let Decision { kind, rule, .. } = cpu.decision;
+    begin_object(text)?;
+    rule_members(text, k, cpu)?;
     decider_members(text, f, rule)?;
     pairs_member(text, f, deciding_pairs(&cpu.decision))?;
-    begin_list(text, "effective")?;
-    if let PageType::Kind(kind) = kind {
-        effective_items(text, f.pat, kind)?;
-    }
-    end_list(text)?;
+    effective_member(text, f.pat, kind)?;
     end_object(text)
 }
 
