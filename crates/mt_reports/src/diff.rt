@@ -1,52 +1,132 @@
-use crate::fields::{value_members, value_text};
-use crate::given::{Given, width_members};
-use crate::json::{
-    Escaped, begin_list, begin_object, begin_object_member, end_list, end_object, member,
-    text_member,
-};
-use crate::names::{Name, Register};
+use crate::fields::{ValueText, append_value, value_text};
+use crate::given::Given;
+use crate::names::register_name;
 use crate::page::kind_name;
-use crate::registers::{register_member, register_text};
-use crate::texts::{Hex, first_address, last_address};
+use crate::texts::{RegisterText, append_register, first_address, last_address, register_text};
 use mt_explain::{Difference, Span, TypeChange, differences, field_faults, type_changes};
-use mt_regs::{Fault, PageType, Reason, RegFile};
+use mt_regs::{PageType, Reason, RegFile};
+use serde::Serialize;
 use std::alloc::{AllocError, Global};
 
+/// A register whose values differ. A file that hasn't the register has no value.
+#[derive(Drop, Serialize)]
+pub struct DifferenceText {
+    pub number: String,
+    pub name: String,
+    pub old: Option<ValueText>,
+    pub new: Option<ValueText>,
+}
+
+/// Pages whose types differ. A file that hasn't the pages gives them no type.
+#[derive(Drop, Serialize)]
+pub struct ChangeText {
+    pub first: String,
+    pub last: String,
+    pub pages: u64,
+    pub old: Option<&'static str>,
+    pub new: Option<&'static str>,
+}
+
+/// The first fault of a file.
+#[derive(Drop, Serialize)]
+pub struct FirstFaultText {
+    pub register: RegisterText,
+    pub problem: &'static str,
+}
+
 /// What differs between two files of one processor each.
-#[derive(Drop)]
-struct CpuDiff<'a> {
-    old_cpu: u32,
-    new_cpu: u32,
-    old: &'a RegFile,
-    new: &'a RegFile,
-    registers: Vec<Difference>,
+#[derive(Drop, Serialize)]
+pub struct CpuDiff {
+    pub old_cpu: u32,
+    pub new_cpu: u32,
+    pub old_fault: Option<FirstFaultText>,
+    pub new_fault: Option<FirstFaultText>,
+    pub registers: Vec<DifferenceText>,
     /// `None` if a register is at fault by itself, so that the types of pages weren't compared.
-    types: Option<Vec<Span<TypeChange>>>,
+    pub types: Option<Vec<ChangeText>>,
 }
 
 /// One of the two sides of a comparison.
-#[derive(Clone, Copy)]
-pub struct Side<'a> {
-    file: &'a str,
-    given: &'a Given,
+#[derive(Drop, Serialize)]
+pub struct SideText<'a> {
+    pub file: &'a str,
+    pub width: u8,
+    pub width_assumed: bool,
+    pub processors: u32,
 }
 
 /// What differs between two dumps, or between two processors of one.
-#[derive(Drop)]
+#[derive(Drop, Serialize)]
 pub struct DiffReport<'a> {
-    old: Side<'a>,
-    new: Side<'a>,
+    pub old: SideText<'a>,
+    pub new: SideText<'a>,
     pub differ: bool,
-    cpus: Vec<CpuDiff<'a>>,
+    pub cpus: Vec<CpuDiff>,
 }
 
 // ---- facts
 
-fn changes_of(
+fn value_in(
+    alloc: Global,
+    f: &RegFile,
+    msr: u32,
+    value: Option<u64>,
+) -> Result<Option<ValueText>, AllocError> {
+    match value {
+        Some(value) => Ok(Some(value_text(alloc, f, msr, value)?)),
+        None => Ok(None),
+    }
+}
+
+fn difference_text(
     alloc: Global,
     old: &RegFile,
     new: &RegFile,
-) -> Result<Option<Vec<Span<TypeChange>>>, AllocError> {
+    d: &Difference,
+) -> Result<DifferenceText, AllocError> {
+    Ok(DifferenceText {
+        number: format!(in alloc; "{:03x}", d.msr)?,
+        name: register_name(alloc, d.msr)?,
+        old: value_in(alloc, old, d.msr, d.old)?,
+        new: value_in(alloc, new, d.msr, d.new)?,
+    })
+}
+
+fn register_texts(
+    alloc: Global,
+    old: &RegFile,
+    new: &RegFile,
+) -> Result<Vec<DifferenceText>, AllocError> {
+    let mut texts = Vec::new(alloc);
+    for d in differences(alloc, old, new)?.as_slice() {
+        texts.push(difference_text(alloc, old, new, d)?)?;
+    }
+    Ok(texts)
+}
+
+fn name_of(kind: Option<PageType>) -> Option<&'static str> {
+    match kind {
+        Some(kind) => Some(kind_name(kind)),
+        None => None,
+    }
+}
+
+fn change_text(alloc: Global, run: &Span<TypeChange>) -> Result<ChangeText, AllocError> {
+    let end = run.first.saturating_add(run.count);
+    Ok(ChangeText {
+        first: first_address(alloc, run.first)?,
+        last: last_address(alloc, end)?,
+        pages: run.count,
+        old: name_of(run.mark.old),
+        new: name_of(run.mark.new),
+    })
+}
+
+fn change_texts(
+    alloc: Global,
+    old: &RegFile,
+    new: &RegFile,
+) -> Result<Option<Vec<ChangeText>>, AllocError> {
     let old_faults = field_faults(alloc, old)?;
     let new_faults = field_faults(alloc, new)?;
     if !old_faults.is_empty() {
@@ -55,7 +135,11 @@ fn changes_of(
     if !new_faults.is_empty() {
         return Ok(None);
     }
-    Ok(Some(type_changes(alloc, old, new)?))
+    let mut texts = Vec::new(alloc);
+    for run in type_changes(alloc, old, new)?.as_slice() {
+        texts.push(change_text(alloc, run)?)?;
+    }
+    Ok(Some(texts))
 }
 
 fn problem(reason: Reason) -> &'static str {
@@ -67,40 +151,50 @@ fn problem(reason: Reason) -> &'static str {
     }
 }
 
+fn first_fault_text(alloc: Global, f: &RegFile) -> Result<Option<FirstFaultText>, AllocError> {
+    match f.first_fault() {
+        Some(fault) => Ok(Some(FirstFaultText {
+            register: register_text(alloc, fault.msr, f.get(fault.msr).unwrap_or(0))?,
+            problem: problem(fault.reason),
+        })),
+        None => Ok(None),
+    }
+}
+
 // Files of one width whose registers are equal give equal types, whatever faults they have.
-fn cpu_diff<'a>(
+fn cpu_diff(
     alloc: Global,
     cpus: (u32, u32),
-    old: &'a RegFile,
-    new: &'a RegFile,
-) -> Result<CpuDiff<'a>, AllocError> {
-    let registers = differences(alloc, old, new)?;
+    old: &RegFile,
+    new: &RegFile,
+) -> Result<CpuDiff, AllocError> {
+    let registers = register_texts(alloc, old, new)?;
     let types = if registers.is_empty() && old.maxphy == new.maxphy {
         Some(Vec::new(alloc))
     } else {
-        changes_of(alloc, old, new)?
+        change_texts(alloc, old, new)?
     };
     Ok(CpuDiff {
         old_cpu: cpus.0,
         new_cpu: cpus.1,
-        old,
-        new,
+        old_fault: first_fault_text(alloc, old)?,
+        new_fault: first_fault_text(alloc, new)?,
         registers,
         types,
     })
 }
 
-fn width_of(side: &Side<'_>) -> u8 {
-    side.given.dump.first_file().maxphy
+fn side<'a>(file: &'a str, given: &Given) -> SideText<'a> {
+    SideText {
+        file,
+        width: given.dump.first_file().maxphy,
+        width_assumed: !given.has_width,
+        processors: given.dump.files.len() as u32,
+    }
 }
 
-fn processors_of(side: &Side<'_>) -> usize {
-    let given = side.given;
-    given.dump.files.len()
-}
-
-fn report_of<'a>(old: Side<'a>, new: Side<'a>, cpus: Vec<CpuDiff<'a>>) -> DiffReport<'a> {
-    let mut differ = width_of(&old) != width_of(&new) || processors_of(&old) != processors_of(&new);
+fn report_of<'a>(old: SideText<'a>, new: SideText<'a>, cpus: Vec<CpuDiff>) -> DiffReport<'a> {
+    let mut differ = old.width != new.width || old.processors != new.processors;
     for cpu in &cpus {
         differ = differ || !cpu.registers.is_empty();
     }
@@ -116,8 +210,8 @@ fn report_of<'a>(old: Side<'a>, new: Side<'a>, cpus: Vec<CpuDiff<'a>>) -> DiffRe
 pub fn files_report<'a>(
     alloc: Global,
     files: (&'a str, &'a str),
-    old: &'a Given,
-    new: &'a Given,
+    old: &Given,
+    new: &Given,
 ) -> Result<DiffReport<'a>, AllocError> {
     let mut cpus = Vec::new(alloc);
     for (k, f) in old.dump.files.as_slice().iter().enumerate() {
@@ -125,22 +219,14 @@ pub fn files_report<'a>(
             cpus.push(cpu_diff(alloc, (k as u32, k as u32), f, g)?)?;
         }
     }
-    let old = Side {
-        file: files.0,
-        given: old,
-    };
-    let new = Side {
-        file: files.1,
-        given: new,
-    };
-    Ok(report_of(old, new, cpus))
+    Ok(report_of(side(files.0, old), side(files.1, new), cpus))
 }
 
 /// What differs between two processors of a dump, if it has both.
 pub fn cpus_report<'a>(
     alloc: Global,
     file: &'a str,
-    given: &'a Given,
+    given: &Given,
     cpus: (u32, u32),
 ) -> Result<Option<DiffReport<'a>>, AllocError> {
     let Some(old) = given.dump.file_at(cpus.0) else {
@@ -151,62 +237,59 @@ pub fn cpus_report<'a>(
     };
     let mut list = Vec::new(alloc);
     list.push(cpu_diff(alloc, cpus, old, new)?)?;
-    let side = Side { file, given };
-    Ok(Some(report_of(side, side, list)))
+    Ok(Some(report_of(side(file, given), side(file, given), list)))
 }
 
 // ---- texts
 
-fn value_line(
-    text: &mut String,
-    sign: &str,
-    f: &RegFile,
-    msr: u32,
-    value: Option<u64>,
-) -> Result<(), AllocError> {
+fn append_side(text: &mut String, sign: &str, value: &Option<ValueText>) -> Result<(), AllocError> {
     write!(text, "  {sign} ")?;
     match value {
-        Some(value) => value_text(text, f, msr, value),
+        Some(value) => append_value(text, value),
         None => text.push_str("the file hasn't it\n"),
     }
 }
 
-fn difference_text(text: &mut String, cpu: &CpuDiff<'_>, d: &Difference) -> Result<(), AllocError> {
-    write!(text, "  {}\n", Register(d.msr))?;
-    value_line(text, "-", cpu.old, d.msr, d.old)?;
-    value_line(text, "+", cpu.new, d.msr, d.new)
+fn append_difference(text: &mut String, d: &DifferenceText) -> Result<(), AllocError> {
+    write!(text, "  {} {}\n", d.number, d.name)?;
+    append_side(text, "-", &d.old)?;
+    append_side(text, "+", &d.new)
 }
 
-fn shown(kind: Option<PageType>) -> &'static str {
-    match kind {
-        Some(kind) => kind_name(kind),
-        None => "no such page",
+fn shown(kind: Option<&'static str>) -> &'static str {
+    kind.unwrap_or("no such page")
+}
+
+fn append_change(text: &mut String, run: &ChangeText) -> Result<(), AllocError> {
+    write!(
+        text,
+        "  {}-{} ({} pages): {} -> {}\n",
+        run.first,
+        run.last,
+        run.pages,
+        shown(run.old),
+        shown(run.new)
+    )
+}
+
+fn append_fault(
+    text: &mut String,
+    sign: &str,
+    fault: &Option<FirstFaultText>,
+) -> Result<(), AllocError> {
+    if let Some(fault) = fault {
+        write!(text, "  {sign} isn't accepted: ")?;
+        append_register(text, &fault.register)?;
+        write!(text, ": {}\n", fault.problem)?;
     }
+    Ok(())
 }
 
-fn change_text(text: &mut String, run: &Span<TypeChange>) -> Result<(), AllocError> {
-    let first = first_address(run.first);
-    let last = last_address(run.first.saturating_add(run.count));
-    let old = shown(run.mark.old);
-    let new = shown(run.mark.new);
-    write!(text, "  {first}-{last} ({} pages)", run.count)?;
-    write!(text, ": {old} -> {new}\n")
-}
-
-fn first_fault_text(text: &mut String, sign: &str, f: &RegFile) -> Result<(), AllocError> {
-    let Some(Fault { msr, reason }) = f.first_fault() else {
-        return Ok(());
-    };
-    write!(text, "  {sign} isn't accepted: ")?;
-    register_text(text, msr, f.get(msr).unwrap_or(0))?;
-    write!(text, ": {}\n", problem(reason))
-}
-
-fn types_text(text: &mut String, types: &Option<Vec<Span<TypeChange>>>) -> Result<(), AllocError> {
+fn append_types(text: &mut String, types: &Option<Vec<ChangeText>>) -> Result<(), AllocError> {
     match types {
         Some(runs) => {
             for run in runs {
-                change_text(text, run)?;
+                append_change(text, run)?;
             }
             Ok(())
         }
@@ -216,184 +299,72 @@ fn types_text(text: &mut String, types: &Option<Vec<Span<TypeChange>>>) -> Resul
     }
 }
 
-fn is_same(cpu: &CpuDiff<'_>) -> bool {
+fn is_same(cpu: &CpuDiff) -> bool {
     match &cpu.types {
         Some(runs) => cpu.registers.is_empty() && runs.is_empty(),
         None => false,
     }
 }
 
-fn cpu_text(text: &mut String, cpu: &CpuDiff<'_>, many: bool) -> Result<(), AllocError> {
+fn append_cpu(text: &mut String, cpu: &CpuDiff, many: bool) -> Result<(), AllocError> {
     if is_same(cpu) {
         return Ok(());
     }
     if many {
         write!(text, "  cpu {}\n", cpu.old_cpu)?;
     }
-    first_fault_text(text, "-", cpu.old)?;
-    first_fault_text(text, "+", cpu.new)?;
+    append_fault(text, "-", &cpu.old_fault)?;
+    append_fault(text, "+", &cpu.new_fault)?;
     for d in &cpu.registers {
-        difference_text(text, cpu, d)?;
+        append_difference(text, d)?;
     }
-    types_text(text, &cpu.types)
+    append_types(text, &cpu.types)
 }
 
-fn width_text(text: &mut String, sign: &str, side: &Side<'_>) -> Result<(), AllocError> {
-    let assumed = if side.given.has_width {
-        ""
-    } else {
-        ", assumed"
-    };
-    write!(text, "  {sign} {} address bits{assumed}\n", width_of(side))
+fn append_width(text: &mut String, sign: &str, side: &SideText<'_>) -> Result<(), AllocError> {
+    let assumed = if side.width_assumed { ", assumed" } else { "" };
+    write!(text, "  {sign} {} address bits{assumed}\n", side.width)
 }
 
-fn sides_text(text: &mut String, report: &DiffReport<'_>) -> Result<(), AllocError> {
-    let old = processors_of(&report.old);
-    let new = processors_of(&report.new);
-    if width_of(&report.old) != width_of(&report.new) {
-        width_text(text, "-", &report.old)?;
-        width_text(text, "+", &report.new)?;
+fn append_sides(text: &mut String, report: &DiffReport<'_>) -> Result<(), AllocError> {
+    if report.old.width != report.new.width {
+        append_width(text, "-", &report.old)?;
+        append_width(text, "+", &report.new)?;
     }
-    if old != new {
-        write!(text, "  - processors: {old}\n  + processors: {new}\n")?;
+    if report.old.processors != report.new.processors {
+        write!(
+            text,
+            "  - processors: {}\n  + processors: {}\n",
+            report.old.processors, report.new.processors
+        )?;
     }
     Ok(())
 }
 
 // Names both sides: files, or processors of one.
-fn names_text(text: &mut String, report: &DiffReport<'_>) -> Result<(), AllocError> {
-    let old = report.old.file;
-    let new = report.new.file;
+fn append_names(text: &mut String, report: &DiffReport<'_>) -> Result<(), AllocError> {
     match report.cpus.as_slice() {
         [cpu] if cpu.old_cpu != cpu.new_cpu => write!(
             text,
-            "{old}: cpu {} and cpu {}",
-            cpu.old_cpu, cpu.new_cpu
+            "{}: cpu {} and cpu {}",
+            report.old.file, cpu.old_cpu, cpu.new_cpu
         ),
-        _ => write!(text, "{old} and {new}"),
+        _ => write!(text, "{} and {}", report.old.file, report.new.file),
     }
 }
 
-/// Adds what a person reads of a report.
-pub fn diff_text(text: &mut String, report: &DiffReport<'_>) -> Result<(), AllocError> {
-    names_text(text, report)?;
+/// What a person reads of a report.
+pub fn diff_text(alloc: Global, report: &DiffReport<'_>) -> Result<String, AllocError> {
+    let mut text = String::new(alloc);
+    append_names(&mut text, report)?;
     if !report.differ {
-        return text.push_str(": no difference\n");
+        text.push_str(": no difference\n")?;
+        return Ok(text);
     }
     text.push_str(" differ\n")?;
-    sides_text(text, report)?;
+    append_sides(&mut text, report)?;
     for cpu in &report.cpus {
-        cpu_text(text, cpu, report.cpus.len() > 1)?;
+        append_cpu(&mut text, cpu, report.cpus.len() > 1)?;
     }
-    Ok(())
-}
-
-// ---- JSON
-
-fn side_member(text: &mut String, name: &str, side: &Side<'_>) -> Result<(), AllocError> {
-    begin_object_member(text, name)?;
-    text_member(text, "file", Escaped(side.file))?;
-    width_members(text, side.given)?;
-    member(text, "processors", processors_of(side))?;
-    end_object(text)
-}
-
-fn first_fault_member(text: &mut String, name: &str, f: &RegFile) -> Result<(), AllocError> {
-    let Some(Fault { msr, reason }) = f.first_fault() else {
-        return member(text, name, "null");
-    };
-    begin_object_member(text, name)?;
-    register_member(text, "register", msr, f.get(msr).unwrap_or(0))?;
-    text_member(text, "problem", problem(reason))?;
-    end_object(text)
-}
-
-fn value_member(
-    text: &mut String,
-    name: &str,
-    f: &RegFile,
-    msr: u32,
-    value: Option<u64>,
-) -> Result<(), AllocError> {
-    let Some(value) = value else {
-        return member(text, name, "null");
-    };
-    begin_object_member(text, name)?;
-    value_members(text, f, msr, value)?;
-    end_object(text)
-}
-
-fn difference_item(text: &mut String, cpu: &CpuDiff<'_>, d: &Difference) -> Result<(), AllocError> {
-    begin_object(text)?;
-    text_member(text, "number", Hex(d.msr as u64, 3))?;
-    text_member(text, "name", Name(d.msr))?;
-    value_member(text, "old", cpu.old, d.msr, d.old)?;
-    value_member(text, "new", cpu.new, d.msr, d.new)?;
-    end_object(text)
-}
-
-fn kind_member(text: &mut String, name: &str, kind: Option<PageType>) -> Result<(), AllocError> {
-    match kind {
-        Some(kind) => text_member(text, name, kind_name(kind)),
-        None => member(text, name, "null"),
-    }
-}
-
-fn change_item(text: &mut String, run: &Span<TypeChange>) -> Result<(), AllocError> {
-    let end = run.first.saturating_add(run.count);
-    begin_object(text)?;
-    text_member(text, "first", first_address(run.first))?;
-    text_member(text, "last", last_address(end))?;
-    member(text, "pages", run.count)?;
-    kind_member(text, "old", run.mark.old)?;
-    kind_member(text, "new", run.mark.new)?;
-    end_object(text)
-}
-
-fn types_member(
-    text: &mut String,
-    types: &Option<Vec<Span<TypeChange>>>,
-) -> Result<(), AllocError> {
-    let Some(runs) = types else {
-        return member(text, "types", "null");
-    };
-    begin_list(text, "types")?;
-    for run in runs {
-        change_item(text, run)?;
-    }
-    end_list(text)
-}
-
-fn cpu_item(text: &mut String, cpu: &CpuDiff<'_>) -> Result<(), AllocError> {
-    begin_object(text)?;
-    member(text, "old_cpu", cpu.old_cpu)?;
-    member(text, "new_cpu", cpu.new_cpu)?;
-    first_fault_member(text, "old_fault", cpu.old)?;
-    first_fault_member(text, "new_fault", cpu.new)?;
-    begin_list(text, "registers")?;
-    for d in &cpu.registers {
-        difference_item(text, cpu, d)?;
-    }
-    end_list(text)?;
-    types_member(text, &cpu.types)?;
-    end_object(text)
-}
-
-fn cpus_member(text: &mut String, report: &DiffReport<'_>) -> Result<(), AllocError> {
-    begin_list(text, "cpus")?;
-    for cpu in &report.cpus {
-        cpu_item(text, cpu)?;
-    }
-    end_list(text)
-}
-
-/// Adds the object that a report is, as a line.
-pub fn diff_json(text: &mut String, report: &DiffReport<'_>) -> Result<(), AllocError> {
-    begin_object(text)?;
-    side_member(text, "old", &report.old)?;
-    side_member(text, "new", &report.new)?;
-    member(text, "differ", report.differ)?;
-    cpus_member(text, report)?;
-    end_object(text)?;
-    text.push_str("\n")
+    Ok(text)
 }

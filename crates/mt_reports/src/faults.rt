@@ -1,47 +1,54 @@
-use crate::given::{Given, width_members};
-use crate::json::{Escaped, begin_list, begin_object, end_list, end_object, member, text_member};
-use crate::registers::{pairs_member, pairs_text, register_member, register_text};
-use crate::texts::{Bits, Hex, first_address, last_address};
+ghost use Rattle.std.specs.Prelude.{◌≡◌, None};
+ghost use Rattle.mt_regs.specs.Faults.{register_fault};
+
+use crate::given::Given;
+use crate::texts::{
+    PairText, RegisterText, append_pairs, append_register, first_address, last_address, pair_texts,
+    register_text,
+};
 use mt_explain::{Clash, Defect, FieldFault, clashes, field_faults};
 use mt_regs::{PAT, RegFile};
+use serde::Serialize;
 use std::alloc::{AllocError, Global};
-use std::fmt;
 
-/// What is wrong with the registers of a processor. Pages with no defined type are looked for if there is no other fault.
-#[derive(Drop)]
-struct CpuFaults<'a> {
-    registers: &'a RegFile,
-    faults: Vec<FieldFault>,
-    undefined: Vec<Clash>,
+/// A field at fault.
+#[derive(Drop, Serialize)]
+pub struct FaultText {
+    pub register: RegisterText,
+    pub bits: String,
+    pub found: String,
+    pub problem: &'static str,
+    pub lawful: String,
+}
+
+/// Pages that have no defined type, and the pairs that meet there.
+#[derive(Drop, Serialize)]
+pub struct UndefinedText {
+    pub first: String,
+    pub last: String,
+    pub pages: u64,
+    pub pairs: Vec<PairText>,
+}
+
+/// What is wrong with the registers of a processor.
+#[derive(Drop, Serialize)]
+pub struct CpuFaults {
+    pub cpu: u32,
+    pub faults: Vec<FaultText>,
+    /// Whether pages with no defined type were looked for.
+    pub looked: bool,
+    pub undefined: Vec<UndefinedText>,
 }
 
 /// What is wrong with a dump.
-#[derive(Drop)]
+#[derive(Drop, Serialize)]
 pub struct FaultsReport<'a> {
-    file: &'a str,
-    given: &'a Given,
+    pub file: &'a str,
+    pub width: u8,
+    pub width_assumed: bool,
     pub found: bool,
-    cpus: Vec<CpuFaults<'a>>,
+    pub cpus: Vec<CpuFaults>,
 }
-
-/// What would be lawful in place of a field at fault.
-#[derive(Clone, Copy)]
-enum Lawful {
-    /// 0, where addresses have so many bits.
-    NoAddress(u8),
-    Words(&'static str),
-}
-
-impl fmt::Display for Lawful {
-    fn fmt<W: fmt::Write>(&self, f: &mut fmt::Formatter<W>) -> fmt::Result {
-        match *self {
-            Lawful::NoAddress(width) => write!(f, "0 where addresses have {width} bits"),
-            Lawful::Words(words) => f.write_str(words),
-        }
-    }
-}
-
-// ---- facts
 
 fn problem(defect: Defect) -> &'static str {
     match defect {
@@ -61,95 +68,136 @@ fn lawful_type(f: &RegFile, msr: u32) -> &'static str {
     }
 }
 
-fn lawful_of(f: &RegFile, fault: &FieldFault) -> Lawful {
+fn lawful_text(alloc: Global, f: &RegFile, fault: &FieldFault) -> Result<String, AllocError> {
     match fault.defect {
         Defect::ReservedBits if fault.low == f.maxphy && fault.msr != PAT => {
-            Lawful::NoAddress(f.maxphy)
+            format!(in alloc; "0 where addresses have {} bits", f.maxphy)
         }
         Defect::ReservedBits if fault.low == 10 => {
-            Lawful::Words("0, since 0fe says that there are no fixed ranges")
+            String::from_str(alloc, "0, since 0fe says that there are no fixed ranges")
         }
-        Defect::ReservedBits => Lawful::Words("0"),
-        Defect::NoType => Lawful::Words(lawful_type(f, fault.msr)),
-        Defect::Gap => Lawful::Words(
+        Defect::ReservedBits => String::from_str(alloc, "0"),
+        Defect::NoType => String::from_str(alloc, lawful_type(f, fault.msr)),
+        Defect::Gap => String::from_str(
+            alloc,
             "ones from the highest of these bits down to some bit, and zeros below",
         ),
     }
 }
 
-fn bits_of(fault: &FieldFault) -> Bits {
-    Bits {
-        last: (fault.low as u32 + fault.count as u32).saturating_sub(1),
-        low: fault.low,
-    }
+fn fault_text(alloc: Global, f: &RegFile, fault: &FieldFault) -> Result<FaultText, AllocError> {
+    let last = (fault.low as u32 + fault.count as u32).saturating_sub(1);
+    Ok(FaultText {
+        register: register_text(alloc, fault.msr, fault.value)?,
+        bits: format!(in alloc; "{last}:{}", fault.low)?,
+        found: format!(in alloc; "{:x}", fault.found)?,
+        problem: problem(fault.defect),
+        lawful: lawful_text(alloc, f, fault)?,
+    })
 }
 
-fn cpu_faults<'a>(alloc: Global, f: &'a RegFile) -> Result<CpuFaults<'a>, AllocError> {
+fn undefined_text(alloc: Global, f: &RegFile, clash: &Clash) -> Result<UndefinedText, AllocError> {
+    let end = clash.first.saturating_add(clash.count);
+    Ok(UndefinedText {
+        first: first_address(alloc, clash.first)?,
+        last: last_address(alloc, end)?,
+        pages: clash.count,
+        pairs: pair_texts(alloc, f, clash.mark.as_slice())?,
+    })
+}
+
+fn undefined_texts(alloc: Global, f: &RegFile) -> Result<Vec<UndefinedText>, AllocError>
+    requires { register_fault f.now ≡ None }
+{
+    let mut texts = Vec::new(alloc);
+    for clash in clashes(alloc, f)?.as_slice() {
+        texts.push(undefined_text(alloc, f, clash)?)?;
+    }
+    Ok(texts)
+}
+
+fn fault_texts(
+    alloc: Global,
+    f: &RegFile,
+    faults: &[FieldFault],
+) -> Result<Vec<FaultText>, AllocError> {
+    let mut texts = Vec::new(alloc);
+    for fault in faults {
+        texts.push(fault_text(alloc, f, fault)?)?;
+    }
+    Ok(texts)
+}
+
+// Where pairs meet is looked at once no register is at fault by itself.
+fn cpu_faults(alloc: Global, cpu: u32, f: &RegFile) -> Result<CpuFaults, AllocError> {
     let faults = field_faults(alloc, f)?;
-    let undefined = if faults.is_empty() {
-        clashes(alloc, f)?
+    let looked = faults.is_empty();
+    let undefined = if looked {
+        undefined_texts(alloc, f)?
     } else {
         Vec::new(alloc)
     };
     Ok(CpuFaults {
-        registers: f,
-        faults,
+        cpu,
+        looked,
+        faults: fault_texts(alloc, f, faults.as_slice())?,
         undefined,
     })
-}
-
-fn has_fault(cpu: &CpuFaults<'_>) -> bool {
-    !cpu.faults.is_empty() || !cpu.undefined.is_empty()
 }
 
 /// All that is wrong with a dump.
 pub fn faults_report<'a>(
     alloc: Global,
     file: &'a str,
-    given: &'a Given,
+    given: &Given,
 ) -> Result<FaultsReport<'a>, AllocError> {
     let mut cpus = Vec::new(alloc);
     let mut found = false;
-    for f in given.dump.files.as_slice() {
-        let cpu = cpu_faults(alloc, f)?;
-        found = found || has_fault(&cpu);
+    for (k, f) in given.dump.files.as_slice().iter().enumerate() {
+        let cpu = cpu_faults(alloc, k as u32, f)?;
+        found = found || !cpu.faults.is_empty() || !cpu.undefined.is_empty();
         cpus.push(cpu)?;
     }
     Ok(FaultsReport {
         file,
-        given,
+        width: given.dump.first_file().maxphy,
+        width_assumed: !given.has_width,
         found,
         cpus,
     })
 }
 
-// ---- texts
-
-fn fault_text(text: &mut String, f: &RegFile, fault: &FieldFault) -> Result<(), AllocError> {
-    let bits = bits_of(fault);
-    let problem = problem(fault.defect);
+fn append_fault(text: &mut String, fault: &FaultText) -> Result<(), AllocError> {
     text.push_str("  ")?;
-    register_text(text, fault.msr, fault.value)?;
-    write!(text, ": bits {bits} are {:x}: {problem}\n", fault.found)?;
-    write!(text, "    lawful: {}\n", lawful_of(f, fault))
+    append_register(text, &fault.register)?;
+    write!(
+        text,
+        ": bits {} are {}: {}\n",
+        fault.bits, fault.found, fault.problem
+    )?;
+    write!(text, "    lawful: {}\n", fault.lawful)
 }
 
-fn undefined_text(text: &mut String, f: &RegFile, clash: &Clash) -> Result<(), AllocError> {
-    let first = first_address(clash.first);
-    let last = last_address(clash.first.saturating_add(clash.count));
-    write!(text, "  {first}-{last} ({} pages)", clash.count)?;
-    text.push_str(": no type is defined where these pairs meet\n")?;
-    pairs_text(text, f, clash.mark.as_slice())
+fn append_undefined(text: &mut String, run: &UndefinedText) -> Result<(), AllocError> {
+    write!(
+        text,
+        "  {}-{} ({} pages): no type is defined where these pairs meet\n",
+        run.first, run.last, run.pages
+    )?;
+    append_pairs(text, run.pairs.as_slice())
 }
 
-fn cpu_text(text: &mut String, cpu: &CpuFaults<'_>) -> Result<(), AllocError> {
+fn append_cpu(text: &mut String, cpu: &CpuFaults, many: bool) -> Result<(), AllocError> {
+    if many && (!cpu.faults.is_empty() || !cpu.undefined.is_empty()) {
+        write!(text, "  cpu {}\n", cpu.cpu)?;
+    }
     for fault in &cpu.faults {
-        fault_text(text, cpu.registers, fault)?;
+        append_fault(text, fault)?;
     }
-    for clash in &cpu.undefined {
-        undefined_text(text, cpu.registers, clash)?;
+    for run in &cpu.undefined {
+        append_undefined(text, run)?;
     }
-    if !cpu.faults.is_empty() {
+    if !cpu.looked {
         text.push_str(
             "  pages with no defined type aren't looked for: what a register at fault does to pages isn't defined\n",
         )?;
@@ -157,84 +205,27 @@ fn cpu_text(text: &mut String, cpu: &CpuFaults<'_>) -> Result<(), AllocError> {
     Ok(())
 }
 
-fn head_text(text: &mut String, report: &FaultsReport<'_>) -> Result<(), AllocError> {
-    let file = report.file;
+fn append_end(text: &mut String, report: &FaultsReport<'_>) -> Result<(), AllocError> {
     if !report.found {
-        return write!(text, "{file}: no fault\n");
+        return text.push_str(": no fault\n");
     }
-    write!(text, "{file}: faults\n")?;
-    if report.given.has_width {
-        return Ok(());
-    }
-    write!(
-        text,
-        "  the dump has no line maxphyaddr, so {} address bits were assumed\n",
-        report.given.dump.first_file().maxphy
-    )
-}
-
-/// Adds what a person reads of a report.
-pub fn faults_text(text: &mut String, report: &FaultsReport<'_>) -> Result<(), AllocError> {
-    head_text(text, report)?;
-    for (k, cpu) in report.cpus.iter().enumerate() {
-        if report.cpus.len() > 1 && has_fault(cpu) {
-            write!(text, "  cpu {k}\n")?;
-        }
-        cpu_text(text, cpu)?;
+    text.push_str(": faults\n")?;
+    if report.width_assumed {
+        write!(
+            text,
+            "  the dump has no line maxphyaddr, so {} address bits were assumed\n",
+            report.width
+        )?;
     }
     Ok(())
 }
 
-// ---- JSON
-
-fn fault_item(text: &mut String, f: &RegFile, fault: &FieldFault) -> Result<(), AllocError> {
-    begin_object(text)?;
-    register_member(text, "register", fault.msr, fault.value)?;
-    text_member(text, "bits", bits_of(fault))?;
-    text_member(text, "found", Hex(fault.found, 1))?;
-    text_member(text, "problem", problem(fault.defect))?;
-    text_member(text, "lawful", lawful_of(f, fault))?;
-    end_object(text)
-}
-
-fn undefined_item(text: &mut String, f: &RegFile, clash: &Clash) -> Result<(), AllocError> {
-    let end = clash.first.saturating_add(clash.count);
-    begin_object(text)?;
-    text_member(text, "first", first_address(clash.first))?;
-    text_member(text, "last", last_address(end))?;
-    member(text, "pages", clash.count)?;
-    pairs_member(text, f, clash.mark.as_slice())?;
-    end_object(text)
-}
-
-fn cpu_item(text: &mut String, k: usize, cpu: &CpuFaults<'_>) -> Result<(), AllocError> {
-    begin_object(text)?;
-    member(text, "cpu", k)?;
-    begin_list(text, "faults")?;
-    for fault in &cpu.faults {
-        fault_item(text, cpu.registers, fault)?;
+/// What a person reads of a report.
+pub fn faults_text(alloc: Global, report: &FaultsReport<'_>) -> Result<String, AllocError> {
+    let mut text = String::from_str(alloc, report.file)?;
+    append_end(&mut text, report)?;
+    for cpu in &report.cpus {
+        append_cpu(&mut text, cpu, report.cpus.len() > 1)?;
     }
-    end_list(text)?;
-    member(text, "looked", cpu.faults.is_empty())?;
-    begin_list(text, "undefined")?;
-    for clash in &cpu.undefined {
-        undefined_item(text, cpu.registers, clash)?;
-    }
-    end_list(text)?;
-    end_object(text)
-}
-
-/// Adds the object that a report is, as a line.
-pub fn faults_json(text: &mut String, report: &FaultsReport<'_>) -> Result<(), AllocError> {
-    begin_object(text)?;
-    text_member(text, "file", Escaped(report.file))?;
-    width_members(text, report.given)?;
-    member(text, "found", report.found)?;
-    begin_list(text, "cpus")?;
-    for (k, cpu) in report.cpus.iter().enumerate() {
-        cpu_item(text, k, cpu)?;
-    }
-    end_list(text)?;
-    end_object(text)?;
-    text.push_str("\n")
+    Ok(text)
 }

@@ -1,38 +1,40 @@
 ghost use Rattle.std.specs.Prelude.{◌<◌};
 
-use crate::json::{begin_list, begin_object, end_list, end_object, text_member};
-use crate::texts::{Hex, Size, first_address};
+use crate::texts::first_address;
 use mt_kinds::{MemType, PatType, byte_at, is_bit_set};
 use mt_ranges::block_of;
 use mt_regs::{CAPABILITIES, DEFAULT_TYPE, PAT, RegFile};
-use std::alloc::AllocError;
-use std::fmt;
+use serde::Serialize;
+use std::alloc::{AllocError, Global};
 
 // The numbers of the pairs' registers are below.
 const PAST_PAIRS: u32 = 0x250;
 
-/// What a field of a register holds.
-#[derive(Clone, Copy)]
-enum Held {
-    Flag(bool),
-    Number(u64),
-    /// A byte that is a memory type.
-    Type(u8),
-    /// The page that a range begins with.
-    Page(u64),
-    /// The log of a range's bytes. A mask with a gap gives none.
-    Size(Option<u8>),
-    /// Eight memory types.
-    Types(u64),
-    /// The eight entries of the PAT.
-    Entries(u64),
+/// A field of a register.
+#[derive(Drop, Serialize)]
+pub struct FieldText {
+    pub name: &'static str,
+    pub value: String,
 }
 
-/// A field of a register.
-#[derive(Clone, Copy)]
-struct Field {
-    name: &'static str,
-    held: Held,
+/// The value of a register, and its fields.
+#[derive(Drop, Serialize)]
+pub struct ValueText {
+    pub value: String,
+    pub fields: Vec<FieldText>,
+}
+
+fn field(alloc: Global, name: &'static str, value: &str) -> Result<FieldText, AllocError> {
+    Ok(FieldText {
+        name,
+        value: String::from_str(alloc, value)?,
+    })
+}
+
+fn flag(alloc: Global, name: &'static str, value: u64, bit: u8) -> Result<FieldText, AllocError>
+    requires { bit < 64 }
+{
+    field(alloc, name, if is_bit_set(value, bit) { "1" } else { "0" })
 }
 
 fn type_name(byte: u8) -> &'static str {
@@ -49,118 +51,134 @@ fn entry_name(byte: u8) -> &'static str {
     }
 }
 
-// Writes the eight names of a value's bytes, the lowest first.
-fn write_names<W: fmt::Write>(f: &mut fmt::Formatter<W>, value: u64, is_pat: bool) -> fmt::Result {
+/// A power of two of bytes in the largest unit of which it is a multiple.
+pub fn size_text(alloc: Global, log: u8) -> Result<String, AllocError> {
+    let unit = match log / 10 {
+        0 => "B",
+        1 => "KB",
+        2 => "MB",
+        3 => "GB",
+        4 => "TB",
+        _ => "PB",
+    };
+    format!(in alloc; "{} {unit}", 1u64 << (log % 10))
+}
+
+// The eight names of a value's bytes, the lowest first.
+fn names_text(alloc: Global, value: u64, is_pat: bool) -> Result<String, AllocError> {
+    let mut text = String::new(alloc);
     for i in 0..8 {
         let byte = byte_at(value, i);
         if i > 0 {
-            f.write_str(" ")?;
+            text.push_str(" ")?;
         }
-        f.write_str(if is_pat {
+        text.push_str(if is_pat {
             entry_name(byte)
         } else {
             type_name(byte)
         })?;
     }
-    Ok(())
+    Ok(text)
 }
 
-impl fmt::Display for Held {
-    fn fmt<W: fmt::Write>(&self, f: &mut fmt::Formatter<W>) -> fmt::Result {
-        match *self {
-            Held::Flag(set) => f.write_str(if set { "1" } else { "0" }),
-            Held::Number(number) => write!(f, "{number}"),
-            Held::Type(byte) => f.write_str(type_name(byte)),
-            Held::Page(page) => write!(f, "{}", first_address(page)),
-            Held::Size(Some(log)) => write!(f, "{}", Size(log)),
-            Held::Size(None) => f.write_str("none, since the mask has a gap"),
-            Held::Types(value) => write_names(f, value, false),
-            Held::Entries(value) => write_names(f, value, true),
-        }
-    }
+fn base_fields(alloc: Global, value: u64) -> Result<Vec<FieldText>, AllocError> {
+    let mut fields = Vec::new(alloc);
+    fields.push(FieldText {
+        name: "base",
+        value: first_address(alloc, value / 4096)?,
+    })?;
+    fields.push(field(alloc, "type", type_name((value & 0xff) as u8))?)?;
+    Ok(fields)
 }
 
-fn some_field(name: &'static str, held: Held) -> Option<Field> {
-    Some(Field { name, held })
-}
-
-fn flag(name: &'static str, value: u64, bit: u8) -> Option<Field>
-    requires { bit < 64 }
-{
-    some_field(name, Held::Flag(is_bit_set(value, bit)))
-}
-
-fn type_field(value: u64) -> Option<Field> {
-    some_field("type", Held::Type((value & 0xff) as u8))
-}
-
-// The log of the bytes of a valid pair's range.
-fn size_log(f: &RegFile, mask: u64) -> Option<u8> {
+// The size of a valid pair's range.
+fn size_in(alloc: Global, f: &RegFile, mask: u64) -> Result<String, AllocError> {
     f.is_register_file(); // a fact for the proof
-    let block = block_of(0, mask, f.maxphy)?;
-    Some(block.log + 12)
-}
-
-fn mask_fields(f: &RegFile, value: u64) -> [Option<Field>; 3] {
-    let size = if is_bit_set(value, 11) {
-        some_field("size", Held::Size(size_log(f, value)))
-    } else {
-        None
-    };
-    [flag("valid", value, 11), size, None]
-}
-
-// The fields of a register's value in a file.
-fn fields_of(f: &RegFile, msr: u32, value: u64) -> [Option<Field>; 3] {
-    match msr {
-        CAPABILITIES => [
-            some_field("VCNT", Held::Number(value & 0xff)),
-            flag("FIX", value, 8),
-            flag("WC", value, 10),
-        ],
-        PAT => [some_field("entries", Held::Entries(value)), None, None],
-        DEFAULT_TYPE => [
-            type_field(value),
-            flag("E", value, 11),
-            flag("FE", value, 10),
-        ],
-        _ if msr >= PAST_PAIRS => [some_field("types", Held::Types(value)), None, None],
-        _ if msr % 2 == 0 => [
-            some_field("base", Held::Page(value / 4096)),
-            type_field(value),
-            None,
-        ],
-        _ => mask_fields(f, value),
+    match block_of(0, mask, f.maxphy) {
+        Some(block) => size_text(alloc, block.log + 12),
+        None => String::from_str(alloc, "none, since the mask has a gap"),
     }
 }
 
-/// Adds a register's value in a file and its fields, as the rest of a line.
-pub fn value_text(text: &mut String, f: &RegFile, msr: u32, value: u64) -> Result<(), AllocError> {
-    write!(text, "{value:016x}")?;
-    for field in fields_of(f, msr, value) {
-        if let Some(Field { name, held }) = field {
-            write!(text, ", {name} {held}")?;
-        }
+fn mask_fields(alloc: Global, f: &RegFile, value: u64) -> Result<Vec<FieldText>, AllocError> {
+    let mut fields = Vec::new(alloc);
+    fields.push(flag(alloc, "valid", value, 11)?)?;
+    if is_bit_set(value, 11) {
+        fields.push(FieldText {
+            name: "size",
+            value: size_in(alloc, f, value)?,
+        })?;
     }
-    text.push_str("\n")
+    Ok(fields)
 }
 
-/// Adds the members of an object about a register's value in a file.
-pub fn value_members(
-    text: &mut String,
+fn default_fields(alloc: Global, value: u64) -> Result<Vec<FieldText>, AllocError> {
+    let mut fields = Vec::new(alloc);
+    fields.push(field(alloc, "type", type_name((value & 0xff) as u8))?)?;
+    fields.push(flag(alloc, "E", value, 11)?)?;
+    fields.push(flag(alloc, "FE", value, 10)?)?;
+    Ok(fields)
+}
+
+fn capability_fields(alloc: Global, value: u64) -> Result<Vec<FieldText>, AllocError> {
+    let mut fields = Vec::new(alloc);
+    fields.push(FieldText {
+        name: "VCNT",
+        value: format!(in alloc; "{}", value & 0xff)?,
+    })?;
+    fields.push(flag(alloc, "FIX", value, 8)?)?;
+    fields.push(flag(alloc, "WC", value, 10)?)?;
+    Ok(fields)
+}
+
+fn byte_fields(
+    alloc: Global,
+    name: &'static str,
+    value: u64,
+    is_pat: bool,
+) -> Result<Vec<FieldText>, AllocError> {
+    let mut fields = Vec::new(alloc);
+    fields.push(FieldText {
+        name,
+        value: names_text(alloc, value, is_pat)?,
+    })?;
+    Ok(fields)
+}
+
+fn fields_of(
+    alloc: Global,
     f: &RegFile,
     msr: u32,
     value: u64,
-) -> Result<(), AllocError> {
-    text_member(text, "value", Hex(value, 16))?;
-    begin_list(text, "fields")?;
-    for field in fields_of(f, msr, value) {
-        if let Some(Field { name, held }) = field {
-            begin_object(text)?;
-            text_member(text, "name", name)?;
-            text_member(text, "value", held)?;
-            end_object(text)?;
-        }
+) -> Result<Vec<FieldText>, AllocError> {
+    match msr {
+        CAPABILITIES => capability_fields(alloc, value),
+        PAT => byte_fields(alloc, "entries", value, true),
+        DEFAULT_TYPE => default_fields(alloc, value),
+        _ if msr >= PAST_PAIRS => byte_fields(alloc, "types", value, false),
+        _ if msr % 2 == 0 => base_fields(alloc, value),
+        _ => mask_fields(alloc, f, value),
     }
-    end_list(text)
+}
+
+/// What is said of a register's value in a file.
+pub fn value_text(
+    alloc: Global,
+    f: &RegFile,
+    msr: u32,
+    value: u64,
+) -> Result<ValueText, AllocError> {
+    Ok(ValueText {
+        value: format!(in alloc; "{value:016x}")?,
+        fields: fields_of(alloc, f, msr, value)?,
+    })
+}
+
+/// Adds a value and its fields, as the rest of a line.
+pub fn append_value(text: &mut String, value: &ValueText) -> Result<(), AllocError> {
+    text.push_str(value.value.as_str())?;
+    for field in &value.fields {
+        write!(text, ", {} {}", field.name, field.value)?;
+    }
+    text.push_str("\n")
 }

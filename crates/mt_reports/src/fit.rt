@@ -1,14 +1,12 @@
-use crate::given::{Given, width_members};
-use crate::json::{
-    Escaped, begin_list, begin_object, begin_object_member, end_list, end_object, member,
-    text_member,
-};
-use crate::texts::{Hex, Size};
+ghost use Rattle.std.specs.Prelude.{◌<◌};
+
+use crate::fields::size_text;
+use crate::given::Given;
 use mt_explain::{Rounding, Span, Unfit, least_by_chunk, rounding_of, steps};
 use mt_ranges::is_valid;
 use mt_regs::RegFile;
+use serde::Serialize;
 use std::alloc::{AllocError, Global};
-use std::fmt;
 
 // The log of the bytes of a page, which is the least chunk too.
 const PAGE_LOG: u8 = 12;
@@ -17,52 +15,48 @@ const PAGE_LOG: u8 = 12;
 const PAST_GRANULES: u8 = 29;
 
 /// The pairs that a file has, how many of them are valid, and how many are to stay free.
-#[derive(Clone, Copy)]
-struct Budget {
-    pairs: u64,
-    valid: u64,
-    spare: u64,
+#[derive(Clone, Copy, Drop, Serialize)]
+pub struct Budget {
+    pub pairs: u64,
+    pub valid: u64,
+    pub spare: u64,
 }
 
-/// What the types rounded to granules need and lose.
-#[derive(Clone, Copy, Drop)]
-struct Granules {
-    /// The log of a granule's bytes.
-    log: u8,
-    rounding: Rounding,
+/// What the same types need from one chunk size on, up to the next.
+#[derive(Drop, Serialize)]
+pub struct ChunkText {
+    pub chunk: String,
+    pub size: String,
+    pub needs: u64,
+    /// How many pairs stay free, if there are enough.
+    pub free: Option<u64>,
+    pub command: Option<String>,
+}
+
+/// What the types rounded to granules of one size need and lose.
+#[derive(Drop, Serialize)]
+pub struct GranuleText {
+    pub granule: String,
+    pub size: String,
+    pub needs: u64,
+    pub free: Option<u64>,
+    /// How many pages lose WB, if the file has so many pairs.
+    pub lost: Option<u64>,
+    pub command: Option<String>,
 }
 
 /// How many pairs the types of processor 0 need.
-#[derive(Drop)]
+#[derive(Drop, Serialize)]
 pub struct FitReport<'a> {
-    file: &'a str,
-    given: &'a Given,
-    has: Budget,
-    /// The least number of pairs, whatever the chunk size.
-    needs: u64,
+    pub file: &'a str,
+    pub width: u8,
+    pub width_assumed: bool,
+    pub has: Budget,
+    pub needs: u64,
     pub fits: bool,
-    /// The number of pairs from one chunk size on, up to the next.
-    chunks: Vec<Span<u64>>,
+    pub chunks: Vec<ChunkText>,
     /// Empty if the types fit as they are.
-    granules: Vec<Granules>,
-}
-
-/// The command that gives registers with the same types, or with types rounded to granules.
-#[derive(Clone, Copy)]
-enum Command {
-    Tidy { spare: u64, chunk: Hex },
-    Gran { spare: u64, granule: Hex },
-}
-
-impl fmt::Display for Command {
-    fn fmt<W: fmt::Write>(&self, f: &mut fmt::Formatter<W>) -> fmt::Result {
-        match *self {
-            Command::Tidy { spare, chunk } => { write!(f, "mtrr tidy spare={spare} chunk={chunk}") }
-            Command::Gran { spare, granule } => {
-                write!(f, "mtrr gran {granule} spare={spare} chunk=10000000000000")
-            }
-        }
-    }
+    pub granules: Vec<GranuleText>,
 }
 
 // ---- facts
@@ -87,34 +81,77 @@ fn free_after(has: Budget, needs: u64) -> Option<u64> {
     }
 }
 
-// So many bytes by their log.
-fn bytes(log: u8) -> Hex {
-    Hex(1u64 << (log % 64), 1)
+fn bytes_text(alloc: Global, log: u8) -> Result<String, AllocError> {
+    format!(in alloc; "{:x}", 1u64 << (log % 64))
 }
 
-// The log of the bytes of the chunk that a run begins with.
-fn chunk_log(run: &Span<u64>) -> u8 {
-    (run.first % 64) as u8 + PAGE_LOG
+fn chunk_text(alloc: Global, run: &Span<u64>, has: Budget) -> Result<ChunkText, AllocError> {
+    let log = (run.first % 64) as u8 + PAGE_LOG;
+    let chunk = bytes_text(alloc, log)?;
+    let free = free_after(has, run.mark);
+    let command = match free {
+        Some(_) => Some(format!(in alloc; "mtrr tidy spare={} chunk={chunk}", has.spare)?),
+        None => None,
+    };
+    Ok(ChunkText {
+        size: size_text(alloc, log)?,
+        chunk,
+        needs: run.mark,
+        free,
+        command,
+    })
+}
+
+fn chunk_texts(alloc: Global, least: &[u64], has: Budget) -> Result<Vec<ChunkText>, AllocError> {
+    let mut texts = Vec::new(alloc);
+    for run in steps(alloc, least)?.as_slice() {
+        texts.push(chunk_text(alloc, run, has)?)?;
+    }
+    Ok(texts)
+}
+
+fn granule_text(alloc: Global, g: u8, r: Rounding, has: Budget) -> Result<GranuleText, AllocError>
+    requires { g < 29 }
+{
+    let log = g + PAGE_LOG;
+    let granule = bytes_text(alloc, log)?;
+    let free = free_after(has, r.pairs);
+    let command = match free {
+        Some(_) => Some(format!(in alloc;
+            "mtrr gran {granule} spare={} chunk=10000000000000",
+            has.spare
+        )?),
+        None => None,
+    };
+    Ok(GranuleText {
+        size: size_text(alloc, log)?,
+        granule,
+        needs: r.pairs,
+        free,
+        lost: r.lost,
+        command,
+    })
 }
 
 // Each size at which the number of pairs that granules need changes.
-fn granules_of(alloc: Global, f: &RegFile) -> Result<Result<Vec<Granules>, Unfit>, AllocError> {
-    let mut list = Vec::new(alloc);
+fn granule_texts(
+    alloc: Global,
+    f: &RegFile,
+    has: Budget,
+) -> Result<Result<Vec<GranuleText>, Unfit>, AllocError> {
+    let mut texts = Vec::new(alloc);
     let mut last = None;
     for g in 1..PAST_GRANULES {
-        let rounding = match rounding_of(f, g) {
-            Ok(rounding) => rounding,
+        let now = match rounding_of(f, g) {
+            Ok(now) => now,
             Err(why) => return Ok(Err(why)),
         };
-        if last != Some(rounding.pairs) {
-            list.push(Granules {
-                log: g + PAGE_LOG,
-                rounding,
-            })?;
+        if last != Some(now.pairs) {
+            texts.push(granule_text(alloc, g, now, has)?)?;
         }
-        last = Some(rounding.pairs);
+        last = Some(now.pairs);
     }
-    Ok(Ok(list))
+    Ok(Ok(texts))
 }
 
 // The least of the numbers.
@@ -130,7 +167,7 @@ fn least_of(numbers: &[u64]) -> u64 {
 pub fn fit_report<'a>(
     alloc: Global,
     file: &'a str,
-    given: &'a Given,
+    given: &Given,
     spare: u64,
 ) -> Result<Result<FitReport<'a>, Unfit>, AllocError> {
     let f = given.dump.first_file();
@@ -148,176 +185,76 @@ pub fn fit_report<'a>(
     let granules = if fits {
         Vec::new(alloc)
     } else {
-        match granules_of(alloc, f)? {
+        match granule_texts(alloc, f, has)? {
             Ok(granules) => granules,
             Err(why) => return Ok(Err(why)),
         }
     };
     Ok(Ok(FitReport {
         file,
-        given,
+        width: f.maxphy,
+        width_assumed: !given.has_width,
         has,
         needs,
         fits,
-        chunks: steps(alloc, numbers.as_slice())?,
+        chunks: chunk_texts(alloc, numbers.as_slice(), has)?,
         granules,
     }))
 }
 
 // ---- texts
 
-fn need_text(text: &mut String, has: Budget, needs: u64) -> Result<(), AllocError> {
-    let usable = has.pairs.saturating_sub(has.spare);
-    match free_after(has, needs) {
+fn append_need(
+    text: &mut String,
+    needs: u64,
+    free: Option<u64>,
+    has: Budget,
+) -> Result<(), AllocError> {
+    match free {
         Some(free) => write!(text, "{needs} needed, {free} free"),
         None => write!(
             text,
             "{needs} needed, {} too many",
-            needs.saturating_sub(usable)
+            needs.saturating_sub(has.pairs.saturating_sub(has.spare))
         ),
     }
 }
 
-fn command_text(text: &mut String, is_enough: bool, command: Command) -> Result<(), AllocError> {
-    if is_enough {
+fn append_command(text: &mut String, command: &Option<String>) -> Result<(), AllocError> {
+    if let Some(command) = command {
         write!(text, ": {command}")?;
     }
     text.push_str("\n")
 }
 
-fn chunk_text(text: &mut String, has: Budget, run: &Span<u64>) -> Result<(), AllocError> {
-    let log = chunk_log(run);
-    let command = Command::Tidy {
-        spare: has.spare,
-        chunk: bytes(log),
-    };
-    write!(text, "  chunk {}: ", Size(log))?;
-    need_text(text, has, run.mark)?;
-    command_text(text, free_after(has, run.mark).is_some(), command)
+fn append_chunk(text: &mut String, c: &ChunkText, has: Budget) -> Result<(), AllocError> {
+    write!(text, "  chunk {}: ", c.size)?;
+    append_need(text, c.needs, c.free, has)?;
+    append_command(text, &c.command)
 }
 
-fn granules_text(text: &mut String, has: Budget, granules: &Granules) -> Result<(), AllocError> {
-    let Granules { log, rounding } = *granules;
-    let command = Command::Gran {
-        spare: has.spare,
-        granule: bytes(log),
-    };
-    write!(text, "  granules of {}: ", Size(log))?;
-    need_text(text, has, rounding.pairs)?;
-    if let Some(lost) = rounding.lost {
+fn append_granule(text: &mut String, g: &GranuleText, has: Budget) -> Result<(), AllocError> {
+    write!(text, "  granules of {}: ", g.size)?;
+    append_need(text, g.needs, g.free, has)?;
+    if let Some(lost) = g.lost {
         write!(text, ", {lost} pages lose WB")?;
     }
-    command_text(text, free_after(has, rounding.pairs).is_some(), command)
+    append_command(text, &g.command)
 }
 
-/// Adds what a person reads of a report.
-pub fn fit_text(text: &mut String, report: &FitReport<'_>) -> Result<(), AllocError> {
-    let Budget {
-        pairs,
-        valid,
-        spare,
-    } = report.has;
-    write!(text, "{}: pairs: {pairs}, valid: {valid}", report.file)?;
-    write!(text, ", needed: {}, to stay free: {spare}\n", report.needs)?;
-    for run in &report.chunks {
-        chunk_text(text, report.has, run)?;
+/// What a person reads of a report.
+pub fn fit_text(alloc: Global, report: &FitReport<'_>) -> Result<String, AllocError> {
+    let mut text = String::new(alloc);
+    write!(
+        text,
+        "{}: pairs: {}, valid: {}, needed: {}, to stay free: {}\n",
+        report.file, report.has.pairs, report.has.valid, report.needs, report.has.spare
+    )?;
+    for c in &report.chunks {
+        append_chunk(&mut text, c, report.has)?;
     }
-    for granules in &report.granules {
-        granules_text(text, report.has, granules)?;
+    for g in &report.granules {
+        append_granule(&mut text, g, report.has)?;
     }
-    Ok(())
-}
-
-// ---- JSON
-
-fn number_member(text: &mut String, name: &str, number: Option<u64>) -> Result<(), AllocError> {
-    match number {
-        Some(number) => member(text, name, number),
-        None => member(text, name, "null"),
-    }
-}
-
-fn command_member(text: &mut String, is_enough: bool, command: Command) -> Result<(), AllocError> {
-    if is_enough {
-        text_member(text, "command", command)
-    } else {
-        member(text, "command", "null")
-    }
-}
-
-fn chunk_item(text: &mut String, has: Budget, run: &Span<u64>) -> Result<(), AllocError> {
-    let log = chunk_log(run);
-    let chunk = bytes(log);
-    let free = free_after(has, run.mark);
-    let command = Command::Tidy {
-        spare: has.spare,
-        chunk,
-    };
-    begin_object(text)?;
-    text_member(text, "chunk", chunk)?;
-    text_member(text, "size", Size(log))?;
-    member(text, "needs", run.mark)?;
-    number_member(text, "free", free)?;
-    command_member(text, free.is_some(), command)?;
-    end_object(text)
-}
-
-fn granules_item(text: &mut String, has: Budget, granules: &Granules) -> Result<(), AllocError> {
-    let Granules { log, rounding } = *granules;
-    let granule = bytes(log);
-    let free = free_after(has, rounding.pairs);
-    let command = Command::Gran {
-        spare: has.spare,
-        granule,
-    };
-    begin_object(text)?;
-    text_member(text, "granule", granule)?;
-    text_member(text, "size", Size(log))?;
-    member(text, "needs", rounding.pairs)?;
-    number_member(text, "free", free)?;
-    number_member(text, "lost", rounding.lost)?;
-    command_member(text, free.is_some(), command)?;
-    end_object(text)
-}
-
-fn budget_member(text: &mut String, has: Budget) -> Result<(), AllocError> {
-    begin_object_member(text, "has")?;
-    member(text, "pairs", has.pairs)?;
-    member(text, "valid", has.valid)?;
-    member(text, "spare", has.spare)?;
-    end_object(text)
-}
-
-fn head_members(text: &mut String, report: &FitReport<'_>) -> Result<(), AllocError> {
-    text_member(text, "file", Escaped(report.file))?;
-    width_members(text, report.given)?;
-    budget_member(text, report.has)?;
-    member(text, "needs", report.needs)?;
-    member(text, "fits", report.fits)
-}
-
-fn chunks_member(text: &mut String, report: &FitReport<'_>) -> Result<(), AllocError> {
-    begin_list(text, "chunks")?;
-    for run in &report.chunks {
-        chunk_item(text, report.has, run)?;
-    }
-    end_list(text)
-}
-
-fn granules_member(text: &mut String, report: &FitReport<'_>) -> Result<(), AllocError> {
-    begin_list(text, "granules")?;
-    for granules in &report.granules {
-        granules_item(text, report.has, granules)?;
-    }
-    end_list(text)
-}
-
-/// Adds the object that a report is, as a line.
-pub fn fit_json(text: &mut String, report: &FitReport<'_>) -> Result<(), AllocError> {
-    begin_object(text)?;
-    head_members(text, report)?;
-    chunks_member(text, report)?;
-    granules_member(text, report)?;
-    end_object(text)?;
-    text.push_str("\n")
+    Ok(text)
 }

@@ -1,7 +1,5 @@
 use crate::NoReport;
-use crate::json::member;
 use mt_dump::{Dump, DumpFault, DumpReason, read_dump};
-use std::alloc::AllocError;
 
 const MOST_BYTES: usize = 0x100_0000;
 
@@ -54,10 +52,4 @@ pub fn given_of(bytes: &[u8]) -> Result<Given, NoReport> {
             reason: reason_text(reason),
         }),
     }
-}
-
-/// Adds the members of an object about the address width of a dump.
-pub fn width_members(text: &mut String, given: &Given) -> Result<(), AllocError> {
-    member(text, "width", given.dump.first_file().maxphy)?;
-    member(text, "width_assumed", !given.has_width)
 }

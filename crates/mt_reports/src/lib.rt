@@ -9,13 +9,12 @@ mod faults;
 mod fields;
 mod fit;
 mod given;
-mod json;
 mod names;
 mod page;
-mod registers;
 mod texts;
 
-pub use answer::{Answer, Form, Question, answer_to, diff_answer};
+pub use answer::{
+    Answer, Form, diff_answer, diff_of_cpus_answer, faults_answer, fit_answer, page_answer,
+};
 pub use error::NoReport;
 pub use given::{Given, given_of};
-pub use names::Register;

@@ -1,12 +1,4 @@
-use std::fmt;
-
-/// The manual's name of the register with this number.
-#[derive(Clone, Copy)]
-pub struct Name(pub u32);
-
-/// A register with this number: `200 IA32_MTRR_PHYSBASE0`.
-#[derive(Clone, Copy, Debug)]
-pub struct Register(pub u32);
+use std::alloc::{AllocError, Global};
 
 fn fixed_name(msr: u32) -> Option<&'static str> {
     match msr {
@@ -28,19 +20,15 @@ fn fixed_name(msr: u32) -> Option<&'static str> {
     }
 }
 
-impl fmt::Display for Name {
-    fn fmt<W: fmt::Write>(&self, f: &mut fmt::Formatter<W>) -> fmt::Result {
-        let n = self.0 % 0x100 / 2;
-        match fixed_name(self.0) {
-            Some(name) => f.write_str(name),
-            None if self.0 % 2 == 0 => write!(f, "IA32_MTRR_PHYSBASE{n}"),
-            None => write!(f, "IA32_MTRR_PHYSMASK{n}"),
-        }
+/// The manual's name of a register.
+pub fn register_name(alloc: Global, msr: u32) -> Result<String, AllocError> {
+    if let Some(name) = fixed_name(msr) {
+        return String::from_str(alloc, name);
     }
-}
-
-impl fmt::Display for Register {
-    fn fmt<W: fmt::Write>(&self, f: &mut fmt::Formatter<W>) -> fmt::Result {
-        write!(f, "{:03x} {}", self.0, Name(self.0))
+    let n = msr % 0x100 / 2;
+    if msr % 2 == 0 {
+        format!(in alloc; "IA32_MTRR_PHYSBASE{n}")
+    } else {
+        format!(in alloc; "IA32_MTRR_PHYSMASK{n}")
     }
 }

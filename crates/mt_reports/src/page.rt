@@ -1,48 +1,56 @@
-use crate::given::{Given, width_members};
-use crate::json::{Escaped, begin_list, begin_object, end_list, end_object, member, text_member};
-use crate::registers::{pairs_member, pairs_text, register_members, register_text};
-use crate::texts::{Bits, Hex};
+use crate::given::Given;
+use crate::texts::{
+    PairText, RegisterText, append_pairs, append_register, pair_texts, register_text,
+};
 use mt_explain::{Decision, Rule, decide, effective_types, field_faults};
-use mt_kinds::{MemType, Pat};
+use mt_kinds::Pat;
 use mt_regs::{DEFAULT_TYPE, PAT, PageType, RegFile};
+use serde::Serialize;
 use std::alloc::{AllocError, Global};
 
+/// The type in effect where a mapping chooses an entry of the PAT.
+#[derive(Drop, Serialize)]
+pub struct EffectiveText {
+    pub pat: &'static str,
+    pub effective: &'static str,
+}
+
 /// What gives a page its type on a processor.
-#[derive(Drop)]
-struct CpuPage<'a> {
-    registers: &'a RegFile,
-    decision: Decision,
+#[derive(Drop, Serialize)]
+pub struct CpuPage {
+    pub cpu: u32,
+    #[serde(rename = "type")]
+    pub kind: &'static str,
+    pub rule: &'static str,
+    pub because: &'static str,
     /// Whether a register has a fault by itself. What such a register does to pages isn't defined.
-    at_fault: bool,
+    pub at_fault: bool,
+    pub registers: Vec<RegisterText>,
+    /// The bits of the fixed-range register that has the page.
+    pub bits: Option<String>,
+    pub pairs: Vec<PairText>,
+    pub effective: Vec<EffectiveText>,
 }
 
 /// What gives the page of an address its type.
-#[derive(Drop)]
+#[derive(Drop, Serialize)]
 pub struct PageReport<'a> {
-    file: &'a str,
-    given: &'a Given,
-    address: u64,
+    pub file: &'a str,
+    pub address: String,
+    pub width: u8,
+    pub width_assumed: bool,
     /// Whether a processor gives the page no defined type, or has a register at fault by itself.
     pub found: bool,
     /// Whether a processor gives the page no defined type.
-    undefined: bool,
-    cpus: Vec<CpuPage<'a>>,
+    pub undefined: bool,
+    pub cpus: Vec<CpuPage>,
 }
-
-// ---- facts
 
 /// The name of a page's type.
 pub fn kind_name(kind: PageType) -> &'static str {
     match kind {
         PageType::Kind(kind) => kind.name(),
         PageType::Undefined => "undefined",
-    }
-}
-
-fn is_undefined(kind: PageType) -> bool {
-    match kind {
-        PageType::Kind(_) => false,
-        PageType::Undefined => true,
     }
 }
 
@@ -93,42 +101,71 @@ fn number_of(rule: Rule) -> Option<u32> {
     }
 }
 
-// That register and its value.
-fn decider(f: &RegFile, rule: Rule) -> Option<(u32, u64)> {
-    let msr = number_of(rule)?;
-    let value = f.get(msr)?;
-    Some((msr, value))
+// The registers other than pairs that decide.
+fn register_texts(alloc: Global, f: &RegFile, rule: Rule) -> Result<Vec<RegisterText>, AllocError> {
+    let mut texts = Vec::new(alloc);
+    if let Some(msr) = number_of(rule) {
+        if let Some(value) = f.get(msr) {
+            texts.push(register_text(alloc, msr, value)?)?;
+        }
+    }
+    Ok(texts)
 }
 
 // The bits of a fixed-range register that decide.
-fn bits_of(rule: Rule) -> Option<Bits> {
+fn bits_text(alloc: Global, rule: Rule) -> Result<Option<String>, AllocError> {
     match rule {
         Rule::FixedByte { byte, .. } => {
             let low = 8 * (byte % 8);
-            Some(Bits {
-                last: low as u32 + 7,
-                low,
-            })
+            Ok(Some(format!(in alloc; "{}:{low}", low + 7)?))
         }
-        _ => None,
+        _ => Ok(None),
     }
 }
 
 // The pairs that decide: those that have the page, unless another rule comes first.
-fn deciding_pairs(decision: &Decision) -> &[u8] {
+fn deciding_pairs(
+    alloc: Global,
+    f: &RegFile,
+    decision: &Decision,
+) -> Result<Vec<PairText>, AllocError> {
     match decision.rule {
-        Rule::Off => &[],
-        Rule::FixedByte { .. } => &[],
-        _ => decision.pairs.as_slice(),
+        Rule::Off => Ok(Vec::new(alloc)),
+        Rule::FixedByte { .. } => Ok(Vec::new(alloc)),
+        _ => pair_texts(alloc, f, decision.pairs.as_slice()),
     }
 }
 
-fn cpu_page<'a>(alloc: Global, f: &'a RegFile, page: u64) -> Result<CpuPage<'a>, AllocError> {
-    let at_fault = !field_faults(alloc, f)?.is_empty();
+fn effective_texts(
+    alloc: Global,
+    f: &RegFile,
+    kind: PageType,
+) -> Result<Vec<EffectiveText>, AllocError> {
+    let mut texts = Vec::new(alloc);
+    if let PageType::Kind(kind) = kind {
+        let types = effective_types(kind, f.pat);
+        for index in 0..8 {
+            texts.push(EffectiveText {
+                pat: Pat(f.pat).entry(index).name(),
+                effective: types[index as usize].name(),
+            })?;
+        }
+    }
+    Ok(texts)
+}
+
+fn cpu_page(alloc: Global, cpu: u32, f: &RegFile, page: u64) -> Result<CpuPage, AllocError> {
+    let decision = decide(f, page);
     Ok(CpuPage {
-        registers: f,
-        decision: decide(f, page),
-        at_fault,
+        cpu,
+        kind: kind_name(decision.kind),
+        rule: rule_name(decision.rule),
+        because: because(decision.rule),
+        at_fault: !field_faults(alloc, f)?.is_empty(),
+        registers: register_texts(alloc, f, decision.rule)?,
+        bits: bits_text(alloc, decision.rule)?,
+        pairs: deciding_pairs(alloc, f, &decision)?,
+        effective: effective_texts(alloc, f, decision.kind)?,
     })
 }
 
@@ -136,153 +173,78 @@ fn cpu_page<'a>(alloc: Global, f: &'a RegFile, page: u64) -> Result<CpuPage<'a>,
 pub fn page_report<'a>(
     alloc: Global,
     file: &'a str,
-    given: &'a Given,
+    given: &Given,
     address: u64,
 ) -> Result<PageReport<'a>, AllocError> {
     let mut cpus = Vec::new(alloc);
     let mut undefined = false;
-    let mut at_fault = false;
-    for f in given.dump.files.as_slice() {
-        let cpu = cpu_page(alloc, f, address / 4096)?;
-        undefined = undefined || is_undefined(cpu.decision.kind);
-        at_fault = at_fault || cpu.at_fault;
+    let mut found = false;
+    for (k, f) in given.dump.files.as_slice().iter().enumerate() {
+        let cpu = cpu_page(alloc, k as u32, f, address / 4096)?;
+        undefined = undefined || cpu.effective.is_empty();
+        found = found || cpu.effective.is_empty() || cpu.at_fault;
         cpus.push(cpu)?;
     }
     Ok(PageReport {
         file,
-        given,
-        address,
-        found: undefined || at_fault,
+        address: format!(in alloc; "{address:x}")?,
+        width: given.dump.first_file().maxphy,
+        width_assumed: !given.has_width,
+        found,
         undefined,
         cpus,
     })
 }
 
-// ---- texts
+fn append_effective(text: &mut String, effective: &[EffectiveText]) -> Result<(), AllocError> {
+    for (index, entry) in effective.iter().enumerate() {
+        write!(
+            text,
+            "    PAT entry {index}, {}: {}\n",
+            entry.pat, entry.effective
+        )?;
+    }
+    Ok(())
+}
 
 // Adds the line about a register that decides, with its bits if not all of them do.
-fn decider_text(text: &mut String, f: &RegFile, rule: Rule) -> Result<(), AllocError> {
-    let Some((msr, value)) = decider(f, rule) else {
-        return Ok(());
-    };
+fn append_decider(
+    text: &mut String,
+    register: &RegisterText,
+    bits: &Option<String>,
+) -> Result<(), AllocError> {
     text.push_str("    ")?;
-    register_text(text, msr, value)?;
-    if let Some(bits) = bits_of(rule) {
+    append_register(text, register)?;
+    if let Some(bits) = bits {
         write!(text, ", bits {bits}")?;
     }
     text.push_str("\n")
 }
 
-// Adds the lines about the types in effect, by the entry of the PAT that a mapping chooses.
-fn effective_text(text: &mut String, pat: u64, kind: MemType) -> Result<(), AllocError> {
-    let types = effective_types(kind, pat);
-    for index in 0..8u8 {
-        let entry = Pat(pat).entry(index).name();
-        let effective = types[index as usize].name();
-        write!(text, "    PAT entry {index}, {entry}: {effective}\n")?;
-    }
-    Ok(())
-}
-
-fn cpu_text(text: &mut String, k: usize, cpu: &CpuPage<'_>) -> Result<(), AllocError> {
-    let f = cpu.registers;
-    let Decision { kind, rule, .. } = cpu.decision;
+fn append_cpu(text: &mut String, cpu: &CpuPage) -> Result<(), AllocError> {
     write!(
         text,
-        "  cpu {k}: {}, since {}\n",
-        kind_name(kind),
-        because(rule)
+        "  cpu {}: {}, since {}\n",
+        cpu.cpu, cpu.kind, cpu.because
     )?;
     if cpu.at_fault {
         text.push_str(
             "    a register has a fault by itself, and what it does to pages isn't defined: see mtrr-explain faults\n",
         )?;
     }
-    decider_text(text, f, rule)?;
-    pairs_text(text, f, deciding_pairs(&cpu.decision))?;
-    match kind {
-        PageType::Kind(kind) => effective_text(text, f.pat, kind),
-        PageType::Undefined => Ok(()),
+    for register in &cpu.registers {
+        append_decider(text, register, &cpu.bits)?;
     }
+    append_pairs(text, cpu.pairs.as_slice())?;
+    append_effective(text, cpu.effective.as_slice())
 }
 
-/// Adds what a person reads of a report.
-pub fn page_text(text: &mut String, report: &PageReport<'_>) -> Result<(), AllocError> {
-    write!(text, "{}: page of {:x}\n", report.file, report.address)?;
-    for (k, cpu) in report.cpus.iter().enumerate() {
-        cpu_text(text, k, cpu)?;
+/// What a person reads of a report.
+pub fn page_text(alloc: Global, report: &PageReport<'_>) -> Result<String, AllocError> {
+    let mut text = String::new(alloc);
+    write!(text, "{}: page of {}\n", report.file, report.address)?;
+    for cpu in &report.cpus {
+        append_cpu(&mut text, cpu)?;
     }
-    Ok(())
-}
-
-// ---- JSON
-
-fn decider_members(text: &mut String, f: &RegFile, rule: Rule) -> Result<(), AllocError> {
-    begin_list(text, "registers")?;
-    if let Some((msr, value)) = decider(f, rule) {
-        begin_object(text)?;
-        register_members(text, msr, value)?;
-        end_object(text)?;
-    }
-    end_list(text)?;
-    match bits_of(rule) {
-        Some(bits) => text_member(text, "bits", bits),
-        None => member(text, "bits", "null"),
-    }
-}
-
-fn effective_items(text: &mut String, pat: u64, kind: MemType) -> Result<(), AllocError> {
-    let types = effective_types(kind, pat);
-    for index in 0..8u8 {
-        begin_object(text)?;
-        text_member(text, "pat", Pat(pat).entry(index).name())?;
-        text_member(text, "effective", types[index as usize].name())?;
-        end_object(text)?;
-    }
-    Ok(())
-}
-
-fn effective_member(text: &mut String, pat: u64, kind: PageType) -> Result<(), AllocError> {
-    begin_list(text, "effective")?;
-    if let PageType::Kind(kind) = kind {
-        effective_items(text, pat, kind)?;
-    }
-    end_list(text)
-}
-
-fn rule_members(text: &mut String, k: usize, cpu: &CpuPage<'_>) -> Result<(), AllocError> {
-    let Decision { kind, rule, .. } = cpu.decision;
-    member(text, "cpu", k)?;
-    text_member(text, "type", kind_name(kind))?;
-    text_member(text, "rule", rule_name(rule))?;
-    text_member(text, "because", because(rule))?;
-    member(text, "at_fault", cpu.at_fault)
-}
-
-fn cpu_item(text: &mut String, k: usize, cpu: &CpuPage<'_>) -> Result<(), AllocError> {
-    let f = cpu.registers;
-    let Decision { kind, rule, .. } = cpu.decision;
-    begin_object(text)?;
-    rule_members(text, k, cpu)?;
-    decider_members(text, f, rule)?;
-    pairs_member(text, f, deciding_pairs(&cpu.decision))?;
-    effective_member(text, f.pat, kind)?;
-    end_object(text)
-}
-
-/// Adds the object that a report is, as a line.
-pub fn page_json(text: &mut String, report: &PageReport<'_>) -> Result<(), AllocError> {
-    begin_object(text)?;
-    text_member(text, "file", Escaped(report.file))?;
-    text_member(text, "address", Hex(report.address, 1))?;
-    width_members(text, report.given)?;
-    member(text, "found", report.found)?;
-    member(text, "undefined", report.undefined)?;
-    begin_list(text, "cpus")?;
-    for (k, cpu) in report.cpus.iter().enumerate() {
-        cpu_item(text, k, cpu)?;
-    }
-    end_list(text)?;
-    end_object(text)?;
-    text.push_str("\n")
+    Ok(text)
 }

@@ -1,6 +1,9 @@
 use crate::told::{Told, no_memory};
 use crate::words::words_in;
-use mt_reports::{Answer, Form, Given, NoReport, Question, answer_to, diff_answer, given_of};
+use mt_reports::{
+    Answer, Form, Given, NoReport, diff_answer, diff_of_cpus_answer, faults_answer, fit_answer,
+    given_of, page_answer,
+};
 use mt_text::{decimal, hex64};
 use std::alloc::Global;
 
@@ -12,9 +15,12 @@ const MOST_PAIRS: u64 = 32;
 
 /// What words ask for, with the names of the inputs that it is asked about.
 #[derive(Clone, Copy)]
-enum Task<'a> {
-    Answer(&'a str, Question),
-    Compare(&'a str, &'a str),
+enum Question<'a> {
+    Faults(&'a str),
+    Page(&'a str, u64),
+    Fit(&'a str, u64),
+    Diff(&'a str, &'a str),
+    DiffOfCpus(&'a str, u32, u32),
 }
 
 /// Why there is no report, and the name of the input that it lies with.
@@ -38,53 +44,53 @@ fn cpu_of(word: &str) -> Option<u32> {
     }
 }
 
-fn faults_task(words: &[String]) -> Option<Task<'_>> {
+fn faults_question(words: &[String]) -> Option<Question<'_>> {
     match words {
-        [file] => Some(Task::Answer(file.as_str(), Question::Faults)),
+        [file] => Some(Question::Faults(file.as_str())),
         _ => None,
     }
 }
 
-fn page_task(words: &[String]) -> Option<Task<'_>> {
+fn page_question(words: &[String]) -> Option<Question<'_>> {
     match words {
         [address, file] => match hex64(address.as_bytes()) {
-            Ok(address) => Some(Task::Answer(file.as_str(), Question::Page { address })),
+            Ok(address) => Some(Question::Page(file.as_str(), address)),
             Err(_) => None,
         },
         _ => None,
     }
 }
 
-fn fit_task(words: &[String]) -> Option<Task<'_>> {
+fn fit_question(words: &[String]) -> Option<Question<'_>> {
     match words {
-        [file] => Some(Task::Answer(file.as_str(), Question::Fit { spare: 0 })),
+        [file] => Some(Question::Fit(file.as_str(), 0)),
         [option, spare, file] if option.as_str() == "--spare" => {
             let spare = spare_of(spare.as_str())?;
-            Some(Task::Answer(file.as_str(), Question::Fit { spare }))
+            Some(Question::Fit(file.as_str(), spare))
         }
         _ => None,
     }
 }
 
-fn diff_task(words: &[String]) -> Option<Task<'_>> {
+fn diff_question(words: &[String]) -> Option<Question<'_>> {
     match words {
-        [old, new] => Some(Task::Compare(old.as_str(), new.as_str())),
+        [old, new] => Some(Question::Diff(old.as_str(), new.as_str())),
         [option, old, new, file] if option.as_str() == "--cpus" => {
             let old = cpu_of(old.as_str())?;
             let new = cpu_of(new.as_str())?;
-            Some(Task::Answer(file.as_str(), Question::DiffOfCpus { old, new }))
+            Some(Question::DiffOfCpus(file.as_str(), old, new))
         }
         _ => None,
     }
 }
 
-fn task_of(words: &[String]) -> Option<Task<'_>> {
+fn question_of(words: &[String]) -> Option<Question<'_>> {
     let (name, words) = words.split_first()?;
     match name.as_str() {
-        "faults" => faults_task(words),
-        "page" => page_task(words),
-        "fit" => fit_task(words),
-        "diff" => diff_task(words),
+        "faults" => faults_question(words),
+        "page" => page_question(words),
+        "fit" => fit_question(words),
+        "diff" => diff_question(words),
         _ => None,
     }
 }
@@ -103,7 +109,7 @@ fn named<'a>(file: &'a str, answer: Result<Answer, NoReport>) -> Result<Answer, 
     }
 }
 
-fn compared<'a>(
+fn diff<'a>(
     alloc: Global,
     files: (&'a str, &'a str),
     first: &[u8],
@@ -114,26 +120,34 @@ fn compared<'a>(
     named(files.0, diff_answer(alloc, files, &old, &new, Form::Json))
 }
 
-fn answered<'a>(
+// The answer about the first input, or for `Diff` about both.
+fn answer<'a>(
     alloc: Global,
-    file: &'a str,
-    bytes: &[u8],
-    question: Question,
-) -> Result<Answer, Trouble<'a>> {
-    let given = given_named(file, bytes)?;
-    named(file, answer_to(alloc, file, &given, question, Form::Json))
-}
-
-// The answer about the first input, or for `Compare` about both.
-fn done<'a>(
-    alloc: Global,
-    task: Task<'a>,
+    question: Question<'a>,
     first: &[u8],
     second: &[u8],
 ) -> Result<Answer, Trouble<'a>> {
-    match task {
-        Task::Answer(file, question) => answered(alloc, file, first, question),
-        Task::Compare(old, new) => compared(alloc, (old, new), first, second),
+    match question {
+        Question::Diff(old, new) => diff(alloc, (old, new), first, second),
+        Question::Faults(file) => {
+            let given = given_named(file, first)?;
+            named(file, faults_answer(alloc, file, &given, Form::Json))
+        }
+        Question::Page(file, address) => {
+            let given = given_named(file, first)?;
+            named(file, page_answer(alloc, file, &given, address, Form::Json))
+        }
+        Question::Fit(file, spare) => {
+            let given = given_named(file, first)?;
+            named(file, fit_answer(alloc, file, &given, spare, Form::Json))
+        }
+        Question::DiffOfCpus(file, old, new) => {
+            let given = given_named(file, first)?;
+            named(
+                file,
+                diff_of_cpus_answer(alloc, file, &given, (old, new), Form::Json),
+            )
+        }
     }
 }
 
@@ -155,7 +169,7 @@ fn told_of(alloc: Global, answer: Result<Answer, Trouble<'_>>) -> Told {
         },
         Err(
             Trouble {
-                why: NoReport::Memory(_),
+                why: NoReport::Memory(_) | NoReport::Json(_),
                 ..
             },
         ) => no_memory(alloc),
@@ -178,8 +192,8 @@ pub(crate) fn explained(alloc: Global, words: &[u8], first: &[u8], second: &[u8]
     let Ok(words) = words_in(alloc, words) else {
         return no_memory(alloc);
     };
-    match task_of(words.as_slice()) {
-        Some(task) => told_of(alloc, done(alloc, task, first, second)),
+    match question_of(words.as_slice()) {
+        Some(question) => told_of(alloc, answer(alloc, question, first, second)),
         None => usage_told(alloc),
     }
 }

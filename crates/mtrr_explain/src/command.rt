@@ -1,6 +1,5 @@
 use anyhow::{Result, bail};
 use clap::{Arg, ArgAction, ArgMatches, Command};
-use mt_reports::Question;
 use mt_text::{decimal, hex64};
 use std::alloc::{AllocError, Global};
 
@@ -15,20 +14,26 @@ const DUMPS: &str = "Dumps, as mtrr reads them; - is standard input";
 const OLD_AND_NEW: &str = "The old and the new dump, or one with --cpus; - is standard input";
 
 /// What the words of a command line ask for.
-#[derive(Clone, Copy)]
-pub enum Task {
-    /// An answer about each file.
-    Answer(Question),
+#[derive(Clone, Copy, Debug, PartialEq, Eq)]
+pub enum Question {
+    /// Every fault of each file.
+    Faults,
+    /// What gives this page its type.
+    Page { address: u64 },
+    /// How many pairs the types of each file need, where so many are to stay free.
+    Fit { spare: u64 },
     /// What differs between two files.
-    Compare,
+    DiffFiles,
+    /// What differs between two processors of a file.
+    DiffCpus { old: u32, new: u32 },
 }
 
-/// What help says of a command and of its files.
-#[derive(Clone, Copy)]
-struct Help {
-    name: &'static str,
-    about: &'static str,
-    files: &'static str,
+fn files_arg<'a>(alloc: Global, help: &'static str) -> Arg<'a> {
+    Arg::new(alloc, "FILE")
+        .required(true)
+        .num_args(1..)
+        .action(ArgAction::Append)
+        .help(help)
 }
 
 fn json_arg<'a>(alloc: Global) -> Arg<'a> {
@@ -38,67 +43,58 @@ fn json_arg<'a>(alloc: Global) -> Arg<'a> {
         .help("Print one JSON object for each answer")
 }
 
-fn address_arg<'a>(alloc: Global) -> Arg<'a> {
-    Arg::new(alloc, "ADDR")
-        .required(true)
-        .help("A physical address, in hexadecimal")
+fn faults_command<'a>(alloc: Global) -> Result<Command<'a>, AllocError> {
+    Command::new(alloc, "faults")
+        .about("Print every fault of the registers, and the pages with no defined type")
+        .arg(json_arg(alloc))?
+        .arg(files_arg(alloc, DUMPS))
 }
 
-fn cpus_arg<'a>(alloc: Global) -> Arg<'a> {
-    Arg::new(alloc, "cpus")
+fn page_command<'a>(alloc: Global) -> Result<Command<'a>, AllocError> {
+    let address = Arg::new(alloc, "ADDR")
+        .required(true)
+        .action(ArgAction::Set)
+        .help("A physical address, in hexadecimal");
+    Command::new(alloc, "page")
+        .about("Print the types of one page, and the rule and registers that give them")
+        .arg(json_arg(alloc))?
+        .arg(address)?
+        .arg(files_arg(alloc, DUMPS))
+}
+
+fn diff_command<'a>(alloc: Global) -> Result<Command<'a>, AllocError> {
+    let cpus = Arg::new(alloc, "cpus")
         .long("cpus")
         .num_args(2)
         .value_name("CPU")
         .action(ArgAction::Append)
-        .help("Compare two processors of one dump")
+        .help("Compare two processors of one dump");
+    Command::new(alloc, "diff")
+        .about("Print what differs between two dumps, or between two processors of one")
+        .arg(json_arg(alloc))?
+        .arg(cpus)?
+        .arg(files_arg(alloc, OLD_AND_NEW))
 }
 
-fn spare_arg<'a>(alloc: Global) -> Arg<'a> {
-    Arg::new(alloc, "spare")
+fn fit_command<'a>(alloc: Global) -> Result<Command<'a>, AllocError> {
+    let spare = Arg::new(alloc, "spare")
         .long("spare")
         .value_name("N")
-        .help("Leave N pairs free, 0 to 32; by default 0")
+        .action(ArgAction::Set)
+        .help("Leave N pairs free, 0 to 32; by default 0");
+    Command::new(alloc, "fit")
+        .about(
+            "Print how many pairs processor 0's types need, and the mtrr command that finds them",
+        )
+        .arg(json_arg(alloc))?
+        .arg(spare)?
+        .arg(files_arg(alloc, DUMPS))
 }
 
-fn files_arg<'a>(alloc: Global, help: &'static str) -> Arg<'a> {
-    Arg::new(alloc, "FILE")
-        .required(true)
-        .num_args(1..)
-        .help(help)
-}
-
-// The argument that only this command has.
-fn own_arg<'a>(alloc: Global, name: &str) -> Option<Arg<'a>> {
-    match name {
-        "page" => Some(address_arg(alloc)),
-        "diff" => Some(cpus_arg(alloc)),
-        "fit" => Some(spare_arg(alloc)),
-        _ => None,
-    }
-}
-
-fn subcommand<'a>(alloc: Global, help: Help) -> Result<Command<'a>, AllocError> {
-    let command = Command::new(alloc, help.name)
-        .about(help.about)
-        .arg(json_arg(alloc))?;
-    let command = match own_arg(alloc, help.name) {
-        Some(arg) => command.arg(arg)?,
-        None => command,
-    };
-    command.arg(files_arg(alloc, help.files))
-}
-
-fn with_subcommand<'a>(
-    alloc: Global,
-    command: Command<'a>,
-    help: Help,
-) -> Result<Command<'a>, AllocError> {
-    let subcommand = subcommand(alloc, help)?;
-    command.subcommand(subcommand)
-}
-
-fn command_alone<'a>(alloc: Global) -> Result<Command<'a>, AllocError> {
+/// The command line.
+pub fn command<'a>(alloc: Global) -> Result<Command<'a>, AllocError> {
     Command::new(alloc, "mtrr-explain")
+        .bin_name("mtrr-explain")?
         .version("1.0.0")
         .about("Explains dumps of the memory type registers of x86 processors")
         .after_help(
@@ -109,42 +105,10 @@ fn command_alone<'a>(alloc: Global) -> Result<Command<'a>, AllocError> {
         )
         .subcommand_required(true)
         .arg_required_else_help(true)
-        .bin_name("mtrr-explain")
-}
-
-// The commands, in the order of the help.
-fn helps() -> [Help; 4] {
-    [
-        Help {
-            name: "faults",
-            about: "Print every fault of the registers, and the pages with no defined type",
-            files: DUMPS,
-        },
-        Help {
-            name: "page",
-            about: "Print the types of one page, and the rule and registers that give them",
-            files: DUMPS,
-        },
-        Help {
-            name: "diff",
-            about: "Print what differs between two dumps, or between two processors of one",
-            files: OLD_AND_NEW,
-        },
-        Help {
-            name: "fit",
-            about: "Print how many pairs processor 0's types need, and the mtrr command that finds them",
-            files: DUMPS,
-        },
-    ]
-}
-
-/// The command line.
-pub fn command<'a>(alloc: Global) -> Result<Command<'a>, AllocError> {
-    let mut command = command_alone(alloc)?;
-    for help in helps() {
-        command = with_subcommand(alloc, command, help)?;
-    }
-    Ok(command)
+        .subcommand(faults_command(alloc)?)?
+        .subcommand(page_command(alloc)?)?
+        .subcommand(diff_command(alloc)?)?
+        .subcommand(fit_command(alloc)?)
 }
 
 fn page_question(matches: &ArgMatches<'_>) -> Result<Question> {
@@ -162,13 +126,13 @@ fn cpu_number(word: &str) -> Result<u32> {
     }
 }
 
-fn diff_task(matches: &ArgMatches<'_>) -> Result<Task> {
+fn diff_question(matches: &ArgMatches<'_>) -> Result<Question> {
     match matches.get_strs("cpus") {
-        None => Ok(Task::Compare),
-        Some([old, new]) => Ok(Task::Answer(Question::DiffOfCpus {
+        None => Ok(Question::DiffFiles),
+        Some([old, new]) => Ok(Question::DiffCpus {
             old: cpu_number(*old)?,
             new: cpu_number(*new)?,
-        })),
+        }),
         Some(_) => bail!("--cpus is given twice"),
     }
 }
@@ -182,11 +146,11 @@ fn fit_question(matches: &ArgMatches<'_>) -> Result<Question> {
 }
 
 /// What a command and its words ask for.
-pub fn task_of(name: &str, matches: &ArgMatches<'_>) -> Result<Task> {
+pub fn question_of(name: &str, matches: &ArgMatches<'_>) -> Result<Question> {
     match name {
-        "faults" => Ok(Task::Answer(Question::Faults)),
-        "diff" => diff_task(matches),
-        "fit" => Ok(Task::Answer(fit_question(matches)?)),
-        _ => Ok(Task::Answer(page_question(matches)?)),
+        "faults" => Ok(Question::Faults),
+        "diff" => diff_question(matches),
+        "fit" => fit_question(matches),
+        _ => page_question(matches),
     }
 }

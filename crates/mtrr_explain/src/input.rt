@@ -1,12 +1,12 @@
 use anyhow::Result;
 use mt_reports::{Given, given_of};
+use std::fs;
 use std::fs::Files;
 use std::io::{Input, Read};
-use std::{fs, io};
 
-fn bytes_of<R: Files + Input + AllocGlobal>(rt: &R, file: &str) -> io::Result<Vec<u8>> {
+fn bytes_of<R: Files + Input + AllocGlobal>(rt: &R, file: &str) -> Result<Vec<u8>> {
     if file != "-" {
-        return fs::read(rt, file);
+        return Ok(fs::read(rt, file)?);
     }
     let mut bytes = Vec::new(rt.alloc());
     rt.reader().read_to_end(&mut bytes)?;

@@ -1,15 +1,17 @@
-use crate::command::{Task, command, task_of};
+use crate::command::{Question, command, question_of};
 use crate::input::read;
 use anyhow::{Result, bail};
 use clap::ArgMatches;
-use mt_reports::{Form, Given, Question, answer_to, diff_answer};
+use mt_reports::{
+    Answer, Form, Given, diff_answer, diff_of_cpus_answer, faults_answer, fit_answer, page_answer,
+};
 use std::env::{self, Env};
 use std::fs::Files;
 use std::io::Input;
 use std::process::ExitCode;
 
 /// What an answer comes to. Its number is the exit status.
-#[derive(Clone, Copy)]
+#[derive(Clone, Copy, Debug, PartialEq, Eq)]
 enum Verdict {
     Nothing = 0,
     Something = 1,
@@ -36,7 +38,12 @@ fn read_named<R: Files + Input + AllocGlobal>(rt: &R, file: &str) -> Result<Give
     }
 }
 
-fn compare<R: Files + Input + Print + AllocGlobal>(
+fn print_answer<R: Print>(rt: &R, answer: &Answer) -> Result<Verdict> {
+    print!(rt; "{}", answer.text)?;
+    Ok(verdict_of(answer.found))
+}
+
+fn tell_diff_of_files<R: Files + Input + Print + AllocGlobal>(
     rt: &R,
     files: &[&str],
     form: Form,
@@ -48,8 +55,24 @@ fn compare<R: Files + Input + Print + AllocGlobal>(
     let old_given = read_named(rt, old)?;
     let new_given = read_named(rt, new)?;
     let answer = diff_answer(rt.alloc(), (old, new), &old_given, &new_given, form)?;
-    print!(rt; "{}", answer.text)?;
-    Ok(verdict_of(answer.found))
+    print_answer(rt, &answer)
+}
+
+fn tell_diff_of_cpus<R: Files + Input + Print + AllocGlobal>(
+    rt: &R,
+    files: &[&str],
+    cpus: (u32, u32),
+    form: Form,
+) -> Result<Verdict> {
+    let [file] = files else {
+        bail!("diff compares two files, or with --cpus two processors of one");
+    };
+    let file = *file;
+    let given = read_named(rt, file)?;
+    match diff_of_cpus_answer(rt.alloc(), file, &given, cpus, form) {
+        Ok(answer) => print_answer(rt, &answer),
+        Err(error) => bail!("{file}: {error}"),
+    }
 }
 
 fn tell<R: Files + Input + Print + AllocGlobal>(
@@ -58,10 +81,14 @@ fn tell<R: Files + Input + Print + AllocGlobal>(
     question: Question,
     form: Form,
 ) -> Result<Verdict> {
+    let alloc = rt.alloc();
     let given = read(rt, file)?;
-    let answer = answer_to(rt.alloc(), file, &given, question, form)?;
-    print!(rt; "{}", answer.text)?;
-    Ok(verdict_of(answer.found))
+    let answer = match question {
+        Question::Page { address } => page_answer(alloc, file, &given, address, form)?,
+        Question::Fit { spare } => fit_answer(alloc, file, &given, spare, form)?,
+        _ => faults_answer(alloc, file, &given, form)?,
+    };
+    print_answer(rt, &answer)
 }
 
 // Answers for each file. One that can't be read doesn't keep the others from being answered.
@@ -97,16 +124,14 @@ fn tell_all<R: Files + Input + Print + Eprint + AllocGlobal>(
     let Some(files) = matches.get_strs("FILE") else {
         return Ok(Verdict::Trouble);
     };
-    match task_of(name, matches)? {
-        Task::Compare => compare(rt, files, form),
-        Task::Answer(Question::DiffOfCpus { .. }) if files.len() != 1 => {
-            bail!("diff compares two files, or with --cpus two processors of one")
-        }
-        Task::Answer(question) => tell_each(rt, files, question, form),
+    match question_of(name, matches)? {
+        Question::DiffFiles => tell_diff_of_files(rt, files, form),
+        Question::DiffCpus { old, new } => tell_diff_of_cpus(rt, files, (old, new), form),
+        question => tell_each(rt, files, question, form),
     }
 }
 
-fn tell_words<R: Env + Files + Input + Print + Eprint + AllocGlobal>(rt: &R) -> Result<u8> {
+fn answer<R: Env + Files + Input + Print + Eprint + AllocGlobal>(rt: &R) -> Result<u8> {
     let alloc = rt.alloc();
     let words: Vec<String> = env::args(rt)?.collect(alloc)?;
     match command(alloc)?.try_get_matches_from(words.as_slice()) {
@@ -123,7 +148,7 @@ fn tell_words<R: Env + Files + Input + Print + Eprint + AllocGlobal>(rt: &R) -> 
 
 /// Answers what the arguments ask for. The status is 0 if nothing was found, 1 if something was, and 2 if there was trouble.
 pub fn run<R: Env + Files + Input + Print + Eprint + AllocGlobal>(rt: &R) -> ExitCode {
-    match tell_words(rt) {
+    match answer(rt) {
         Ok(status) => ExitCode::from(status),
         Err(error) => {
             let _ = eprintln!(rt; "mtrr-explain: {error:#}");
