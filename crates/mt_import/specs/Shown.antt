@@ -2,7 +2,7 @@
 --     said_of format number line      what a line says, whatever the others say
 --     chosen format line      the format that is known behind a line
 --     facts_from context number lines      the facts of lines, of which the first has this number
-use Rattle.std.specs.Prelude.{ℕ, ◌+◌, Bool, true, false, List, [], ◌∷◌, ◌++◌, if◌then◌else◌, Option, Some, None}
+use Rattle.std.specs.Prelude.{ℕ, ◌+◌, ◌&&◌, nat_lt, Bool, true, false, List, [], ◌∷◌, ◌++◌, if◌then◌else◌, Option, Some, None}
 use Rattle.mt_text.specs.Text.{is_too_long, lines_of, past_limit}
 use Rattle.mt_import.specs.declared.format.Choice.{Choice}
 use Rattle.mt_import.specs.declared.format.Choice.TheVariants.{Auto, Only}
@@ -13,6 +13,7 @@ use Rattle.mt_import.specs.declared.reading.Said.{Said}
 use Rattle.mt_import.specs.declared.reading.Said.TheVariants.{Nothing, Announces, Value, Turns, Shows, Begins, FixedRanges, VariableRanges, Width, Warns, Long}
 use Rattle.mt_import.specs.Coreboot.{coreboot_said}
 use Rattle.mt_import.specs.Inteltool.{inteltool_said}
+use Rattle.mt_import.specs.Pieces.{unread_processor}
 use Rattle.mt_import.specs.Rdmsr.{rdmsr_said}
 use Rattle.mt_import.specs.X86info.{sizes_said, x86info_said}
 use Rattle.mt_import.specs.Edk2.{edk2_said}
@@ -55,7 +56,7 @@ said_of format number line =
 
 -- ---- `auto`: the format of the first line that tells it
 
--- Lines such as a value alone, or one that turns to a processor, tell no format.
+-- A value alone tells no format. Nor does a line that turns to processor 0, or to one whose number can't be read.
 abbrev pub is_telling : Said → Bool
 is_telling (Announces processor register) = true
 is_telling (Shows processor shows) = true
@@ -64,7 +65,7 @@ is_telling (FixedRanges enabled alone place) = true
 is_telling (VariableRanges enabled place) = true
 is_telling Nothing = false
 is_telling (Value value place) = false
-is_telling (Turns processor) = false
+is_telling (Turns processor) = nat_lt 0 processor && nat_lt processor unread_processor
 is_telling (Width width place) = true
 is_telling Warns = false
 is_telling (Long place) = false

@@ -7,6 +7,7 @@ use crate::edk2::edk2_said;
 use crate::inteltool::inteltool_said;
 use crate::kernel::is_warning_line;
 use crate::linux::linux_said;
+use crate::pieces::UNREAD_PROCESSOR;
 use crate::rdmsr::rdmsr_said;
 use crate::x86info::{sizes_said, x86info_said};
 use crate::xen::xen_said;
@@ -122,6 +123,7 @@ fn is_telling(said: &Said) -> bool
         | Said::FixedRanges(..)
         | Said::VariableRanges(..)
         | Said::Width(..) => true,
+        Said::Turns(processor) => 0 < *processor && *processor < UNREAD_PROCESSOR,
         _ => false,
     }
 }

@@ -12,6 +12,9 @@ use mt_text::{Line, Place, decimal, hex64};
 
 const DIGITS: usize = 3;
 
+// Columns behind a call that isn't read are of this processor, which no dump has.
+const UNREAD_CALL: u32 = 65_534;
+
 fn register_named(word: &[u8]) -> Option<u32>
     ensures { result ≡ register_named word.now }
 {
@@ -35,7 +38,7 @@ fn announced(processor: Option<u32>, register: Option<u32>) -> Said
 {
     match register {
         Some(number) => Said::Announces(processor, number),
-        None => Said::Nothing,
+        None => Said::Turns(processor.unwrap_or(UNREAD_CALL)),
     }
 }
 
@@ -111,11 +114,11 @@ fn call_from(options: u8, at: u8, processor: Option<u32>, words: &LineWords<'_>)
         return announced(processor, register_named(words.text(at)));
     }
     if options == 0 {
-        return Said::Nothing;
+        return Said::Turns(UNREAD_CALL);
     }
     match option_at(at, processor, words) {
         Some((size, next)) => call_from(options - 1, at + size, next, words),
-        None => Said::Nothing,
+        None => Said::Turns(UNREAD_CALL),
     }
 }
 
