@@ -17,15 +17,16 @@ abbrev pub is_first_flush : Phase → Step → Bool
 is_first_flush NoFill list.Wbinvd = true
 is_first_flush phase other = false
 
--- a flush of the TLB by the other of the two ways than the one that is due, in an update
-abbrev pub is_other_flush : Phase → Step → Bool
-is_other_flush phase list.ClearPge = not (is_running phase)
-is_other_flush phase list.ReloadCr3 = not (is_running phase)
-is_other_flush phase other = false
+-- in an update: a flush of the TLB by the other of the two ways than the one that is due, or a change of CD beside it
+abbrev pub is_astray : Phase → Step → Bool
+is_astray phase list.ClearPge = not (is_running phase)
+is_astray phase list.ReloadCr3 = not (is_running phase)
+is_astray phase (list.Cd on) = not (is_running phase)
+is_astray phase other = false
 
 -- a step in a phase, which is this event or none, where the other event or none is due. What is no event may stand anywhere (own)
 abbrev pub IsInOrder : Phase → Step → Option Event → Option Event → Type 0
-IsInOrder phase todo event due = (is_first_flush phase todo ≡ true) ⊎ MatchOption event (is_other_flush phase todo ≡ false) (λ e. due ≡ Some e)
+IsInOrder phase todo event due = (is_first_flush phase todo ≡ true) ⊎ MatchOption event (is_astray phase todo ≡ false) (λ e. due ≡ Some e)
 
 abbrev pub IsDue : Move → Type 0
 IsDue m = IsInOrder m.phase m.step m.event m.due

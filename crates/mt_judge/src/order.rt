@@ -2,7 +2,7 @@ ghost use Rattle.std.specs.Prelude.{◌≡◌, ◌<◌, ◌^◌, ◌↔◌, IsFa
 ghost use Rattle.std.specs.List.{list_all};
 ghost use Rattle.mt_machine.specs.System.{Processor};
 ghost use Rattle.mt_machine.specs.Access.{is_running};
-ghost use Rattle.mt_judge.specs.Dues.{AreListsFinished, AreStepsDue, IsDue, IsDueAt, IsInOrder, IsStepDue, is_first_flush, is_other_flush, is_unfinished};
+ghost use Rattle.mt_judge.specs.Dues.{AreListsFinished, AreStepsDue, IsDue, IsDueAt, IsInOrder, IsStepDue, is_first_flush, is_astray, is_unfinished};
 ghost use Rattle.mt_judge.specs.Runs.{due_in, event_in, phase_in, place_of};
 
 use crate::due::due;
@@ -18,17 +18,17 @@ fn is_first_flush(phase: Phase, step: Step) -> bool
     matches!((phase, step), (Phase::NoFill, Step::Wbinvd))
 }
 
-// Whether a step is a flush of the TLB, in an update.
-fn is_other_flush(phase: Phase, step: Step) -> bool
-    ensures { result ≡ is_other_flush phase step }
+// Whether a step is a flush of the TLB or a change of CD, in an update.
+fn is_astray(phase: Phase, step: Step) -> bool
+    ensures { result ≡ is_astray phase step }
 {
     match step {
-        Step::ClearPge | Step::ReloadCr3 => !is_running(phase),
+        Step::ClearPge | Step::ReloadCr3 | Step::Cd(_) => !is_running(phase),
         _ => false,
     }
 }
 
-// Whether an event is the one that is due. A step that is no event is due unless it is a flush by the other way.
+// Whether an event is the one that is due. A step that is no event is due unless it is astray.
 fn is_event_due(event: Option<Event>, due: Option<Event>, astray: bool) -> bool
     ensures { IsTrue result ↔ MatchOption event (astray ≡ false) (λ e. due ≡ Some e) }
 {
@@ -42,12 +42,12 @@ fn is_event_due(event: Option<Event>, due: Option<Event>, astray: bool) -> bool
 fn is_in_order(phase: Phase, step: Step, event: Option<Event>, due: Option<Event>) -> bool
     ensures { IsTrue result ↔ IsInOrder phase step event due }
 {
-    is_first_flush(phase, step) || is_event_due(event, due, is_other_flush(phase, step))
+    is_first_flush(phase, step) || is_event_due(event, due, is_astray(phase, step))
 }
 
 impl Move {
-    /// Whether the manual's procedure has the step due. A step that is no event of the machine is due at any time, except a flush of
-    /// the TLB by the other way than the one that is due.
+    /// Whether the manual's procedure has the step due. A step that is no event of the machine is due at any time, except in an
+    /// update a change of CD, and a flush of the TLB by the other way than the one that is due.
     pub fn is_due(&self) -> bool
         ensures { IsTrue result ↔ IsDue self.now }
     {

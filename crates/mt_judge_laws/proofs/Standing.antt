@@ -21,7 +21,7 @@ use Rattle.mt_laws.proofs.Barrier.Stages.{Stage, stage_of, stages_of}
 use Rattle.mt_judge.specs.declared.step.Place.{Place}
 use Rattle.mt_judge.specs.declared.step.Step.{Step}
 use Rattle.mt_judge.specs.declared.step.Step.TheVariants as list
-use Rattle.mt_judge.specs.Dues.{IsDue, is_other_flush}
+use Rattle.mt_judge.specs.Dues.{IsDue, is_astray}
 use Rattle.mt_judge.specs.Runs.{Case, State, after as state_after, arrived_at, counted, due_in, due_of, event_in, is_fit, is_open, list_of, may_go, move_of, moved, next_step, place_after, place_of, step_at, step_behind, system_of, phase_in}
 use Rattle.mt_judge.specs.Steps.{after_step, event_of, passage, answer_of_step, reloading}
 use Rattle.mt_judge.specs.Wrongs.{fault_of, fault_with}
@@ -127,7 +127,7 @@ module _ (c : Case) (first : State) (start : IsStart (at_rest c first)) (few : l
       ∙ due_alike p.file c.goal s.processors p p.phase
 
   abbrev EventIsDue : Option Event → Type 0
-  EventIsDue x = MatchOption x (is_other_flush (phase_in s.processors k) todo ≡ false) (λ e. due_in s.processors k ≡ Some e)
+  EventIsDue x = MatchOption x (is_astray (phase_in s.processors k) todo ≡ false) (λ e. due_in s.processors k ≡ Some e)
 
   fault_is : fault_with k todo (move_of c s k todo).outcome p ≡ None → fault_of s.processors (move_of c s k todo) ≡ None
   fault_is none =
@@ -276,7 +276,7 @@ module _ (c : Case) (first : State) (start : IsStart (at_rest c first)) (few : l
       record {
         todo = todo;
         is = is;
-        due_is = inr (subst EventIsDue (sym (event_is None none)) (ap (is_other_flush (phase_in s.processors k)) w.is));
+        due_is = inr (subst EventIsDue (sym (event_is None none)) (ap (is_astray (phase_in s.processors k)) w.is));
         right = fault_is (ap (λ (t : Step). fault_with k t (move_of c s k todo).outcome p) w.is);
         stands = subst (Stands c first) (sym (moved_is None none ∙ ap (λ (t : Step). built c s k t place None) w.is)) stands;
       }
@@ -286,7 +286,7 @@ module _ (c : Case) (first : State) (start : IsStart (at_rest c first)) (few : l
   -- it is no event of an update, and the next step follows it
   pub record IsAside (t : Step) : Type 0 where
     pub no_event : event_of t place.part p ≡ None
-    pub no_flush : is_other_flush p.phase t ≡ false
+    pub no_flush : is_astray p.phase t ≡ false
     pub goes_on : place_after place t None (length (writable c.goal)) ≡ step_behind place
     pub counts_none : counted t s.arrived ≡ s.arrived
 
@@ -296,7 +296,7 @@ module _ (c : Case) (first : State) (start : IsStart (at_rest c first)) (few : l
       record { no_event = ap (λ (ph : Phase). reloading ph p.page_global) runs; no_flush = ap (λ (ph : Phase). not (is_running ph)) runs; goes_on = refl; counts_none = refl }
   asides runs (list.Invlpg address) fits = record { no_event = refl; no_flush = refl; goes_on = refl; counts_none = refl }
   asides runs (list.Pge on) fits = record { no_event = refl; no_flush = refl; goes_on = refl; counts_none = refl }
-  asides runs (list.Cd on) fits = record { no_event = refl; no_flush = refl; goes_on = refl; counts_none = refl }
+  asides runs (list.Cd on) fits = record { no_event = refl; no_flush = ap (λ (ph : Phase). not (is_running ph)) runs; goes_on = refl; counts_none = refl }
   asides runs other fits = absurd fits
 
   instructed : InstructsHere → Goes c first s k
@@ -309,7 +309,7 @@ module _ (c : Case) (first : State) (start : IsStart (at_rest c first)) (few : l
       record {
         todo = todo;
         is = is;
-        due_is = inr (subst EventIsDue (sym (event_is None a.no_event)) (ap (λ (x : Option Processor). is_other_flush (option_map_or (λ q. q.phase) x Running) todo) at ∙ a.no_flush));
+        due_is = inr (subst EventIsDue (sym (event_is None a.no_event)) (ap (λ (x : Option Processor). is_astray (option_map_or (λ q. q.phase) x Running) todo) at ∙ a.no_flush));
         right = fault_is (ap (λ (x : Option Event). fault_with k todo (answer_of_step x todo k (system_of c s)) p) (event_is None a.no_event) ∙ i.right);
         stands = subst (Stands c first) (sym (moved_is None a.no_event ∙ built_is))
             (record {
