@@ -10,7 +10,14 @@ use Rattle.mt_tlb.specs.declared.mapping.Mapping.{Mapping}
 use Rattle.mt_tlb.specs.Entries.{add_entry, is_mapped, set_mapping}
 use Rattle.mt_machine.specs.declared.phase.Phase.TheVariants.{Running}
 use Rattle.mt_machine.specs.System.{Processor, is_tlb_flushed}
+use Rattle.mt_cpu.specs.declared.state.State.{State}
 use Rattle.mt_cpu.specs.Facts.{KeepsFacts}
+use Rattle.mt_cpu.specs.State.{processor_of}
+
+-- ---- the block lends its state
+
+pub lent : (s t : State) → s ≡ t → KeepsFacts (processor_of t) → KeepsFacts (processor_of s)
+lent s t is h = subst (λ (x : State). KeepsFacts (processor_of x)) (sym is) h
 
 all_tail : {X : Type 0} (P : X → Type 0) (x : X) (xs : List X) → All P (x ∷ xs) → All P xs
 all_tail P x xs all k d within = all (suc k) d (omega arith)

@@ -1,4 +1,4 @@
-ghost use Rattle.std.specs.Prelude.{◌≡◌, ◌<◌, ◌^◌, is_err, OnOk, OnErr, true};
+ghost use Rattle.std.specs.Prelude.{◌≡◌, ◌<◌, ◌^◌, is_err, IfOk, OnOk, OnErr, true};
 ghost use Rattle.std.specs.Borrow.{Lends, sem};
 ghost use Rattle.mt_regs.specs.RegisterFile.{page_count};
 ghost use Rattle.mt_regs.specs.Faults.{IsAccepted};
@@ -10,70 +10,46 @@ ghost use Rattle.mt_machine.specs.Control.{drop_page, reload_cr3, set_page_globa
 ghost use Rattle.mt_cpu.specs.contracts.cpu.Cpu.{the_row};
 ghost use Rattle.mt_cpu.specs.Facts.{KeepsFacts};
 
+use crate::state::State;
 use mt_cache::{Buffers, Cache};
 use mt_machine::Phase;
+use mt_ports::NoMemory;
 use mt_regs::RegFile;
 use mt_tlb::{Full, Mapping, Maps, Tlb};
+use std::alloc::Global;
 use std::marker::Model;
 
 /// A processor. With PGE clear none of its TLB entries is global, and the page of each has a mapping.
+///
+/// Its state has a block of its own, so a processor moves as a pointer.
 #[derive(Drop)]
 pub struct Cpu {
-    pub(crate) regs: RegFile,
-    pub(crate) cd: bool,
-    pub(crate) pge: bool,
-    pub(crate) had_pge: bool,
-    pub(crate) maps: Maps,
-    pub(crate) cache: Cache,
-    pub(crate) buffers: Buffers,
-    pub(crate) tlb: Tlb,
-    pub(crate) phase: Phase,
-    pub(crate) era: u64,
-    pub(crate) self_snoop: bool,
+    pub(crate) state: Box<State>,
 }
 
 impl Model for Cpu {
     ghost use Rattle.mt_machine.specs.System.{Processor};
     ghost use Rattle.mt_cpu.specs.Facts.{KeepsFacts};
+    ghost use Rattle.mt_cpu.specs.State.{processor_of};
 
     ghost Value = { Processor };
 
-    ghost view = { λ c. record {
-      file = c.regs;
-      cache_disabled = c.cd;
-      page_global = c.pge;
-      remembered_global = c.had_pge;
-      mappings = c.maps;
-      lines = c.cache;
-      buffers = c.buffers;
-      entries = c.tlb;
-      phase = c.phase;
-      era = c.era;
-      self_snoop = c.self_snoop;
-    } };
+    ghost view = { λ c. processor_of c.state.value };
 
-    ghost invariant = { λ c. KeepsFacts (record {
-      file = c.regs;
-      cache_disabled = c.cd;
-      page_global = c.pge;
-      remembered_global = c.had_pge;
-      mappings = c.maps;
-      lines = c.cache;
-      buffers = c.buffers;
-      entries = c.tlb;
-      phase = c.phase;
-      era = c.era;
-      self_snoop = c.self_snoop;
-    }) };
+    ghost invariant = { λ c. KeepsFacts (processor_of c.state.value) };
 }
 
 impl Cpu {
     /// A processor that runs with these registers, its caches on, and holds nothing.
-    pub fn new(regs: RegFile) -> Self
+    ///
+    /// # Errors
+    ///
+    /// There is no memory for it.
+    pub fn new(alloc: Global, regs: RegFile) -> Result<Cpu, NoMemory>
         requires { IsAccepted regs }
-        ensures { result ≡ start_processor regs }
+        ensures { IfOk result (λ cpu. cpu ≡ start_processor regs) }
     {
-        Cpu {
+        let state = State {
             regs,
             cd: false,
             pge: false,
@@ -85,6 +61,10 @@ impl Cpu {
             phase: Phase::Running,
             era: 0,
             self_snoop: false,
+        };
+        match Box::new(alloc, state) {
+            Ok(state) => Ok(Cpu { state }),
+            Err(_) => Err(NoMemory),
         }
     }
 
@@ -92,70 +72,70 @@ impl Cpu {
     pub fn regs(&self) -> &RegFile
         ensures { result.now ≡ self.now.file }
     {
-        &self.regs
+        &self.state.regs
     }
 
     /// Whether the caches are in no-fill mode, which is CR0.CD.
     pub fn cd(&self) -> bool
         ensures { result ≡ self.now.cache_disabled }
     {
-        self.cd
+        self.state.cd
     }
 
     /// Whether global pages are on, which is CR4.PGE.
     pub fn pge(&self) -> bool
         ensures { result ≡ self.now.page_global }
     {
-        self.pge
+        self.state.pge
     }
 
     /// Whether global pages were on when an update flushed the TLB.
     pub fn had_pge(&self) -> bool
         ensures { result ≡ self.now.remembered_global }
     {
-        self.had_pge
+        self.state.had_pge
     }
 
     /// The cache.
     pub fn cache(&self) -> &Cache
         ensures { result.now ≡ self.now.lines }
     {
-        &self.cache
+        &self.state.cache
     }
 
     /// The write-combining buffers.
     pub fn buffers(&self) -> &Buffers
         ensures { result.now ≡ self.now.buffers }
     {
-        &self.buffers
+        &self.state.buffers
     }
 
     /// The TLB.
     pub fn tlb(&self) -> &Tlb
         ensures { result.now ≡ self.now.entries }
     {
-        &self.tlb
+        &self.state.tlb
     }
 
     /// The mappings of virtual pages.
     pub fn maps(&self) -> &Maps
         ensures { result.now ≡ self.now.mappings }
     {
-        &self.maps
+        &self.state.maps
     }
 
     /// Where the processor stands in an update.
     pub fn phase(&self) -> Phase
         ensures { result ≡ self.now.phase }
     {
-        self.phase
+        self.state.phase
     }
 
     /// The number of updates that the processor has finished.
     pub fn era(&self) -> u64
         ensures { result ≡ self.now.era }
     {
-        self.era
+        self.state.era
     }
 
     /// Whether the processor snoops its own cache, which is CPUID.1:EDX bit 27. It leaves out the first of an
@@ -163,14 +143,14 @@ impl Cpu {
     pub fn self_snoop(&self) -> bool
         ensures { result ≡ self.now.self_snoop }
     {
-        self.self_snoop
+        self.state.self_snoop
     }
 
     /// Makes the processor a self-snooping one; all else stays.
     pub fn set_self_snoop(&mut self)
         ensures { self.new ≡ record self.old { self_snoop = true } }
     {
-        self.self_snoop = true;
+        self.state.self_snoop = true;
     }
 
     /// Lends the cache for writing; all else stays.
@@ -178,7 +158,7 @@ impl Cpu {
         ensures* writes_back { sem 𝓛 (Lends the_row cache_row self.entry result (λ ls. record self.old { lines = ls })) }
         ensures value { result.now ≡ self.old.lines }
     {
-        &mut self.cache
+        &mut self.state.cache
     }
 
     /// Lends the write-combining buffers for writing; all else stays.
@@ -186,7 +166,7 @@ impl Cpu {
         ensures* writes_back { sem 𝓛 (Lends the_row buffers_row self.entry result (λ bs. record self.old { buffers = bs })) }
         ensures value { result.now ≡ self.old.buffers }
     {
-        &mut self.buffers
+        &mut self.state.buffers
     }
 
     /// Sets the mapping of a page, and leaves the TLB alone. The error comes where the page has
@@ -199,30 +179,30 @@ impl Cpu {
         ensures done { OnOk result (self.new ≡ record self.old { mappings = set_mapping x self.old.mappings }) }
         ensures kept { OnErr result (self.new ≡ self.old) }
     {
-        self.maps.set(x)
+        self.state.maps.set(x)
     }
 
     /// Drops the TLB entry of a page.
     pub fn invlpg(&mut self, vpage: u64)
         ensures { self.new ≡ drop_page vpage self.old }
     {
-        self.tlb.drop_page(vpage);
+        self.state.tlb.drop_page(vpage);
     }
 
     /// Drops the TLB entries that are not global.
     pub fn reload_cr3(&mut self)
         ensures { self.new ≡ reload_cr3 self.old }
     {
-        self.tlb.drop_local();
+        self.state.tlb.drop_local();
     }
 
     /// Sets PGE. A change drops all TLB entries; setting it to what it is changes nothing.
     pub fn set_pge(&mut self, on: bool)
         ensures { self.new ≡ set_page_global on self.old }
     {
-        if on != self.pge {
-            self.pge = on;
-            self.tlb.drop_all();
+        if on != self.state.pge {
+            self.state.pge = on;
+            self.state.tlb.drop_all();
         }
     }
 
@@ -230,6 +210,6 @@ impl Cpu {
     pub fn set_cd(&mut self, on: bool)
         ensures { self.new ≡ record self.old { cache_disabled = on } }
     {
-        self.cd = on;
+        self.state.cd = on;
     }
 }

@@ -6,9 +6,10 @@ use crate::cpu::Cpu;
 pub fn a_processor_is_whole(cpu: &Cpu)
     ensures { IsProcessor cpu.now }
 {
-    cpu.regs.is_register_file(); // a fact for the proof
-    let _ = cpu.maps.list(); // a fact for the proof
-    let _ = cpu.tlb.entries(); // a fact for the proof
-    let _ = cpu.cache.len(); // a fact for the proof
-    let _ = cpu.buffers.lines(); // a fact for the proof
+    let state = &*cpu.state;
+    state.regs.is_register_file(); // a fact for the proof
+    let _ = state.maps.list(); // a fact for the proof
+    let _ = state.tlb.entries(); // a fact for the proof
+    let _ = state.cache.len(); // a fact for the proof
+    let _ = state.buffers.lines(); // a fact for the proof
 }

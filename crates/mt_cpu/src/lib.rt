@@ -4,6 +4,7 @@
 mod coming;
 mod cpu;
 mod laws;
+mod state;
 mod steps;
 mod translation;
 

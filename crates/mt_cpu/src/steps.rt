@@ -10,6 +10,7 @@ ghost use Rattle.mt_machine.specs.Machine.{FitsGoal, Order, due, first_flush, ow
 ghost use Rattle.mt_cpu.specs.Steps.{HasFirst, HasWritten, is_first_flushing, is_local, is_shift, is_writing_back};
 
 use crate::cpu::Cpu;
+use mt_cache::Cache;
 use mt_kinds::{LINE_BYTES, WORD_BYTES, is_bit_set};
 use mt_machine::{Event, Phase};
 use mt_regs::{RegFile, Register};
@@ -39,13 +40,23 @@ fn without_enable(deftype: u64) -> u64
     }
 }
 
+// Drops all lines, of which none has a dirty word. A cache without lines isn't touched.
+fn drop_any(cache: &mut Cache)
+    requires { first_dirty_line cache.old ≡ None }
+    ensures { cache.new ≡ [] }
+{
+    if cache.len() > 0 {
+        cache.empty();
+    }
+}
+
 impl Cpu {
     fn set_no_fill(&mut self)
         requires { self.old.phase ≡ Phase.Passed }
         ensures { (goal : RegisterFile) → self.new ≡ own_step goal Event.SetNoFill self.old }
     {
-        self.cd = true;
-        self.phase = Phase::NoFill;
+        self.state.cd = true;
+        self.state.phase = Phase::NoFill;
     }
 
     // All lines are dropped. None has a dirty word.
@@ -54,8 +65,8 @@ impl Cpu {
         requires phase { IsTrue (is_writing_back self.old.phase) }
         ensures { (goal : RegisterFile) → self.new ≡ own_step goal Event.DropLines self.old }
     {
-        self.cache.empty();
-        self.phase = match self.phase {
+        drop_any(&mut self.state.cache);
+        self.state.phase = match self.state.phase {
             Phase::Enabled => Phase::Flushed2,
             _ => Phase::Flushed,
         };
@@ -68,14 +79,15 @@ impl Cpu {
         ensures event { result ≡ write_back_or_drop self.old }
         ensures step { (goal : RegisterFile) → self.new ≡ own_step goal result self.old }
     {
-        let Some((i, word)) = self.cache.first_dirty() else {
+        let state = &mut *self.state;
+        let Some((i, word)) = state.cache.first_dirty() else {
             self.drop_lines();
             return Event::DropLines;
         };
-        let line = self.cache.nth(i);
+        let line = state.cache.nth(i);
         let address = LINE_BYTES * line.number + WORD_BYTES * word as u64;
         let value = line.words[word as usize];
-        self.cache.clean_word(i, word);
+        state.cache.clean_word(i, word);
         Event::WriteBack { address, value }
     }
 
@@ -84,10 +96,11 @@ impl Cpu {
         requires { IsTrue (is_first_flushing self.old.phase) }
         ensures { (goal : RegisterFile) → self.new ≡ own_step goal Event.FlushTlb self.old }
     {
-        self.had_pge = self.pge;
-        self.pge = false;
-        self.tlb.drop_all();
-        self.phase = Phase::TlbFlushed;
+        let state = &mut *self.state;
+        state.had_pge = state.pge;
+        state.pge = false;
+        state.tlb.drop_all();
+        state.phase = Phase::TlbFlushed;
     }
 
     // The first flush: the lines, or the TLB at once where the processor is self-snooping.
@@ -97,7 +110,7 @@ impl Cpu {
         ensures event { result ≡ first_flush self.old }
         ensures step { (goal : RegisterFile) → self.new ≡ own_step goal result self.old }
     {
-        if self.self_snoop {
+        if self.state.self_snoop {
             self.flush_tlb();
             return Event::FlushTlb;
         }
@@ -108,17 +121,17 @@ impl Cpu {
         requires { self.old.phase ≡ Phase.Flushed2 }
         ensures { (goal : RegisterFile) → self.new ≡ own_step goal Event.FlushTlb self.old }
     {
-        self.tlb.drop_local();
-        self.phase = Phase::TlbFlushed2;
+        self.state.tlb.drop_local();
+        self.state.phase = Phase::TlbFlushed2;
     }
 
     fn disable(&mut self)
         requires { self.old.phase ≡ Phase.TlbFlushed }
         ensures { (goal : RegisterFile) → self.new ≡ own_step goal Event.Disable self.old }
     {
-        let deftype = without_enable(self.regs.deftype);
-        self.regs.put(Register::DefaultType, deftype);
-        self.phase = Phase::Writing(0);
+        let deftype = without_enable(self.state.regs.deftype);
+        self.state.regs.put(Register::DefaultType, deftype);
+        self.state.phase = Phase::Writing(0);
     }
 
     // The register at a place gets the goal's value.
@@ -129,13 +142,14 @@ impl Cpu {
         requires more { i + 1 < length (writable self.old.file) }
         ensures { self.new ≡ own_step goal.now (Event.Write i) self.old }
     {
+        let state = &mut *self.state;
         goal.is_register_file(); // a fact for the proof
-        self.regs.is_register_file(); // a fact for the proof
+        state.regs.is_register_file(); // a fact for the proof
         let Some(register) = goal.register_at(i) else {
             unreachable!()
         };
-        self.regs.put(register, goal.value_of(register));
-        self.phase = Phase::Writing(i + 1);
+        state.regs.put(register, goal.value_of(register));
+        state.phase = Phase::Writing(i + 1);
     }
 
     // The last register gets the goal's value, which turns the ranges on.
@@ -147,27 +161,28 @@ impl Cpu {
         requires written { HasFirst i goal.now self.old.file }
         ensures { self.new ≡ own_step goal.now Event.Enable self.old }
     {
+        let state = &mut *self.state;
         goal.is_register_file(); // a fact for the proof
-        self.regs.is_register_file(); // a fact for the proof
-        self.regs.put(Register::DefaultType, goal.deftype);
-        self.phase = Phase::Enabled;
+        state.regs.is_register_file(); // a fact for the proof
+        state.regs.put(Register::DefaultType, goal.deftype);
+        state.phase = Phase::Enabled;
     }
 
     fn set_normal(&mut self)
         requires { self.old.phase ≡ Phase.TlbFlushed2 }
         ensures { (goal : RegisterFile) → self.new ≡ own_step goal Event.SetNormal self.old }
     {
-        self.cd = false;
-        self.phase = Phase::Normal;
+        self.state.cd = false;
+        self.state.phase = Phase::Normal;
     }
 
     fn restore_pge(&mut self)
         requires { self.old.phase ≡ Phase.Normal }
         ensures { (goal : RegisterFile) → self.new ≡ own_step goal Event.RestorePge self.old }
     {
-        self.pge = self.had_pge;
-        self.had_pge = false;
-        self.phase = Phase::Restored;
+        self.state.pge = self.state.had_pge;
+        self.state.had_pge = false;
+        self.state.phase = Phase::Restored;
     }
 
     // The next register gets the goal's value, or the last one, which turns the ranges on.
@@ -179,7 +194,7 @@ impl Cpu {
         ensures event { result ≡ write_or_enable self.old i }
         ensures step { self.new ≡ own_step goal.now result self.old }
     {
-        let count = self.regs.count();
+        let count = self.state.regs.count();
         if i + 1 < count {
             self.write_register(i, goal);
             return Event::Write(i);
@@ -200,7 +215,7 @@ impl Cpu {
         ensures event { (o : Order) (ps : List Processor) → due o ps self.old self.old.phase ≡ Some result }
         ensures step { self.new ≡ own_step goal.now result self.old }
     {
-        match self.phase {
+        match self.state.phase {
             Phase::Passed => {
                 self.set_no_fill();
                 Event::SetNoFill
@@ -241,14 +256,14 @@ impl Cpu {
         ensures { (goal : RegisterFile) → self.new ≡ own_step goal e self.old }
     {
         match e {
-            Event::Take => self.phase = Phase::Taken,
-            Event::Arrive => self.phase = Phase::Arrived,
-            Event::Leave => self.phase = Phase::Running,
-            Event::Pass => self.phase = Phase::Passed,
-            Event::ArriveAgain => self.phase = Phase::Arrived2,
+            Event::Take => self.state.phase = Phase::Taken,
+            Event::Arrive => self.state.phase = Phase::Arrived,
+            Event::Leave => self.state.phase = Phase::Running,
+            Event::Pass => self.state.phase = Phase::Passed,
+            Event::ArriveAgain => self.state.phase = Phase::Arrived2,
             Event::Release => {
-                self.phase = Phase::Running;
-                self.era += 1;
+                self.state.phase = Phase::Running;
+                self.state.era += 1;
             }
             _ => unreachable!(),
         }

@@ -5,18 +5,20 @@ ghost use Rattle.mt_regs.specs.RegisterFile.{page_count};
 ghost use Rattle.mt_tlb.specs.Entries.{add_entry, find_entry, find_mapping};
 ghost use Rattle.mt_machine.specs.Access.{keep_entry, physical};
 ghost use Rattle.mt_cpu.specs.Kinds.{entry_by, new_entry_by};
+ghost use Rattle.mt_cpu.specs.State.{processor_of};
 
 use crate::cpu::Cpu;
+use crate::state::State;
 use mt_kinds::{MemType, PAGE_BYTES, PageKinds, Pat, effective};
 use mt_machine::Phase;
 use mt_tlb::{Entry, Mapping};
 
-impl Cpu {
+impl State {
     // The entry that a mapping makes.
     fn new_entry<P: PageKinds>(&self, m: &Mapping, kinds: &P) -> Entry
         requires index { m.now.index < 8 }
         requires page { m.now.ppage < P.page_count kinds.now }
-        ensures { result ≡ new_entry_by (P.type_at kinds.now) self.now m.now }
+        ensures { result ≡ new_entry_by (P.type_at kinds.now) (processor_of self.now) m.now }
     {
         Entry {
             vpage: m.vpage,
@@ -39,10 +41,11 @@ impl Cpu {
         ensures kept { IfNone result (self.new ≡ self.old) }
         ensures physical { IfSome result (λ e. e.ppage < page_count self.old.file) }
     {
-        let i = self.maps.find(vpage)?;
-        let mapping = self.maps.list()[i];
-        let entry = self.new_entry(&mapping, kinds);
-        self.tlb.fill(entry);
+        let state = &mut *self.state;
+        let i = state.maps.find(vpage)?;
+        let mapping = state.maps.list()[i];
+        let entry = state.new_entry(&mapping, kinds);
+        state.tlb.fill(entry);
         Some(entry)
     }
 
@@ -55,8 +58,9 @@ impl Cpu {
         ensures unmapped { IsNone result ↔ (find_mapping vpage self.old.mappings ≡ None) }
         ensures physical { IfSome result (λ e. e.ppage < page_count self.old.file) }
     {
-        if let Some(i) = self.tlb.find(vpage) {
-            return Some(self.tlb.entries()[i]);
+        let tlb = &mut self.state.tlb;
+        if let Some(i) = tlb.find(vpage) {
+            return Some(tlb.entries()[i]);
         }
         self.fill(vpage, kinds)
     }
@@ -71,7 +75,7 @@ impl Cpu {
         ensures after { self.new ≡ option_map_or (λ e. keep_entry e self.old) (entry_by (P.type_at kinds.now) self.old (va / page_bytes)) self.old }
         ensures unmapped { IsNone result ↔ (find_mapping (va / page_bytes) self.old.mappings ≡ None) }
     {
-        let pages = self.regs.pages();
+        let pages = self.state.regs.pages();
         let entry = self.entry(va / PAGE_BYTES, kinds)?;
         prove!(entry.ppage < pages);
         Some((PAGE_BYTES * entry.ppage + va % PAGE_BYTES, entry.kind))

@@ -1,6 +1,7 @@
 use Rattle.mt_tlb.specs.declared.entry.Entry.{Entry}
-use Rattle.mt_cpu.proofs.Facts.{filtered}
+use Rattle.mt_cpu.specs.State.{processor_of}
+use Rattle.mt_cpu.proofs.Facts.{filtered, lent}
 use Rattle.mt_cpu.proofs.cpu.Cpu.reload_cr3.Goals as goal
 
 pub invariant_of-self : goal.invariant_of-self
-invariant_of-self c = rw c.drop_local.ensures (filtered (λ (e : Entry). e.global) _ c.self.invariant)
+invariant_of-self c = rw c.drop_local.ensures (filtered (λ (e : Entry). e.global) (processor_of c.deref_mut.result.now) (lent _ _ c.deref_mut.ensures.value c.self.invariant))
