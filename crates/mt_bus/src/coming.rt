@@ -20,17 +20,18 @@ use mt_cpu::Cpu;
 use mt_ports::NoMemory;
 use mt_ram::Ram;
 use mt_types::KindTable;
+use std::alloc::Global;
 
 // A processor as it comes up beside these.
-fn newcomer(cpus: &[Cpu]) -> Cpu
+fn newcomer(alloc: Global, cpus: &[Cpu]) -> Result<Cpu, NoMemory>
     requires { 0 < length cpus.now }
-    ensures value { option_map newcomer_beside (slice_get cpus.now 0) ≡ Some result }
-    ensures accepted { IsAccepted result.file }
+    ensures value { IfOk result (λ cpu. option_map newcomer_beside (slice_get cpus.now 0) ≡ Some cpu) }
+    ensures accepted { IfOk result (λ cpu. IsAccepted cpu.file) }
 {
     let first = &cpus[0];
     let regs = first.regs();
     regs.is_register_file(); // a fact for the proof
-    Cpu::come_up(regs.maxphy, regs.cap, first.era())
+    Cpu::come_up(alloc, regs.maxphy, regs.cap, first.era())
 }
 
 // Adds a processor and its table. Where there is no memory for one of them neither is added.
@@ -96,7 +97,8 @@ impl System {
         ensures kept { OnErr result (self.new ≡ self.old) }
     {
         let k = self.cpus.len() as u32;
-        let cpu = newcomer(self.cpus.as_slice());
+        let alloc = *self.cpus.allocator();
+        let cpu = newcomer(alloc, self.cpus.as_slice())?;
         let table = KindTable::of(cpu.regs());
         if add(&mut self.cpus, &mut self.tables, cpu, table) {
             Ok(k)

@@ -58,7 +58,8 @@ fn start_cpus(alloc: Global, files: &[RegFile]) -> Result<Vec<Cpu>, NoMemory>
 {
     let mut cpus = Vec::new(alloc);
     for file in files {
-        if cpus.push(Cpu::new(file.same())).is_err() {
+        let cpu = Cpu::new(alloc, file.same())?;
+        if cpus.push(cpu).is_err() {
             return Err(NoMemory);
         }
     }
