@@ -46,6 +46,8 @@ fn clear_bit(masks: &mut [u16], k: usize)
 #[derive(Drop)]
 pub struct Holders {
     masks: Vec<u16>,
+    // the bits that a mask may have, so that `remove_all` skips a processor that has none
+    marked: u16,
 }
 
 impl Model for Holders {
@@ -61,6 +63,7 @@ impl Holders {
     {
         Holders {
             masks: Vec::new(alloc),
+            marked: 0,
         }
     }
 
@@ -69,7 +72,7 @@ impl Holders {
         ensures { IfOk result (λ h. h ≡ replicate modulus 0) }
     {
         match vec![in alloc; 0u16; MODULUS as usize] {
-            Ok(masks) => Ok(Holders { masks }),
+            Ok(masks) => Ok(Holders { masks, marked: 0 }),
             Err(_) => Err(NoMemory),
         }
     }
@@ -79,6 +82,7 @@ impl Holders {
         ensures { (ps : List Processor) → AreHeldBy ps self.new }
     {
         set_all(self.masks.as_mut_slice());
+        self.marked = 0xffff;
     }
 
     /// Whether there are masks.
@@ -135,6 +139,7 @@ impl Holders {
         if r < self.masks.len() {
             let masks = self.masks.as_mut_slice();
             masks[r] = mask;
+            self.marked = self.marked | mask;
         }
     }
 
@@ -163,8 +168,9 @@ impl Holders {
     pub fn remove_all(&mut self, k: usize)
         ensures { CoversOthers k self.new self.old }
     {
-        if k < BITS {
+        if k < BITS && is_bit_set(self.marked as u64, k as u8) {
             clear_bit(self.masks.as_mut_slice(), k);
+            self.marked = self.marked & !bit(k);
         }
     }
 }
