@@ -4,6 +4,7 @@ use mt_kinds::{MemType, PageKinds};
 use mt_machine::{Event, Phase};
 use mt_regs::RegFile;
 use mt_tlb::Mapping;
+use std::alloc::Global;
 
 /// One type for all pages.
 #[derive(Drop)]
@@ -27,14 +28,14 @@ impl PageKinds for OneKind {
 }
 
 /// A processor that has just started, with this default-type register.
-fn processor(deftype: u64) -> Option<Cpu> {
+fn processor(alloc: Global, deftype: u64) -> Option<Cpu> {
     let Ok(mut file) = RegFile::blank(36, 0x508) else {
         return None;
     };
     if file.set(0x2ff, deftype).is_err() || file.first_fault().is_some() {
         return None;
     }
-    Some(Cpu::new(file))
+    Cpu::new(alloc, file).ok()
 }
 
 fn map(cpu: &mut Cpu, vpage: u64, ppage: u64, global: bool) -> bool {
@@ -65,7 +66,7 @@ fn translates(cpu: &mut Cpu, va: u64, address: u64, kind: MemType) -> bool {
 
 #[test]
 fn global_entries_stay_until_pge_is_cleared(rt: HostRuntime) {
-    let mut cpu = some(&rt, processor(0x806));
+    let mut cpu = some(&rt, processor(rt.alloc(), 0x806));
     cpu.set_pge(true);
     holds(&rt, map(&mut cpu, 1, 0x100, true));
     holds(&rt, map(&mut cpu, 2, 0x200, false));
@@ -87,7 +88,7 @@ fn global_entries_stay_until_pge_is_cleared(rt: HostRuntime) {
 
 #[test]
 fn an_entry_stands_until_it_is_dropped(rt: HostRuntime) {
-    let mut cpu = some(&rt, processor(0x804));
+    let mut cpu = some(&rt, processor(rt.alloc(), 0x804));
     holds(&rt, map(&mut cpu, 1, 0x100, true));
     holds(&rt, translates(&mut cpu, 0x1000, 0x100000, MemType::WT));
     holds(
@@ -102,7 +103,7 @@ fn an_entry_stands_until_it_is_dropped(rt: HostRuntime) {
 
 #[test]
 fn the_cache_and_the_buffers_are_lent(rt: HostRuntime) {
-    let mut cpu = some(&rt, processor(0x806));
+    let mut cpu = some(&rt, processor(rt.alloc(), 0x806));
     cpu.set_cd(true);
     holds(
         &rt,
@@ -147,7 +148,7 @@ fn shift(cpu: &mut Cpu) {
 
 #[test]
 fn a_processor_goes_through_the_first_barrier(rt: HostRuntime) {
-    let mut cpu = some(&rt, processor(0x806));
+    let mut cpu = some(&rt, processor(rt.alloc(), 0x806));
     let goal = cpu.regs().same();
     for _ in 0..3 {
         shift(&mut cpu);
@@ -168,7 +169,7 @@ fn a_processor_goes_through_the_first_barrier(rt: HostRuntime) {
 
 #[test]
 fn a_self_snooping_processor_leaves_the_first_flush_out(rt: HostRuntime) {
-    let mut cpu = some(&rt, processor(0x806));
+    let mut cpu = some(&rt, processor(rt.alloc(), 0x806));
     holds(&rt, !cpu.self_snoop());
     cpu.set_self_snoop();
     cpu.set_self_snoop();
@@ -189,7 +190,7 @@ fn a_self_snooping_processor_leaves_the_first_flush_out(rt: HostRuntime) {
 
 #[test]
 fn one_that_comes_up_is_blank(rt: HostRuntime) {
-    let cpu = Cpu::come_up(40, 0x508, 3);
+    let cpu = some(&rt, Cpu::come_up(rt.alloc(), 40, 0x508, 3).ok());
     holds(&rt, cpu.regs().maxphy == 40 && cpu.regs().cap == 0x508);
     holds(&rt, cpu.regs().get(0x2ff) == Some(0));
     holds(&rt, cpu.regs().get(0x277) == Some(0x7_0406_0007_0406));
