@@ -70,7 +70,7 @@ pub(crate) fn gather_station(
     ensures empty { IfOk result (λ t. t.1.seat.me.0.held ≡ []) }
     ensures refused { IfErr result (λ e. e.0.items ≡ cpus.items) }
 {
-    let mut attendees = match room(alloc, &cpus) {
+    let mut attendees = match room(alloc, cpus.len()) {
         Ok(room) => room,
         Err(refusal) => return Err((cpus, refusal)),
     };

@@ -22,7 +22,7 @@ ghost use Rattle.mt_rendezvous.specs.InStation.{CameIn, IsQueueIn, IsReadyAsIn, 
 
 use crate::broadcast::call_and_take;
 use crate::caller::{Caller, start};
-use crate::crew::{Refusal, boxed, room};
+use crate::crew::{Refusal, room};
 use crate::gather::{disband, gather_station};
 use crate::station::{Attendee, Root, Station};
 use mt_bus::{Holders, System, SystemParts};
@@ -53,22 +53,6 @@ fn finish(station: &Station, a: Attendee, root: &mut Root, done: &mut Vec<Cpu>)
     done.push_reserved(root.take_back(station, a));
 }
 
-// What a thread had comes back.
-fn finish_boxed(station: &Station, a: Box<Attendee>, root: &mut Root, done: &mut Vec<Cpu>)
-    requires root { IsRootIn station.now root.old }
-    requires came { CameIn station.now a.value }
-    requires next { a.value.pass.number ≡ length done.old.items }
-    requires tied { Tied root.old.seat.me.0 done.old.items }
-    requires room { vec_len done.old < vec_capacity done.old }
-    ensures root { IsRootIn station.now root.new }
-    ensures go { root.new.seat.me.0.go ≡ root.old.seat.me.0.go }
-    ensures room { (length done.new.items ≡ length done.old.items + 1) × (vec_capacity done.new ≡ vec_capacity done.old) }
-    ensures tied { Tied root.new.seat.me.0 done.new.items }
-    ensures ran { All (λ c. c.phase ≡ Running) done.old.items → All (λ c. c.phase ≡ Running) done.new.items }
-{
-    finish(station, Box::into_inner(a), root, done);
-}
-
 // The last attendee.
 fn last(station: &Station, waiting: &mut Vec<Attendee>) -> Option<Attendee>
     requires { IsQueueIn station.now waiting.old.items }
@@ -81,30 +65,6 @@ fn last(station: &Station, waiting: &mut Vec<Attendee>) -> Option<Attendee>
 {
     let _ = station.count; // a fact for the proof
     waiting.pop()
-}
-
-// The last attendee, in a block that a thread takes without a copy.
-fn last_boxed(
-    station: &Station,
-    alloc: Global,
-    waiting: &mut Vec<Attendee>,
-) -> Result<Box<Attendee>, Refusal>
-    requires queue { IsQueueIn station.now waiting.old.items }
-    requires waits { 0 < vec_len waiting.old }
-    ensures kept { IfErr result (λ e. waiting.new.items ≡ waiting.old.items) }
-    ensures some { IfOk result (λ a. IsReadyAsIn station.now (length waiting.new.items) a.value) }
-    ensures rest { IfOk result (λ a. OneLessIn station.now waiting.old.items waiting.new.items) }
-{
-    let Some(a) = last(station, waiting) else {
-        unreachable!()
-    };
-    match boxed(alloc, a) {
-        Ok(block) => Ok(block),
-        Err((a, refusal)) => {
-            waiting.push_reserved(a);
-            Err(refusal)
-        }
-    }
 }
 
 // With the cancel given, all of these leave on this thread, which a refusal alone allows.
@@ -139,7 +99,6 @@ fn leave_all<R: Wait, G: Gate>(
 // Starts a thread for each of these, gives the go, and takes all back. Where one isn't started it cancels.
 fn run_all<'s, E, R: Threads + Wait + Sync, G: Gate>(
     caller: &'s Caller<R, G>,
-    alloc: Global,
     scope: &Scope<'s, E>,
     station: &'s Station,
     ram: &'s Ram,
@@ -157,29 +116,19 @@ fn run_all<'s, E, R: Threads + Wait + Sync, G: Gate>(
     ensures returned { ReturnedIn station.now root.new (decided (is_ok result)) (length waiting.old.items) done.new.items }
     ensures capacity { vec_capacity done.new ≡ vec_capacity done.old }
 {
-    if waiting.is_empty() {
+    let Some(a) = last(station, waiting) else {
         root.go(station);
         return Ok(());
-    }
-    let a = match last_boxed(station, alloc, waiting) {
-        Ok(a) => a,
-        Err(refusal) => {
-            root.cancel(station);
-            leave_all(caller, &refusal, station, ram, root, goal, waiting, done);
-            return Err(refusal);
-        }
     };
     match start(caller, scope, station, ram, root, a, goal) {
         Ok(child) => {
-            let outcome = run_all(
-                caller, alloc, scope, station, ram, root, goal, waiting, done,
-            );
-            finish_boxed(station, child.join(caller), root, done);
+            let outcome = run_all(caller, scope, station, ram, root, goal, waiting, done);
+            finish(station, caller.join(child), root, done);
             outcome
         }
         Err((a, refusal)) => {
             leave_all(caller, &refusal, station, ram, root, goal, waiting, done);
-            finish_boxed(station, a, root, done);
+            finish(station, a, root, done);
             Err(refusal)
         }
     }
@@ -195,7 +144,6 @@ struct Ended {
 // The scope of the threads.
 fn meet<R: Threads + Wait + Sync, G: Gate>(
     caller: &Caller<R, G>,
-    alloc: Global,
     station: &Station,
     ram: &Ram,
     mut root: Root,
@@ -221,7 +169,6 @@ fn meet<R: Threads + Wait + Sync, G: Gate>(
         {
             let outcome = run_all(
                 caller,
-                alloc,
                 scope,
                 station,
                 ram,
@@ -290,7 +237,7 @@ fn lead_on_threads<R: Threads + Wait + Sync, G: Gate>(
     ensures left { system result.cpus.items ram.new ≡ left_by (is_ok result.outcome) (system cpus.items ram.old) goal.now }
     ensures count { length result.cpus.items ≡ length cpus.items }
 {
-    let done = match room(alloc, &cpus) {
+    let done = match room(alloc, cpus.len()) {
         Ok(done) => done,
         Err(refusal) => return run_again(cpus, refusal),
     };
@@ -300,7 +247,7 @@ fn lead_on_threads<R: Threads + Wait + Sync, G: Gate>(
                 outcome,
                 root,
                 done,
-            } = meet(caller, alloc, &station, ram, root, goal, waiting, done);
+            } = meet(caller, &station, ram, root, goal, waiting, done);
             disband(station, root, ram);
             Led {
                 outcome,

@@ -11,18 +11,26 @@ use crate::view::Turn;
 use mt_cpu::Cpu;
 use mt_machine::Event;
 use mt_ports::Gate;
+use std::marker::PhantomData;
 
-// That the gate is to be told of an arrival. `Pass::arrive` alone makes one, by the number of a pass that has added to the
-// first count, and no pass adds twice. It can't be copied, and only `tell` takes it apart.
+// That a gate is to be told of an arrival. Only this file can make one or take one apart: `of` makes it, for a pass that has
+// added to the first count, and `tell` takes it apart. It is neither `Clone` nor `Drop`.
 pub(super) struct Arrival {
     number: u32,
 }
 
-// That the caller's gate was told of an arrival: `Arrival::tell` alone makes one. No pass leaves the first barrier without
-// one of its number (`Pass::wait_first`).
-#[derive(Drop)]
-pub(super) struct Heard {
+// That a gate of type G was told of an arrival. Only this file can make one or take one apart: `tell` makes it. It is neither
+// `Clone` nor `Drop`, and `Pass::wait_first` spends one of its pass's number.
+pub(super) struct Heard<G> {
     number: u32,
+    gate: PhantomData<G>,
+}
+
+impl<G> Heard<G> {
+    // Spends it, before the wait that it allows.
+    pub(super) fn spend(self) {
+        let Heard { number: _, gate: _ } = self;
+    }
 }
 
 impl Arrival {
@@ -37,12 +45,15 @@ impl Arrival {
     }
 
     // Tells the caller's gate, once.
-    pub(super) fn tell<R, G: Gate>(self, caller: &Caller<R, G>) -> Heard
+    pub(super) fn tell<R, G: Gate>(self, caller: &Caller<R, G>) -> Heard<G>
         ensures { result.number ≡ self.number }
     {
         let Arrival { number } = self;
         caller.crew.tell(number);
-        Heard { number }
+        Heard {
+            number,
+            gate: PhantomData,
+        }
     }
 }
 

@@ -6,14 +6,14 @@ ghost use Rattle.mt_rendezvous.specs.Update.{AreOf};
 ghost use Rattle.mt_rendezvous.specs.InStation.{CameAsIn, CameIn, IsReadyIn, IsRootIn, LeadsIn, goal_at, start_at, windows_at};
 
 use crate::caller::Caller;
-use crate::crew::{OfProcessor, Refusal};
+use crate::crew::{OfProcessor, Refusal, Started};
 use crate::station::{Attendee, Root, Station};
 use mt_ports::Gate;
 use mt_ram::Ram;
 use mt_regs::RegFile;
 use std::snapshot::Snapshot;
 use std::sync::Wait;
-use std::thread::{Promise, PromisedHandle, Scope, Threads};
+use std::thread::{Promise, Scope};
 
 // What the thread of a processor promises: the processor comes back, and runs. `start` alone makes one.
 #[derive(Drop)]
@@ -22,10 +22,10 @@ pub(crate) struct Attends {
     number: u64,
 }
 
-impl Promise<Box<Attendee>> for Attends {
+impl Promise<Attendee> for Attends {
     ghost use Rattle.mt_rendezvous.specs.InStation.{CameAsIn};
 
-    ghost kept_by = { λ p a. CameAsIn p.station.value p.number a.value };
+    ghost kept_by = { λ p a. CameAsIn p.station.value p.number a };
 }
 
 impl OfProcessor for Attends {
@@ -74,24 +74,24 @@ fn attend_whole<R: Wait, G: Gate>(
 
 // Starts the attendee's thread, if the caller's gate lets it. If none is started, the root cancels. The attendee then
 // leaves, and comes back with the refusal.
-pub(crate) fn start<'s, E, R: Threads + Wait + Sync, G: Gate>(
+pub(crate) fn start<'s, E, R: Wait + Sync, G: Gate>(
     caller: &'s Caller<R, G>,
     scope: &Scope<'s, E>,
     station: &'s Station,
     ram: &'s Ram,
     root: &mut Root,
-    a: Box<Attendee>,
+    a: Attendee,
     goal: &'s RegFile,
-) -> Result<PromisedHandle<Box<Attendee>, Attends>, (Box<Attendee>, Refusal)>
+) -> Result<Started<Attendee, Attends, G>, (Attendee, Refusal)>
     requires root { LeadsIn station.now root.old Pending }
-    requires ready { IsReadyIn station.now a.value }
+    requires ready { IsReadyIn station.now a }
     requires goal { goal.now ≡ goal_at station.now }
     requires windows { ram.now.windows ≡ windows_at station.now }
     ensures held { root.new.seat.me.0.held ≡ root.old.seat.me.0.held }
     ensures pending { IfOk result (λ h. LeadsIn station.now root.new Pending) }
-    ensures child { IfOk result (λ h. (h.promise.station.value ≡ station.now) × (h.promise.number ≡ a.value.pass.number)) }
+    ensures child { IfOk result (λ s. (s.promise.value.station.value ≡ station.now) × (s.promise.value.number ≡ a.pass.number)) }
     ensures cancelled { IfErr result (λ e. LeadsIn station.now root.new Cancelled) }
-    ensures came { IfErr result (λ e. CameAsIn station.now a.value.pass.number e.0.value) }
+    ensures came { IfErr result (λ e. CameAsIn station.now a.pass.number e.0) }
 {
     let promise = Attends {
         station: Snapshot::of(station),
@@ -101,11 +101,11 @@ pub(crate) fn start<'s, E, R: Threads + Wait + Sync, G: Gate>(
         scope,
         a.pass.processor(),
         promise,
-        move || -> Box<Attendee>
+        move || -> Attendee
             requires shared { IsSync R.row }
-            requires ready { IsReadyIn station.now a.value }
+            requires ready { IsReadyIn station.now a }
             requires same { AreOf (start_at station.now) goal.now ram.now.windows }
-            ensures { CameAsIn station.entry.now a.value.pass.number result.value }
+            ensures { CameAsIn station.entry.now a.pass.number result }
         {
             let mut a = a;
             attend_whole(caller, station, ram, &mut a, goal);

@@ -1,5 +1,5 @@
-// All that waits: the two waits of a pass, and a scope for its threads. Only this module has the runtime, and nothing takes
-// it out. So every other function that has a caller is proved to end, except where it calls these or joins a thread.
+// The calls that wait: for the others at the two barriers, and for threads. Only this file reads the runtime of a caller. So every
+// other function that has a caller, and no runtime of its own, waits by these calls alone, and its own loops terminate.
 ghost use Rattle.std.specs.Prelude.{◌≡◌, ◌+◌, true, false, Some};
 ghost use Rattle.mt_machine.specs.declared.phase.Phase.TheVariants.{Arrived2};
 ghost use Rattle.mt_machine.specs.declared.event.Event.TheVariants.{Release};
@@ -10,15 +10,32 @@ ghost use Rattle.mt_rendezvous.specs.Calls.{Waited};
 
 use super::arrival::Heard;
 use crate::caller::Caller;
+use crate::crew::Started;
 use crate::station::{CANCEL, Pass, Station};
 use crate::view::Turn;
 use mt_cpu::Cpu;
 use mt_machine::Event;
+use mt_ports::Gate;
+use std::hint;
 use std::sync::Wait;
 use std::thread;
-use std::thread::{Scope, Threads};
+use std::thread::{Promise, Scope, Threads};
 
-// The runtime of a call. Without it no loop can go on for ever.
+// After so many loads of a word that don't end the wait, the thread yields its processor.
+const LOADS_BEFORE_YIELD: u32 = 64;
+
+// Pauses behind a load that didn't end the wait, and behind the last of so many yields the processor. The result is how many
+// loads have been made since the thread last yielded.
+fn pause(loads: u32) -> u32 {
+    if loads + 1 < LOADS_BEFORE_YIELD {
+        hint::spin_loop();
+        return loads + 1;
+    }
+    thread::yield_now();
+    0
+}
+
+// The runtime of a call. A loop without a measure needs one.
 #[derive(Drop)]
 pub(super) struct Waiter<R> {
     rt: R,
@@ -31,13 +48,20 @@ impl<R> Waiter<R> {
     }
 }
 
-impl<R: Threads + Wait, G> Caller<R, G> {
+impl<R: Threads + Wait, G: Gate> Caller<R, G> {
     // Calls f with a scope, and waits for the threads that f starts there.
     pub(crate) fn scope<'e, F: for<'s> FnOnce(&'s Scope<'s, &'e ()>) -> T, T>(&self, f: F) -> T
         requires { F.IsAlwaysCallable f }
         ensures { (s : _) × F.post f s result }
     {
         thread::scope(thread::scope_env(), &self.waiter.rt, f)
+    }
+
+    // Waits for the end of a thread that a crew with a gate of this caller's type has started.
+    pub(crate) fn join<T, P: Promise<T>>(&self, child: Started<T, P, G>) -> T
+        ensures { P.kept_by child.promise.value result }
+    {
+        self.crew.join(&self.waiter.rt, child)
     }
 }
 
@@ -49,18 +73,20 @@ impl Pass {
     pub(super) fn wait_first<R: Wait, G>(
         &mut self,
         caller: &Caller<R, G>,
-        _heard: Heard,
+        heard: Heard<G>,
         station: &Station,
         cpu: &mut Cpu,
     ) -> bool
         requires carries { CarriesIn station.now self.old cpu.old true false }
         requires waits { IsWaiting cpu.old.phase }
-        requires heard { _heard.number ≡ self.old.number }
+        requires heard { heard.number ≡ self.old.number }
         ensures number { self.new.number ≡ self.old.number }
         ensures carries { CarriesIn station.now self.new cpu.new true false }
         ensures shown { self.new.shown ≡ self.old.shown }
         ensures waited { Waited result (start_at station.now) self.new.number cpu.old cpu.new }
     {
+        heard.spend();
+        let mut loads = 0;
         for _ in caller.waiter.rt.forever() {
             let found = station.table.shared.load::<Turn>(&mut self.seat, 0);
             if found >= CANCEL {
@@ -71,7 +97,7 @@ impl Pass {
                 cpu.shift(Event::Pass);
                 return true;
             }
-            thread::yield_now();
+            loads = pause(loads);
         }
         unreachable!()
     }
@@ -92,6 +118,7 @@ impl Pass {
         ensures took { Took (start_at station.now) self.new.number Release cpu.old cpu.new }
         ensures risen { cpu.new.era ≡ common_era (start_at station.now).cpus + 1 }
     {
+        let mut loads = 0;
         for _ in caller.waiter.rt.forever() {
             let found = station.table.shared.load::<Turn>(&mut self.seat, 1);
             self.shown = Some(found as u32);
@@ -99,7 +126,7 @@ impl Pass {
                 cpu.shift(Event::Release);
                 return;
             }
-            thread::yield_now();
+            loads = pause(loads);
         }
         unreachable!()
     }
