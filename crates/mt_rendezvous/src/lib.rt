@@ -1,10 +1,12 @@
 //! The update of the range registers on threads: processors that meet at two barriers, over atomic words.
 #![tactic(auto)]
 
+mod attendance;
 mod broadcast;
 mod caller;
 mod crew;
 mod gather;
+mod shared;
 mod station;
 mod threads;
 mod view;

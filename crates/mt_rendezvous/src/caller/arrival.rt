@@ -1,8 +1,5 @@
 // The arrival of a pass at the first barrier, and that the gate was told of it.
-ghost use Rattle.std.specs.Prelude.{◌≡◌, true, false, slice_get, Some};
-ghost use Rattle.mt_machine.specs.declared.phase.Phase.TheVariants.{Taken};
-ghost use Rattle.mt_rendezvous.specs.Station.{Begins};
-ghost use Rattle.mt_rendezvous.specs.Plays.{IsWaiting};
+ghost use Rattle.std.specs.Prelude.{◌≡◌};
 ghost use Rattle.mt_rendezvous.specs.InStation.{HasAddedIn};
 
 use crate::caller::Caller;
@@ -58,18 +55,15 @@ impl Arrival {
 }
 
 impl Pass {
-    ghost use Rattle.mt_rendezvous.specs.InStation.{CarriesIn, start_at};
+    ghost use Rattle.mt_rendezvous.specs.InStation.{HasArrived, IsAsGathered, IsTaken};
 
     // Adds to word 0: the event Arrive, or none where the word held the cancel before.
     pub(super) fn arrive(&mut self, station: &Station, cpu: &mut Cpu) -> Arrival
-        requires carries { CarriesIn station.now self.old cpu.old false false }
-        requires taken { cpu.old.phase ≡ Taken }
-        ensures carries { CarriesIn station.now self.new cpu.new true false }
-        ensures waits { IsWaiting cpu.new.phase }
+        requires { IsTaken station.now self.old cpu.old }
+        ensures arrived { HasArrived station.now self.new cpu.new }
+        ensures first { IsAsGathered station.now self.old.number cpu.old }
         ensures same { cpu.new ≡ record cpu.old { phase = cpu.new.phase } }
-        ensures first { slice_get (start_at station.now).cpus self.old.number ≡ Some cpu.old }
         ensures shown { self.new.shown ≡ self.old.shown }
-        ensures begins { Begins (start_at station.now) }
         ensures number { self.new.number ≡ self.old.number }
         ensures token { result.number ≡ self.old.number }
     {

@@ -1,12 +1,8 @@
 // The calls that wait: for the others at the two barriers, and for threads. Only this file reads the runtime of a caller. So every
 // other function that has a caller, and no runtime of its own, waits by these calls alone, and its own loops terminate.
-ghost use Rattle.std.specs.Prelude.{◌≡◌, ◌+◌, true, false, Some};
-ghost use Rattle.mt_machine.specs.declared.phase.Phase.TheVariants.{Arrived2};
+ghost use Rattle.std.specs.Prelude.{◌≡◌};
 ghost use Rattle.mt_machine.specs.declared.event.Event.TheVariants.{Release};
-ghost use Rattle.mt_machine.specs.Machine.{common_era};
-ghost use Rattle.mt_rendezvous.specs.Station.{Begins};
-ghost use Rattle.mt_rendezvous.specs.Plays.{IsWaiting, Took};
-ghost use Rattle.mt_rendezvous.specs.Calls.{Waited};
+ghost use Rattle.mt_rendezvous.specs.Plays.{Took};
 
 use super::arrival::Heard;
 use crate::caller::Caller;
@@ -21,18 +17,17 @@ use std::sync::Wait;
 use std::thread;
 use std::thread::{Promise, Scope, Threads};
 
-// After so many loads of a word that don't end the wait, the thread yields its processor.
-const LOADS_BEFORE_YIELD: u32 = 64;
+// How often a wait pauses between two loads before it yields the processor.
+const SPINS: u32 = 64;
 
-// Pauses behind a load that didn't end the wait, and behind the last of so many yields the processor. The result is how many
-// loads have been made since the thread last yielded.
-fn pause(loads: u32) -> u32 {
-    if loads + 1 < LOADS_BEFORE_YIELD {
-        hint::spin_loop();
-        return loads + 1;
+// Pauses, or yields the processor if no pause is left before that. Returns how many are left.
+fn pause(spins: u32) -> u32 {
+    if spins == 0 {
+        thread::yield_now();
+        return SPINS;
     }
-    thread::yield_now();
-    0
+    hint::spin_loop();
+    spins - 1
 }
 
 // The runtime of a call. A loop without a measure needs one.
@@ -66,7 +61,7 @@ impl<R: Threads + Wait, G: Gate> Caller<R, G> {
 }
 
 impl Pass {
-    ghost use Rattle.mt_rendezvous.specs.InStation.{CarriesIn, start_at};
+    ghost use Rattle.mt_rendezvous.specs.InStation.{HasArrived, HasArrivedAgain, IsReleased, Waited, start_at};
 
     // Waits for the others, once the gate was told of the arrival. The load of word 0 that ends it is the event Pass, and
     // the answer is true, or Leave. Each load before it is none.
@@ -77,16 +72,14 @@ impl Pass {
         station: &Station,
         cpu: &mut Cpu,
     ) -> bool
-        requires carries { CarriesIn station.now self.old cpu.old true false }
-        requires waits { IsWaiting cpu.old.phase }
+        requires arrived { HasArrived station.now self.old cpu.old }
         requires heard { heard.number ≡ self.old.number }
-        ensures number { self.new.number ≡ self.old.number }
-        ensures carries { CarriesIn station.now self.new cpu.new true false }
+        ensures waited { Waited result station.now self.new cpu.old cpu.new }
         ensures shown { self.new.shown ≡ self.old.shown }
-        ensures waited { Waited result (start_at station.now) self.new.number cpu.old cpu.new }
+        ensures number { self.new.number ≡ self.old.number }
     {
         heard.spend();
-        let mut loads = 0;
+        let mut spins = SPINS;
         for _ in caller.waiter.rt.forever() {
             let found = station.table.shared.load::<Turn>(&mut self.seat, 0);
             if found >= CANCEL {
@@ -97,7 +90,7 @@ impl Pass {
                 cpu.shift(Event::Pass);
                 return true;
             }
-            loads = pause(loads);
+            spins = pause(spins);
         }
         unreachable!()
     }
@@ -109,16 +102,12 @@ impl Pass {
         station: &Station,
         cpu: &mut Cpu,
     )
-        requires carries { CarriesIn station.now self.old cpu.old true true }
-        requires waits { cpu.old.phase ≡ Arrived2 }
-        requires begins { Begins (start_at station.now) }
-        ensures number { self.new.number ≡ self.old.number }
-        ensures carries { CarriesIn station.now self.new cpu.new true true }
-        ensures shown { self.new.seat.me.0.shown ≡ Some station.now.count }
+        requires { HasArrivedAgain station.now self.old cpu.old }
+        ensures released { IsReleased station.now self.new cpu.new }
         ensures took { Took (start_at station.now) self.new.number Release cpu.old cpu.new }
-        ensures risen { cpu.new.era ≡ common_era (start_at station.now).cpus + 1 }
+        ensures number { self.new.number ≡ self.old.number }
     {
-        let mut loads = 0;
+        let mut spins = SPINS;
         for _ in caller.waiter.rt.forever() {
             let found = station.table.shared.load::<Turn>(&mut self.seat, 1);
             self.shown = Some(found as u32);
@@ -126,7 +115,7 @@ impl Pass {
                 cpu.shift(Event::Release);
                 return;
             }
-            loads = pause(loads);
+            spins = pause(spins);
         }
         unreachable!()
     }
