@@ -11,4 +11,10 @@ pub meet-outcome-requires-clause-waiting : goal.meet-outcome-requires-clause-wai
 meet-outcome-requires-clause-waiting g c κs within = queue _ _ (subst Begins (sym c.in-Ok-gather_station.ensures.gathered.key) c.requires.begins) c.in-Ok-gather_station.ensures.gathered.attendees
 
 pub returns-clause-left : goal.returns-clause-left
-returns-clause-left g c = ?
+returns-clause-left g c =
+    let key = c.in-Ok-gather_station.ensures.gathered.key in
+    let r = c.meet-outcome.ensures in
+    let done = c.meet-outcome.result.done.items in
+    let given = is_ok c.meet-outcome.result.outcome in
+    subst (λ (t : Start). system done c.disband.new.ram ≡ left_by given (broadcast t).system t.goal) key
+    (whole _ done c.disband.new.ram given _ c.disband.ensures r.tied r.ran r.said (r.whole ∙ c.in-Ok-gather_station.ensures.gathered.count ∙ sym (ap (λ (t : Start). length t.cpus) key)))
