@@ -12,10 +12,9 @@ use crate::view::Turn;
 use mt_cpu::Cpu;
 use mt_machine::Event;
 use mt_ports::Gate;
-use std::hint;
 use std::sync::Wait;
-use std::thread;
 use std::thread::{Promise, Scope, Threads};
+use std::{hint, thread};
 
 // How often a wait pauses between two loads before it yields the processor.
 const SPINS: u32 = 64;
