@@ -24,7 +24,7 @@ use Rattle.mt_rendezvous.specs.declared.station.Pass.{Pass}
 use Rattle.mt_rendezvous.specs.declared.station.Root.{Root}
 use Rattle.mt_rendezvous.specs.declared.station.Station.{Station}
 use Rattle.mt_rendezvous.specs.Calls.{Carries, Ends, HoldsOne}
-use Rattle.mt_rendezvous.specs.InStation.{AllNewIn, AttendedIn, CameAs, IsQueue, IsRootIn, IsTakenAs, OneLess, Returned, Tied, pass_view, root_view, said_by, start_at}
+use Rattle.mt_rendezvous.specs.InStation.{AllNewIn, AttendedIn, CameAs, IsNewIn, IsQueue, IsRootIn, IsTaken, IsTakenAs, OneLess, Returned, Tied, pass_view, root_view, said_by, start_at}
 use Rattle.mt_rendezvous.specs.Update.{decided, left_by}
 
 -- ---- one attendee
@@ -63,14 +63,11 @@ left station old new (Some a) e q = (
   record { ready = λ k b at. q.ready k b (ap (λ l. get_elem? l k) e ∙ at_longer new (a ∷ []) k b at) },
 )
 
+pub is_taken : (station : Station) (k : ℕ) (a : Attendee) → Begins (start_at station) → IsNewIn station k a → IsTaken station a.pass a.cpu
+is_taken station k a begins new = record { carries = new.carries; taken = all_get (λ p. p.phase ≡ Taken) (start_at station).cpus begins.broadcasts.taken k a.cpu new.first }
+
 pub queue : (station : Station) (items : List Attendee) → Begins (start_at station) → AllNewIn station items → IsQueue station items
-queue station items begins all = record {
-  ready = λ k a at.
-      let w = all k a at in (
-        record { carries = w.carries; taken = all_get (λ p. p.phase ≡ Taken) (start_at station).cpus begins.broadcasts.taken k a.cpu w.first },
-        w.numbered,
-      );
-}
+queue station items begins all = record { ready = λ k a at. let new = all k a at in (is_taken station k a begins new, new.numbered) }
 
 -- ---- processors that came back
 

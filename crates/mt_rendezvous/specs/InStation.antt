@@ -21,6 +21,7 @@ use Rattle.mt_rendezvous.specs.declared.view.Start.{Start}
 use Rattle.mt_rendezvous.specs.declared.view.View.{View}
 use Rattle.mt_rendezvous.specs.Station.{Begins, start_of}
 use Rattle.mt_rendezvous.specs.Plays.{IsWaiting, Made, Stands}
+use Rattle.mt_rendezvous.specs.Update.{decided}
 use Rattle.mt_rendezvous.specs.Calls.{Attended, Attends, Carries, Ends, HasAdded, HoldsOne, IsRoot, Leads, Offers}
 
 -- from what it was gathered
@@ -62,6 +63,10 @@ said_by root = (root_view root).go
 
 abbrev pub HasCancelledIn : Station → Root → Type 0
 HasCancelledIn station root = IsRootIn station root × (said_by root ≡ Cancelled)
+
+-- it has given the go, or cancelled
+abbrev pub HasDecided : Root → Type 0
+HasDecided root = (given : Bool) × (said_by root ≡ decided given)
 
 -- its step that adds this to the first count
 abbrev pub AddsToFirst : ℕ → Root → Root → Type 0

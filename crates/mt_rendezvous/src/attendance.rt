@@ -91,7 +91,8 @@ fn run_all<'s, E, R: Threads + Wait + Sync, G: Gate>(
     match start(caller, scope, shared, &mut attendance.root, a) {
         Ok(child) => {
             let outcome = run_all(caller, scope, shared, attendance);
-            attendance.take_back(&shared.station, caller.join(child));
+            let a = caller.join(&attendance.root, child);
+            attendance.take_back(&shared.station, a);
             outcome
         }
         Err((a, refusal)) => {

@@ -7,7 +7,7 @@ ghost use Rattle.mt_rendezvous.specs.Plays.{Took};
 use super::arrival::Heard;
 use crate::caller::Caller;
 use crate::crew::Started;
-use crate::station::{CANCEL, Pass, Station};
+use crate::station::{CANCEL, Pass, Root, Station};
 use crate::view::Turn;
 use mt_cpu::Cpu;
 use mt_machine::Event;
@@ -43,6 +43,8 @@ impl<R> Waiter<R> {
 }
 
 impl<R: Threads + Wait, G: Gate> Caller<R, G> {
+    ghost use Rattle.mt_rendezvous.specs.InStation.{HasDecided};
+
     // Calls f with a scope, and waits for the threads that f starts there.
     pub(crate) fn scope<'e, F: for<'s> FnOnce(&'s Scope<'s, &'e ()>) -> T, T>(&self, f: F) -> T
         requires { F.IsAlwaysCallable f }
@@ -51,8 +53,10 @@ impl<R: Threads + Wait, G: Gate> Caller<R, G> {
         thread::scope(thread::scope_env(), &self.waiter.rt, f)
     }
 
-    // Waits for the end of a thread that a crew with a gate of this caller's type has started.
-    pub(crate) fn join<T, P: Promise<T>>(&self, child: Started<T, P, G>) -> T
+    // Waits for the end of a thread that a crew with a gate of this caller's type has started, once the root has given the go or
+    // cancelled.
+    pub(crate) fn join<T, P: Promise<T>>(&self, _root: &Root, child: Started<T, P, G>) -> T
+        requires { HasDecided _root.now }
         ensures { P.kept_by child.promise.value result }
     {
         self.crew.join(&self.waiter.rt, child)
