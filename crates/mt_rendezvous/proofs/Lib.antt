@@ -1,6 +1,6 @@
 mod Broadcasts
 mod Running
-mod Ended
+pub mod Ended
 pub mod Keeps
 pub mod Local
 pub mod Steps
