@@ -11,7 +11,7 @@ mod memory;
 pub(crate) use memory::open;
 pub use memory::room;
 
-/// A gate that is lent, which does what the gate does.
+/// A gate behind a reference.
 #[derive(Drop)]
 pub struct Lent<'a, G> {
     gate: &'a G,
@@ -80,8 +80,8 @@ impl<F> Unstarted<F> {
     }
 }
 
-/// A thread that a crew with a gate of type G has started. Only this module can make one or take one apart. It isn't `Drop`,
-/// so the thread has to be joined.
+/// A thread that a crew with a gate of type G has started. Only this module can make one or take one apart. It isn't `Drop`:
+/// whoever has one joins the thread or hands it on.
 pub struct Started<T, P: Promise<T>, G> {
     handle: PromisedHandle<T, P>,
     gate: PhantomData<G>,
@@ -90,8 +90,8 @@ pub struct Started<T, P: Promise<T>, G> {
     pub ghost same: { handle.promise ≡ promise.value },
 }
 
-/// Starts the threads that its gate lets start, joins them, and tells its gate of arrivals. A function can make one with a gate of
-/// its own: only the gate's type says which gate is asked.
+/// A gate, with the calls that start and join threads and tell of arrivals. Any function can make one with a gate of its own:
+/// only the type G says which gate that is.
 #[derive(Drop)]
 pub struct Crew<G> {
     gate: G,
@@ -103,12 +103,13 @@ impl<G: Gate> Crew<G> {
         Crew { gate }
     }
 
-    /// Tells its gate, once, that processor k has arrived.
+    /// Tells its gate that processor k has arrived. No clause says it.
     pub fn tell(&self, k: u32) {
         self.gate.arrived(k);
     }
 
-    /// Asks its gate about processor k, once, and starts the thread if the gate lets it.
+    /// Asks its gate about processor k, and starts the thread that is promised if the gate lets it. No clause says that the gate is
+    /// asked.
     ///
     /// # Errors
     ///

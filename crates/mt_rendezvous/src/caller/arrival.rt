@@ -41,7 +41,7 @@ impl Arrival {
         }
     }
 
-    // Tells the caller's gate, once.
+    // Tells the caller's gate.
     pub(super) fn tell<R, G: Gate>(self, caller: &Caller<R, G>) -> Heard<G>
         ensures { result.number ≡ self.number }
     {

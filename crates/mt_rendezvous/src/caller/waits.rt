@@ -66,7 +66,7 @@ impl<R: Threads + Wait, G: Gate> Caller<R, G> {
 impl Pass {
     ghost use Rattle.mt_rendezvous.specs.InStation.{HasArrived, HasArrivedAgain, IsReleased, Waited, start_at};
 
-    // Waits for the others, once the gate was told of the arrival. The load of word 0 that ends it is the event Pass, and
+    // Waits for the others. It spends what says that a gate of the caller's type was told of this pass. The load of word 0 that ends it is the event Pass, and
     // the answer is true, or Leave. Each load before it is none.
     pub(super) fn wait_first<R: Wait, G>(
         &mut self,
