@@ -40,11 +40,8 @@ after_section file = option_map (λ f. blank_file 36 f.capabilities) file
 abbrev pub file_in : List Reading → Option RegisterFile
 file_in [] = None
 file_in (Ok (Register number value first second) ∷ before) = after_register (file_in before) number value
-file_in (Ok Nothing ∷ before) = file_in before
-file_in (Ok (Version version place) ∷ before) = file_in before
 file_in (Ok (Section number place) ∷ before) = after_section (file_in before)
-file_in (Ok (Width width first second) ∷ before) = file_in before
-file_in (Err fault ∷ before) = file_in before
+file_in (other ∷ before) = file_in before
 
 -- the present section's file with this width, where there is one
 abbrev pub file_with : ℕ → Option RegisterFile → List RegisterFile
@@ -55,11 +52,7 @@ file_with width (Some file) = with_width file width ∷ []
 abbrev pub files_in : List Reading → List RegisterFile
 files_in [] = []
 files_in (Ok (Section number place) ∷ before) = files_in before ++ file_with (first_width before) (file_in before)
-files_in (Ok Nothing ∷ before) = files_in before
-files_in (Ok (Version version place) ∷ before) = files_in before
-files_in (Ok (Width width first second) ∷ before) = files_in before
-files_in (Ok (Register number value first second) ∷ before) = files_in before
-files_in (Err fault ∷ before) = files_in before
+files_in (other ∷ before) = files_in before
 
 -- a dump whose last file is this one with this width
 abbrev pub dump_with : ℕ → List RegisterFile → ℕ → Option RegisterFile → Option Dump
