@@ -159,10 +159,7 @@ abbrev pub in_stage : Situation → ℕ → List ℕ → Stage → Answer
 in_stage now line bytes InDump = in_dump bytes
 in_stage now line bytes InUpdate = not_too_long line bytes (in_section now line (words_of bytes))
 in_stage now line bytes InBegin = not_too_long line bytes (in_section now line (words_of bytes))
-in_stage now line bytes NeedCpus = not_too_long line bytes (outside now line (words_of bytes))
-in_stage now line bytes NeedDump = not_too_long line bytes (outside now line (words_of bytes))
-in_stage now line bytes Rams = not_too_long line bytes (outside now line (words_of bytes))
-in_stage now line bytes Commands = not_too_long line bytes (outside now line (words_of bytes))
+in_stage now line bytes other = not_too_long line bytes (outside now line (words_of bytes))
 
 abbrev pub command_of : Situation → ℕ → List ℕ → Answer
 command_of now line bytes = in_stage now line bytes now.stage

@@ -73,33 +73,8 @@ dump_step now before number line = step_in_dump now before number line (ends_dum
 
 -- the command ends a section
 abbrev pub is_end_command : Command → Bool
-is_end_command (command.Cpus n) = false
-is_end_command command.Dump = false
-is_end_command (command.Ram base lines) = false
-is_end_command (command.Selfsnoop k) = false
-is_end_command (command.Load k address) = false
-is_end_command (command.Store k address value) = false
-is_end_command (command.Fence k) = false
-is_end_command (command.Map k address physical index global) = false
-is_end_command (command.Invlpg k address) = false
-is_end_command (command.Cr3 k) = false
-is_end_command (command.Pge k on) = false
-is_end_command (command.Cd k on) = false
-is_end_command command.Update = false
-is_end_command command.Begin = false
-is_end_command command.Go = false
-is_end_command command.Cancel = false
-is_end_command command.Report = false
-is_end_command (command.Step k) = false
-is_end_command command.Up = false
-is_end_command command.Join = false
-is_end_command command.Retire = false
-is_end_command (command.Word address) = false
-is_end_command (command.Msr k msr) = false
-is_end_command command.Blank = false
-is_end_command command.DumpLine = false
-is_end_command (command.Register msr value) = false
 is_end_command command.End = true
+is_end_command other = false
 
 abbrev pub step_of_command : Situation → List Reading → ℕ → List ℕ → Command → Bool → HeadStep
 step_of_command now before number line c true = step_in_dump now before number line (is_end_command c)
