@@ -6,7 +6,8 @@ use Rattle.mt_ports.specs.declared.status.Status.TheVariants.{Done, BadText, Rea
 use Rattle.mt_answers.specs.declared.command.DumpCommand.{DumpCommand}
 use Rattle.mt_answers.specs.Answer.{Answer}
 use Rattle.mt_dump.specs.Dumps.{Dump}
-use Rattle.mt_dump.specs.Dump.{Shown, dump_offence}
+use Rattle.mt_dump.specs.Dump.{Shown}
+use Rattle.mt_dump.specs.Reader.{dump_offence}
 use Rattle.mt_dump.specs.declared.fault.DumpFault.{DumpFault}
 use Rattle.mt_output.specs.Lines.{bad_text_line}
 use Rattle.mt_output.specs.Written.{Writes}
