@@ -5,11 +5,13 @@ use Rattle.std.specs.Option.{option_map}
 use Rattle.mt_text.specs.Text.{end_of, lines_of, words_of}
 use Rattle.mt_text.specs.declared.place.Place.{Place}
 use Rattle.mt_dump.specs.Line.{Reading, said_of}
-use Rattle.mt_dump.specs.Dump.{ShownBy, offence_at_end, offence_of}
+use Rattle.mt_dump.specs.Dump.{ShownBy, offence_of}
 use Rattle.mt_dump.specs.Dumps.{Dump, IsDump}
 use Rattle.mt_dump.specs.ForProcessors.{has_each}
-use Rattle.mt_dump.specs.Reader.{IsClean, dump_in, onto}
+use Rattle.mt_dump.specs.Reader.{IsClean, dump_in, onto, read_from}
 use Rattle.mt_dump.specs.declared.fault.DumpFault.{DumpFault}
+use Rattle.mt_dump.proofs.Complete.{complete}
+use Rattle.mt_dump.proofs.Ends.{led_to}
 use Rattle.mt_dump.proofs.OneLine.{is_sane}
 use Rattle.mt_dump.proofs.Stands.{clean_is_dump, clean_shown, shown_once}
 use Rattle.mt_script.specs.Situation.{Situation, at_start}
@@ -19,17 +21,16 @@ use Rattle.mt_script.specs.Words.{place_of}
 use Rattle.mt_script.specs.Numbers.{fault_at}
 use Rattle.mt_script.specs.Commands.{command_of, end_fault}
 use Rattle.mt_script.specs.Accept.{Fits, accepted, finished}
-use Rattle.mt_script.specs.Head.{HeadStep, goes_on, head_step, is_end_command, offends, or_sections, sections_offence, shows, step_in_dump, step_of_answer, step_of_command, step_shown, step_unless}
+use Rattle.mt_script.specs.Head.{HeadStep, end_step, goes_on, head_step, is_end_command, offends, shows, step_in_dump, step_of_answer, step_of_command}
 use Rattle.mt_script.specs.Script.{at_end, offence_after, offence_in, script_offence}
 use Rattle.mt_script.specs.declared.command.Command.{Command}
 use Rattle.mt_script.specs.declared.command.Command.TheVariants as command
 use Rattle.mt_script.specs.declared.command.Stage.{Stage}
 use Rattle.mt_script.specs.declared.command.Stage.TheVariants.{Rams, Commands}
 use Rattle.mt_script.specs.declared.fault.ScriptFault.{ScriptFault}
-use Rattle.mt_script.specs.declared.fault.ScriptReason.TheVariants.{NoEnd}
+use Rattle.mt_script.specs.declared.fault.ScriptReason.TheVariants.{NoEnd, OutOfRange}
 use Rattle.mt_script.specs.declared.fault.Offence.{Offence}
 use Rattle.mt_script.specs.declared.fault.Offence.TheVariants as offence
-use Rattle.mt_script.proofs.Ends.{none_ends, shown_end}
 use Rattle.mt_script.proofs.Keeping.{accepted_is, start_is}
 use Rattle.mt_replay.specs.Heads.{HeadEnd, end_after, head_end, head_of, has_offence, shows_dump, stays_open}
 use Rattle.mt_replay.specs.Statuses.{ShowsAfter, ShowsAt, ShowsDump, ShowsIn}
@@ -62,24 +63,23 @@ module _ (number : ℕ) (line : List ℕ) (Later : Dump → Situation → List R
   Ended d = ShownBy (onto before []) d × (has_each now.cpus d ≡ true)
 
   -- the dump's end
-  counted : is_in_dump now.stage ≡ true → (dump : Dump) → dump_in before ≡ Some dump → (each : Bool) → has_each now.cpus dump ≡ each → LeadsTo now Ended Later (step_unless (sections_offence now.cpus place (Some dump)) (shows dump))
-  counted in_dump dump led true each = rw each (in_dump, (clean_shown before dump clean led, each), λ d shown. shown_once (onto before []) d dump shown.0 (clean_shown before dump clean led), clean_is_dump before dump clean led, each)
-  counted in_dump dump led false each = rw each (λ d shown. let same = shown_once (onto before []) d dump shown.0 (clean_shown before dump clean led) in absurd (cc (shown.1, each, same)))
+  counted : is_in_dump now.stage ≡ true → (dump : Dump) → dump_in before ≡ Some dump → (each : Bool) → has_each now.cpus dump ≡ each
+      → LeadsTo now Ended Later (if each then shows dump else offends (offence.Script (fault_at OutOfRange place)))
+  counted in_dump dump led true each = (in_dump, (clean_shown before dump clean led, each), λ d shown. shown_once (onto before []) d dump shown.0 (clean_shown before dump clean led), clean_is_dump before dump clean led, each)
+  counted in_dump dump led false each = λ d shown. let same = shown_once (onto before []) d dump shown.0 (clean_shown before dump clean led) in absurd (cc (shown.1, each, same))
 
-  ended : is_in_dump now.stage ≡ true → (found : Option Dump) → dump_in before ≡ found → (fault : Option DumpFault) → offence_at_end place (onto before []) ≡ fault
-      → LeadsTo now Ended Later (step_unless (or_sections fault (sections_offence now.cpus place found)) (step_shown now before found))
-  ended in_dump found led (Some fault) bad = λ d shown. let good = shown_end place (onto before []) d shown.0 in cc (bad, good)
-  ended in_dump None led None good = absurd (none_ends place before clean led good)
-  ended in_dump (Some dump) led None good = counted in_dump dump led (has_each now.cpus dump) refl
+  ended : is_in_dump now.stage ≡ true → (answer : Result Dump DumpFault) → read_from place before [] ≡ answer → LeadsTo now Ended Later (end_step now.cpus place answer)
+  ended in_dump (Err fault) bad = λ d shown. let good = complete place before [] d clean tt shown.0 in cc (bad, good)
+  ended in_dump (Ok dump) good = counted in_dump dump (led_to place before dump good) (has_each now.cpus dump) refl
 
   -- another line of the dump
   another : (fault : Option DumpFault) → offence_of before (said_of number line) ≡ fault
-      → LeadsTo now (λ d. (offence_of before (said_of number line) ≡ None) × Later d now (said_of number line ∷ before)) Later (step_unless (option_map offence.Dump fault) (goes_on now (said_of number line ∷ before)))
+      → LeadsTo now (λ d. (offence_of before (said_of number line) ≡ None) × Later d now (said_of number line ∷ before)) Later (option_map_or (λ fault. offends (offence.Dump fault)) fault (goes_on now (said_of number line ∷ before)))
   another (Some fault) bad = λ d shown. let good = shown.0 in cc (bad, good)
   another None good = (is, (is_sane number line, good, clean), refl, λ d. (λ shown. shown.1, λ later. (good, later)))
 
   in_dump : is_in_dump now.stage ≡ true → (ends : Bool) → LeadsTo now (λ d. ShowsAt d now before (said_of number line) (Later d) ends) Later (step_in_dump now before number line ends)
-  in_dump dump true = ended dump (dump_in before) refl (offence_at_end place (onto before [])) refl
+  in_dump dump true = ended dump (read_from place before []) refl
   in_dump dump false = another (offence_of before (said_of number line)) refl
 
   of_command : (c : Command) → Fits now c → (dump : Bool) → is_in_dump now.stage ≡ dump → LeadsTo now (λ d. ShowsAfter d now before (said_of number line) (Later d) c dump) Later (step_of_command now before number line c dump)

@@ -14,7 +14,7 @@ use Rattle.mt_script.specs.Rows.{is_word, row_of, stands}
 use Rattle.mt_script.specs.Stages.{takes_commands}
 use Rattle.mt_script.specs.Shape.{shape_fault}
 use Rattle.mt_script.specs.declared.command.Stage.{Stage}
-use Rattle.mt_script.specs.declared.command.Stage.TheVariants.{NeedCpus, NeedDump, InDump, Rams, Commands, InUpdate, InBegin}
+use Rattle.mt_script.specs.declared.command.Stage.TheVariants.{InDump, InUpdate, InBegin}
 use Rattle.mt_script.specs.declared.command.Command.{Command}
 use Rattle.mt_script.specs.declared.command.Command.TheVariants as command
 use Rattle.mt_script.specs.declared.row.Row.{Row}
