@@ -13,8 +13,8 @@ use Rattle.mt_text.specs.declared.place.Place.{Place}
 use Rattle.mt_script.specs.Situation.{Situation, file_of, most_processors}
 use Rattle.mt_script.specs.Words.{text_of, place_of}
 use Rattle.mt_script.specs.Numbers.{fault_at, tested, limited, with, any, count_in, processor_in, value_in, aligned_in, physical_in, register_in, base_in, has_room, is_register, is_writable, address_limit}
-use Rattle.mt_script.specs.Rows.{is_word, row_of, stands}
-use Rattle.mt_script.specs.Stages.{takes_cpus, takes_windows, takes_commands, takes_registers, takes_end, is_in_dump}
+use Rattle.mt_script.specs.Rows.{is_word, row_of}
+use Rattle.mt_script.specs.Stages.{stands, takes_cpus, takes_windows, takes_commands, takes_registers, takes_end, is_in_dump}
 use Rattle.mt_script.specs.Shape.{shape_fault}
 use Rattle.mt_script.specs.Commands.{Answer, cpus_in, ram_in, load_in, store_in, map_in, invlpg_in, msr_in, switch_in, verb_answer, row_line, outside, register_line, is_end, in_section, in_dump, not_too_long, in_stage, command_of}
 use Rattle.mt_script.specs.Accept.{Fits, IsAligned, IsFor}

@@ -11,8 +11,8 @@ use Rattle.mt_text.specs.declared.place.Place.{Place}
 use Rattle.mt_script.specs.Situation.{Situation, file_of}
 use Rattle.mt_script.specs.Words.{text_of, place_of}
 use Rattle.mt_script.specs.Numbers.{fault_at, any, with, count_in, processor_in, value_in, virtual_in, physical_in, register_in, base_in, has_room, is_writable}
-use Rattle.mt_script.specs.Rows.{is_word, row_of, stands}
-use Rattle.mt_script.specs.Stages.{takes_commands}
+use Rattle.mt_script.specs.Rows.{is_word, row_of}
+use Rattle.mt_script.specs.Stages.{stands, takes_commands}
 use Rattle.mt_script.specs.Shape.{shape_fault}
 use Rattle.mt_script.specs.declared.command.Stage.{Stage}
 use Rattle.mt_script.specs.declared.command.Stage.TheVariants.{InDump, InUpdate, InBegin}

@@ -1,28 +1,34 @@
 -- What may stand in each stage of a script (own).
 use Rattle.std.specs.Prelude.{ℕ, ◌≡◌, ◌≤◌, Bool, true, false}
+use Rattle.mt_script.specs.declared.row.Turn.{Turn}
+use Rattle.mt_script.specs.declared.row.Turn.TheVariants as turn
 use Rattle.mt_script.specs.declared.command.Stage.{Stage}
 use Rattle.mt_script.specs.declared.command.Stage.TheVariants.{NeedCpus, NeedDump, InDump, Rams, Commands, InUpdate, InBegin}
 
+-- lines of this turn may be given
+abbrev pub stands : Turn → Stage → Bool
+stands turn.Cpus NeedCpus = true
+stands turn.Dump NeedDump = true
+stands turn.Windows Rams = true
+stands turn.Commands Rams = true
+stands turn.Commands Commands = true
+stands other stage = false
+
 -- the number of processors may be told
 abbrev pub takes_cpus : Stage → Bool
-takes_cpus NeedCpus = true
-takes_cpus other = false
+takes_cpus stage = stands turn.Cpus stage
 
 -- the dump may begin
 abbrev pub takes_dump : Stage → Bool
-takes_dump NeedDump = true
-takes_dump other = false
+takes_dump stage = stands turn.Dump stage
 
 -- windows may be added
 abbrev pub takes_windows : Stage → Bool
-takes_windows Rams = true
-takes_windows other = false
+takes_windows stage = stands turn.Windows stage
 
 -- commands may be given; a script may end
 abbrev pub takes_commands : Stage → Bool
-takes_commands Rams = true
-takes_commands Commands = true
-takes_commands other = false
+takes_commands stage = stands turn.Commands stage
 
 -- lines of the dump are read
 abbrev pub is_in_dump : Stage → Bool
