@@ -1,7 +1,7 @@
 -- What the lines of a script come to up to its dump's end: an offence, or the one dump that they show, and where its lines end.
 use Rattle.std.proofs.Common.{◌≡◌, ◌∙◌, ap, sym, refl, subst, arith, ℕ, ◌+◌, length, Bool, true, false, List, [], ◌∷◌, ◌++◌, Option, None, Some, Result, Ok, Err, if◌then◌else◌}
 use Rattle.std.specs.Prelude.{◌↔◌, is_some}
-use Rattle.std.specs.Option.{option_map}
+use Rattle.std.specs.Option.{option_map, option_map_or}
 use Rattle.mt_text.specs.Text.{end_of, lines_of, words_of}
 use Rattle.mt_text.specs.declared.place.Place.{Place}
 use Rattle.mt_dump.specs.Line.{Reading, said_of}
@@ -22,7 +22,7 @@ use Rattle.mt_script.specs.Numbers.{fault_at}
 use Rattle.mt_script.specs.Commands.{command_of, end_fault}
 use Rattle.mt_script.specs.Accept.{Fits, accepted, finished}
 use Rattle.mt_script.specs.Head.{HeadStep, end_step, goes_on, head_step, is_end_command, offends, shows, step_in_dump, step_of_answer, step_of_command}
-use Rattle.mt_script.specs.Script.{at_end, offence_after, offence_in, script_offence}
+use Rattle.mt_script.specs.Script.{offence_after, offence_in, script_offence}
 use Rattle.mt_script.specs.declared.command.Command.{Command}
 use Rattle.mt_script.specs.declared.command.Command.TheVariants as command
 use Rattle.mt_script.specs.declared.command.Stage.{Stage}
@@ -159,7 +159,7 @@ AllCome end number lines =
     → Comes end number lines (offence_in end number lines now before) (λ d. ShowsIn d number lines now before) (head_end number lines now before)
 
 lines_end : (end : Place) (number : ℕ) (now : Situation) (before : List Reading) → IsSituation now → now.dump ≡ None → (takes : Bool) → takes_commands now.stage ≡ takes
-    → ((if takes then None else Some (fault_at NoEnd end)) ≡ Some (fault_at NoEnd end)) × (at_end (if takes then None else Some (fault_at NoEnd end)) ≡ Some (offence.Script (fault_at NoEnd end))) × ((d : Dump) → ⊥ → ⊥)
+    → ((if takes then None else Some (fault_at NoEnd end)) ≡ Some (fault_at NoEnd end)) × (option_map offence.Script (if takes then None else Some (fault_at NoEnd end)) ≡ Some (offence.Script (fault_at NoEnd end))) × ((d : Dump) → ⊥ → ⊥)
 lines_end end number now before is fresh true takes =
     let past : is_some now.dump ≡ true = is.has_dump ∙ past_dump now.stage takes in
     absurd (let some : false ≡ true = sym (ap is_some fresh) ∙ past in cc some)

@@ -28,10 +28,10 @@ abbrev pub any : Place → Result ℕ NumberFault → Result ℕ ScriptFault
 any place (Err fault) = Err (fault_at BadNumber place)
 any place (Ok number) = Ok number
 
--- what a good number leads to
-abbrev pub with : {T : Type 0} → Result ℕ ScriptFault → (ℕ → Result T ScriptFault) → Result T ScriptFault
+-- what a good value leads to
+abbrev pub with : {T U E : Type 0} → Result T E → (T → Result U E) → Result U E
 with (Err fault) next = Err fault
-with (Ok number) next = next number
+with (Ok value) next = next value
 
 -- a number that passes a test, at the place of its word
 abbrev pub tested : ScriptReason → Place → (ℕ → Bool) → ℕ → Result ℕ ScriptFault

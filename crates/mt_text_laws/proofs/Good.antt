@@ -1,7 +1,7 @@
 -- A script has no offence exactly where each line is accepted in its turn and the end is good.
 use Rattle.std.proofs.Common.{◌≡◌, ◌+◌, ℕ, Bool, true, false, List, [], ◌∷◌, Option, None, Some, Result, refl}
 use Rattle.std.specs.Prelude.{Ok, Err, ◌↔◌, if◌then◌else◌}
-use Rattle.std.specs.Option.{option_map_or}
+use Rattle.std.specs.Option.{option_map, option_map_or}
 use Rattle.mt_text.specs.Text.{lines_of, words_of, end_of}
 use Rattle.mt_text.specs.declared.place.Place.{Place}
 use Rattle.mt_dump.specs.Dumps.{Dump}
@@ -20,7 +20,7 @@ use Rattle.mt_script.specs.Numbers.{fault_at}
 use Rattle.mt_script.specs.Commands.{command_of}
 use Rattle.mt_script.specs.Accept.{accepted, finished}
 use Rattle.mt_script.specs.Head.{goes_on, shows, offends, end_step, step_in_dump, is_end_command, step_of_command, step_of_answer}
-use Rattle.mt_script.specs.Script.{Rest, offence_after, at_end, offence_in, script_offence, GoesOn, Follows, AreGood, IsGoodScript}
+use Rattle.mt_script.specs.Script.{Rest, offence_after, offence_in, script_offence, GoesOn, Follows, AreGood, IsGoodScript}
 use Rattle.mt_script.specs.declared.command.Command.{Command}
 use Rattle.mt_script.specs.declared.fault.ScriptFault.{ScriptFault}
 use Rattle.mt_script.specs.declared.fault.ScriptReason.TheVariants.{NoEnd, OutOfRange}
@@ -61,7 +61,7 @@ module _ (rest : Rest) (Good : Situation → List Reading → Type 0) (later : (
   step_good (Err fault) is none = absurd (cc none)
   step_good (Ok c) is none = (c, is, command_good c (is_in_dump now.stage) none)
 
-good_end : (place : Place) (takes : Bool) → at_end (if takes then None else Some (fault_at NoEnd place)) ≡ None → takes ≡ true
+good_end : (place : Place) (takes : Bool) → option_map offence.Script (if takes then None else Some (fault_at NoEnd place)) ≡ None → takes ≡ true
 good_end place true none = refl
 good_end place false none = absurd (cc none)
 
