@@ -33,7 +33,7 @@ use Rattle.mt_script.specs.declared.fault.Offence.{Offence}
 use Rattle.mt_script.specs.declared.fault.Offence.TheVariants as offence
 use Rattle.mt_script.proofs.Keeping.{accepted_is, start_is}
 use Rattle.mt_replay.specs.Heads.{HeadEnd, end_after, head_end, head_of, has_offence, shows_dump, stays_open}
-use Rattle.mt_replay.specs.Statuses.{ShowsAfter, ShowsAt, ShowsDump, ShowsIn}
+use Rattle.mt_replay.specs.Statuses.{ShowsAfter, ShowsAt, ShowsDump, ShowsIn, head_line}
 use Rattle.mt_replay.proofs.Keeping.States.{command_known}
 
 -- only the dump's end gives a situation its dump
@@ -78,28 +78,28 @@ module _ (number : ℕ) (line : List ℕ) (Later : Dump → Situation → List R
   another (Some fault) bad = λ d shown. let good = shown.0 in cc (bad, good)
   another None good = (is, (is_sane number line, good, clean), refl, λ d. (λ shown. shown.1, λ later. (good, later)))
 
-  in_dump : is_in_dump now.stage ≡ true → (ends : Bool) → LeadsTo now (λ d. ShowsAt d now before (said_of number line) (Later d) ends) Later (step_in_dump now before number line ends)
+  in_dump : is_in_dump now.stage ≡ true → (ends : Bool) → LeadsTo now (λ d. ShowsAt d (head_line now before (said_of number line)) (Later d) ends) Later (step_in_dump now before number line ends)
   in_dump dump true = ended dump (read_from place before []) refl
   in_dump dump false = another (offence_of before (said_of number line)) refl
 
-  of_command : (c : Command) → Fits now c → (dump : Bool) → is_in_dump now.stage ≡ dump → LeadsTo now (λ d. ShowsAfter d now before (said_of number line) (Later d) c dump) Later (step_of_command now before number line c dump)
+  of_command : (c : Command) → Fits now c → (dump : Bool) → is_in_dump now.stage ≡ dump → LeadsTo now (λ d. ShowsAfter d (head_line now before (said_of number line)) (Later d) c dump) Later (step_of_command now before number line c dump)
   of_command c fits true dump = in_dump dump (is_end_command c)
   of_command c fits false dump =
       (accepted_is now is c fits (λ in_dump. absurd (let e = sym dump ∙ in_dump in cc e)), clean, dump_after now c, λ d. (λ shown. shown, λ shown. shown))
 
   abbrev Asked : Dump → Type 0
-  Asked d = (c : Command) × (command_of now number line ≡ Ok c) × ShowsAfter d now before (said_of number line) (Later d) c (is_in_dump now.stage)
+  Asked d = (c : Command) × (command_of now number line ≡ Ok c) × ShowsAfter d (head_line now before (said_of number line)) (Later d) c (is_in_dump now.stage)
 
   of_answer : (answer : Result Command ScriptFault) → command_of now number line ≡ answer → LeadsTo now Asked Later (step_of_answer now before number line answer)
   of_answer (Err fault) asked = λ d shown. let good = shown.1 in cc (asked, good)
   of_answer (Ok c) asked =
-      same_shown now (λ d. ShowsAfter d now before (said_of number line) (Later d) c (is_in_dump now.stage)) Asked Later (step_of_answer now before number line (Ok c))
+      same_shown now (λ d. ShowsAfter d (head_line now before (said_of number line)) (Later d) c (is_in_dump now.stage)) Asked Later (step_of_answer now before number line (Ok c))
       (λ d. (
         λ shown. (c, asked, shown),
         λ shown.
             let both : Ok c ≡ Ok shown.0 = sym asked ∙ shown.1 in
             let same : shown.0 ≡ c = cc both in
-            subst (λ (x : Command). ShowsAfter d now before (said_of number line) (Later d) x (is_in_dump now.stage)) same shown.2,
+            subst (λ (x : Command). ShowsAfter d (head_line now before (said_of number line)) (Later d) x (is_in_dump now.stage)) same shown.2,
       ))
       (of_command c (command_known now number line c asked) (is_in_dump now.stage) refl)
 

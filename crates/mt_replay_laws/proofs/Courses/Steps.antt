@@ -163,7 +163,7 @@ transcript_is_of_the_course text some = one (beginning text) (whole text) some
         ∙ ap (λ (o : Option Offence). behind accepted_line (behind (joined (steps_in b.number b.lines b.state)) (ending o))) (sym h.follows)
 
 pub replays_are_of_the_course : ReplaysAreOfTheCourse
-replays_are_of_the_course text left before after status some h = subst (λ (t : Told). ReplaysAs t text left before after status) (transcript_is_of_the_course text some) h
+replays_are_of_the_course source sink status some h = subst (λ (t : Told). ReplaysAs t source sink status) (transcript_is_of_the_course source.bytes some) h
 
 pub transcript_is_one_line : TranscriptIsOneLine
 transcript_is_one_line text none = subst (Leads (end_of text) (script_offence text) (transcript text)) none (whole text)
