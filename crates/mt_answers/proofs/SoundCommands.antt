@@ -1,22 +1,25 @@
 -- A page's address that a command line names has 52 bits, and its index is one of eight.
 use Rattle.std.proofs.Common.{◌≡◌, ℕ, ◌-◌, ◌^◌, ◌<◌, ◌≤◌, Bool, true, false, List, [], ◌∷◌, Option, Some, None, ap, refl, arith}
 use Rattle.std.specs.Prelude.{◌&&◌, nat_le, nat_lt, codes, if◌then◌else◌, IfSome, Result, Ok, Err}
+use Rattle.std.specs.Option.{option_and_then, option_map}
+use Rattle.std.specs.Result.{result_ok}
 use Rattle.std.proofs.lemmas.Bool.{and_parts, leb-true, ltb-true}
 use Rattle.mt_text.specs.Number.{decimal_number, hex_number}
 use Rattle.mt_text.specs.declared.fault.NumberFault.{NumberFault}
 use Rattle.mt_dump.proofs.OneLine.{decimal_within}
+use Rattle.mt_gran.specs.Sizes.{log_among}
 use Rattle.mt_gran.proofs.GranuleSizes.{size_is}
 use Rattle.mt_answers.specs.declared.command.Command.{Command}
 use Rattle.mt_answers.specs.declared.command.Command.TheVariants.{Serial, Threaded}
 use Rattle.mt_answers.specs.declared.command.SerialCommand.{SerialCommand}
-use Rattle.mt_answers.specs.declared.command.SerialCommand.TheVariants.{Dump, Help, Version}
+use Rattle.mt_answers.specs.declared.command.SerialCommand.TheVariants.{Dump, Make, Help, Version}
 use Rattle.mt_answers.specs.declared.command.ThreadedCommand.{ThreadedCommand}
-use Rattle.mt_answers.specs.declared.command.ThreadedCommand.TheVariants.{Replay, Proc, Private}
+use Rattle.mt_answers.specs.declared.command.ThreadedCommand.TheVariants.{Replay, Proc, Big, Private}
 use Rattle.mt_answers.specs.declared.command.DumpCommand.{DumpCommand}
 use Rattle.mt_answers.specs.declared.command.DumpCommand.TheVariants.{Check, Show, Types, Page, Tidy, Gran}
 use Rattle.mt_answers.specs.declared.command.TidyOption.{TidyOption}
 use Rattle.mt_answers.specs.declared.command.TidyOption.TheVariants.{Spare, Chunk}
-use Rattle.mt_answers.specs.CommandLine.{IsSound, IsSoundSerial, IsSoundThreaded, command_of, command_of_one, command_of_three, threaded_of, gran_as, gran_with, big_with, index_of, is_text, log_of, greatest, make_with, most_accesses, of_dump, option_of, page_at, private_with, proc_with, tidy_with, tidy_with_both, usual_chunk, usual_spare}
+use Rattle.mt_answers.specs.CommandLine.{IsSound, IsSoundSerial, IsSoundThreaded, command_of, command_of_one, command_of_three, threaded_of, gran_as, gran_with, index_of, is_text, log_of, most_accesses, number_of, of_dump, option_of, page_at, private_with, proc_with, tidy_with, tidy_with_both, usual_chunk, usual_spare}
 
 -- what a command asks is within its limits
 abbrev IsSoundCommand : Command → Type 0
@@ -79,26 +82,26 @@ sound_as (Some log) (Some (Page address index)) small = tt
 sound_as (Some log) (Some (Tidy spare chunk)) small = small log refl
 sound_as (Some log) (Some (Gran other spare chunk)) small = tt
 
-small_log : (size : Result ℕ NumberFault) (g : ℕ) → log_of size ≡ Some g → g ≤ 28
+small_log : (size : Result ℕ NumberFault) (g : ℕ) → option_and_then (λ n. log_among n 0 29) (result_ok size) ≡ Some g → g ≤ 28
 small_log (Ok size) g is = ((size_is size g).0 is).0
 small_log (Err fault) g is = absurd (cc is)
 
 sound_gran : (size : List ℕ) (command : Option DumpCommand) → IfSome (gran_with size command) IsSound
-sound_gran size command = sound_as (log_of (hex_number size)) command (small_log (hex_number size))
+sound_gran size command = sound_as (log_of size) command (small_log (hex_number size))
 
-sound_make : (number : Result ℕ NumberFault) → IfSome (make_with number) IsSoundCommand
-sound_make (Ok n) = tt
-sound_make (Err fault) = tt
+sound_make : (number : Option ℕ) → IfSome (option_map (λ n. Serial (Make n)) number) IsSoundCommand
+sound_make None = tt
+sound_make (Some n) = tt
 
-sound_big : (number : Result ℕ NumberFault) → IfSome (big_with number) IsSoundCommand
-sound_big (Ok n) = tt
-sound_big (Err fault) = tt
+sound_big : (number : Option ℕ) → IfSome (option_map (λ n. Threaded (Big n)) number) IsSoundCommand
+sound_big None = tt
+sound_big (Some n) = tt
 
-sound_private : (cpus number accesses : Result ℕ NumberFault) → IfSome (private_with cpus number accesses) IsSoundCommand
-sound_private (Err fault) number accesses = tt
-sound_private (Ok cpus) (Err fault) accesses = tt
-sound_private (Ok cpus) (Ok n) (Err fault) = tt
-sound_private (Ok cpus) (Ok n) (Ok accesses) = by_count (nat_le 1 cpus && nat_le cpus 16) refl
+sound_private : (cpus number accesses : Option ℕ) → IfSome (private_with cpus number accesses) IsSoundCommand
+sound_private None number accesses = tt
+sound_private (Some cpus) None accesses = tt
+sound_private (Some cpus) (Some n) None = tt
+sound_private (Some cpus) (Some n) (Some accesses) = by_count (nat_le 1 cpus && nat_le cpus 16) refl
   where
     by_count : (b : Bool) → (nat_le 1 cpus && nat_le cpus 16) ≡ b → IfSome (if b then Some (Threaded (Private cpus n accesses)) else None) IsSoundCommand
     by_count true test = let parts = and_parts _ _ test in (leb-true _ _ parts.0, leb-true _ _ parts.1)
@@ -128,12 +131,12 @@ sound [] = tt
 sound (name ∷ []) = sound_one name
 sound (name ∷ option ∷ []) =
     choice (is_text name (codes "tidy")) _ _ (on_dump _ (sound_with (option_of option)))
-    (choice (is_text name (codes "gran")) _ _ (on_dump _ (sound_gran option (Some (Tidy usual_spare usual_chunk)))) (choice (is_text name (codes "make")) _ _ (sound_make (decimal_number option greatest))
-    (choice (is_text name (codes "big")) _ _ (sound_big (decimal_number option greatest)) (choice (is_text name (codes "proc")) _ None (sound_proc (decimal_number option 16) (decimal_within option 16)) tt))))
+    (choice (is_text name (codes "gran")) _ _ (on_dump _ (sound_gran option (Some (Tidy usual_spare usual_chunk)))) (choice (is_text name (codes "make")) _ _ (sound_make (number_of option))
+    (choice (is_text name (codes "big")) _ _ (sound_big (number_of option)) (choice (is_text name (codes "proc")) _ None (sound_proc (decimal_number option 16) (decimal_within option 16)) tt))))
 sound (name ∷ first ∷ second ∷ []) = sound_three name first second
 sound (name ∷ first ∷ second ∷ third ∷ []) =
     choice (is_text name (codes "gran")) _ _ (on_dump _ (sound_gran first (tidy_with_both (option_of second) (option_of third))))
-    (choice (is_text name (codes "private")) _ None (sound_private (decimal_number first greatest) (decimal_number second greatest) (decimal_number third most_accesses)) tt)
+    (choice (is_text name (codes "private")) _ None (sound_private (number_of first) (number_of second) (result_ok (decimal_number third most_accesses))) tt)
 sound (name ∷ first ∷ second ∷ third ∷ fourth ∷ more) = tt
 
 pub sound_serial : (words : List (List ℕ)) (command : SerialCommand) → command_of words ≡ Some (Serial command) → IsSoundSerial command

@@ -2,6 +2,8 @@
 --     command_of words      the command of these words, the program's name left out
 use Rattle.std.specs.Prelude.{ℕ, ◌-◌, ◌^◌, ◌≤◌, ◌<◌, ◌&&◌, nat_eq, nat_le, nat_lt, Bool, true, false, List, [], ◌∷◌, length, drop, take, codes, if◌then◌else◌, Option, Some, None, Result, Ok, Err, ⊤}
 use Rattle.std.specs.Cmp.Lexicographic.{pointwise}
+use Rattle.std.specs.Option.{option_and_then, option_map, option_map_or}
+use Rattle.std.specs.Result.{result_ok}
 use Rattle.mt_gran.specs.Sizes.{log_among}
 use Rattle.mt_text.specs.Number.{hex_number, decimal_number}
 use Rattle.mt_text.specs.declared.fault.NumberFault.{NumberFault}
@@ -27,8 +29,7 @@ abbrev pub usual_chunk : ℕ
 usual_chunk = 0x10000000
 
 abbrev pub of_dump : Option DumpCommand → Option Command
-of_dump (Some command) = Some (Serial (Dump command))
-of_dump None = None
+of_dump command = option_map (λ c. Serial (Dump c)) command
 
 abbrev pub command_of_one : List ℕ → Option Command
 command_of_one name =
@@ -45,25 +46,11 @@ command_of_one name =
 abbrev pub behind : List ℕ → List ℕ → Option (List ℕ)
 behind text word = if is_text (take (length text) word) text then Some (drop (length text) word) else None
 
-abbrev pub spare_option : Result ℕ NumberFault → Option TidyOption
-spare_option (Ok spare) = Some (Spare spare)
-spare_option (Err fault) = None
-
-abbrev pub chunk_option : Result ℕ NumberFault → Option TidyOption
-chunk_option (Ok chunk) = Some (Chunk chunk)
-chunk_option (Err fault) = None
-
-abbrev pub chunk_behind : Option (List ℕ) → Option TidyOption
-chunk_behind (Some digits) = chunk_option (hex_number digits)
-chunk_behind None = None
-
 -- `spare=` with a decimal number of 0 to 32, or `chunk=` with a hexadecimal number
-abbrev pub spare_behind : Option (List ℕ) → List ℕ → Option TidyOption
-spare_behind (Some digits) word = spare_option (decimal_number digits 32)
-spare_behind None word = chunk_behind (behind (codes "chunk=") word)
-
 abbrev pub option_of : List ℕ → Option TidyOption
-option_of word = spare_behind (behind (codes "spare=") word) word
+option_of word =
+    option_map_or (λ digits. option_map (λ n. Spare n) (result_ok (decimal_number digits 32))) (behind (codes "spare=") word)
+    (option_and_then (λ digits. option_map (λ n. Chunk n) (result_ok (hex_number digits))) (behind (codes "chunk=") word))
 
 abbrev pub tidy_with : Option TidyOption → Option DumpCommand
 tidy_with (Some (Spare spare)) = Some (Tidy spare usual_chunk)
@@ -77,9 +64,8 @@ tidy_with_both (Some (Chunk chunk)) (Some (Spare spare)) = Some (Tidy spare chun
 tidy_with_both first second = None
 
 -- a power of two from 1000H to 10000000000H
-abbrev pub log_of : Result ℕ NumberFault → Option ℕ
-log_of (Ok size) = log_among size 0 29
-log_of (Err fault) = None
+abbrev pub log_of : List ℕ → Option ℕ
+log_of size = option_and_then (λ n. log_among n 0 29) (result_ok (hex_number size))
 
 -- `gran` has a size before the options of `tidy`
 abbrev pub gran_as : Option ℕ → Option DumpCommand → Option DumpCommand
@@ -87,27 +73,19 @@ gran_as (Some log) (Some (Tidy spare chunk)) = Some (Gran log spare chunk)
 gran_as log command = None
 
 abbrev pub gran_with : List ℕ → Option DumpCommand → Option DumpCommand
-gran_with size command = gran_as (log_of (hex_number size)) command
+gran_with size command = gran_as (log_of size) command
 
--- the greatest number of 64 bits
-abbrev pub greatest : ℕ
-greatest = 0xffffffffffffffff
+-- a decimal number of 64 bits
+abbrev pub number_of : List ℕ → Option ℕ
+number_of word = result_ok (decimal_number word 0xffffffffffffffff)
 
 -- how many accesses each processor of `private` makes before and after the update, at most
 abbrev pub most_accesses : ℕ
 most_accesses = 4096
 
-abbrev pub make_with : Result ℕ NumberFault → Option Command
-make_with (Ok n) = Some (Serial (Make n))
-make_with (Err fault) = None
-
-abbrev pub big_with : Result ℕ NumberFault → Option Command
-big_with (Ok n) = Some (Threaded (Big n))
-big_with (Err fault) = None
-
 -- of 1 to 16 processors, and at most 4,096 accesses before the update and as many after it
-abbrev pub private_with : Result ℕ NumberFault → Result ℕ NumberFault → Result ℕ NumberFault → Option Command
-private_with (Ok cpus) (Ok n) (Ok accesses) = if nat_le 1 cpus && nat_le cpus 16 then Some (Threaded (Private cpus n accesses)) else None
+abbrev pub private_with : Option ℕ → Option ℕ → Option ℕ → Option Command
+private_with (Some cpus) (Some n) (Some accesses) = if nat_le 1 cpus && nat_le cpus 16 then Some (Threaded (Private cpus n accesses)) else None
 private_with cpus n accesses = None
 
 -- one processor to 16
@@ -119,8 +97,8 @@ abbrev pub command_of_two : List ℕ → List ℕ → Option Command
 command_of_two name option =
     if is_text name (codes "tidy") then of_dump (tidy_with (option_of option))
     else if is_text name (codes "gran") then of_dump (gran_with option (Some (Tidy usual_spare usual_chunk)))
-    else if is_text name (codes "make") then make_with (decimal_number option greatest)
-    else if is_text name (codes "big") then big_with (decimal_number option greatest)
+    else if is_text name (codes "make") then option_map (λ n. Serial (Make n)) (number_of option)
+    else if is_text name (codes "big") then option_map (λ n. Threaded (Big n)) (number_of option)
     else if is_text name (codes "proc") then proc_with (decimal_number option 16)
     else None
 
@@ -144,7 +122,7 @@ command_of_three name first second =
 abbrev pub command_of_four : List ℕ → List ℕ → List ℕ → List ℕ → Option Command
 command_of_four name first second third =
     if is_text name (codes "gran") then of_dump (gran_with first (tidy_with_both (option_of second) (option_of third)))
-    else if is_text name (codes "private") then private_with (decimal_number first greatest) (decimal_number second greatest) (decimal_number third most_accesses)
+    else if is_text name (codes "private") then private_with (number_of first) (number_of second) (result_ok (decimal_number third most_accesses))
     else None
 
 abbrev pub command_of : List (List ℕ) → Option Command

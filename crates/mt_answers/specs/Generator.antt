@@ -16,22 +16,16 @@ drawn x count = x / 2 ^ 33 % count
 abbrev pub hexadecimal : ℕ → List ℕ
 hexadecimal n = digits 16 false n
 
--- An access draws a processor, a choice and a word. It loads the word, or stores the number that the last draw has left.
-abbrev pub load_line : ℕ → ℕ → List ℕ
-load_line cpu address = codes "load " ++ decimal cpu ++ codes " " ++ hexadecimal address ++ codes "\n"
-
-abbrev pub store_line : ℕ → ℕ → ℕ → List ℕ
-store_line cpu address value = codes "store " ++ decimal cpu ++ codes " " ++ hexadecimal address ++ codes " " ++ hexadecimal value ++ codes "\n"
-
 -- the number behind an access
 abbrev pub behind_access : ℕ → ℕ
 behind_access x = stepped (stepped (stepped x))
 
+-- An access draws a processor, a choice and a word. It loads the word, or stores the number that the last draw has left.
 abbrev pub access_line : ℕ → List ℕ
 access_line x =
     if nat_lt (drawn (stepped (stepped x)) 4) 2
-    then load_line (drawn (stepped x) 16) (8 * drawn (behind_access x) 32768)
-    else store_line (drawn (stepped x) 16) (8 * drawn (behind_access x) 32768) (behind_access x)
+    then codes "load " ++ decimal (drawn (stepped x) 16) ++ codes " " ++ hexadecimal (8 * drawn (behind_access x) 32768) ++ codes "\n"
+    else codes "store " ++ decimal (drawn (stepped x) 16) ++ codes " " ++ hexadecimal (8 * drawn (behind_access x) 32768) ++ codes " " ++ hexadecimal (behind_access x) ++ codes "\n"
 
 -- so many accesses from a number on, and the number behind them
 unfoldable pub accesses : ℕ → ℕ → List ℕ
@@ -60,14 +54,10 @@ rounds zero round x = []
 rounds (suc more) round x = round_text round x ++ rounds more (round + 1) (after_accesses 512 x)
 
 -- a page of a processor is mapped to the same address, every second one globally
-abbrev pub local_line : ℕ → ℕ → List ℕ
-local_line cpu address = codes "map " ++ decimal cpu ++ codes " " ++ hexadecimal address ++ codes " " ++ hexadecimal address ++ codes " 0\n"
-
-abbrev pub global_line : ℕ → ℕ → List ℕ
-global_line cpu address = codes "map " ++ decimal cpu ++ codes " " ++ hexadecimal address ++ codes " " ++ hexadecimal address ++ codes " 0 global\n"
-
 abbrev pub map_line : ℕ → ℕ → List ℕ
-map_line cpu page = if page % 2 == 0 then global_line cpu (page_bytes * page) else local_line cpu (page_bytes * page)
+map_line cpu page =
+    codes "map " ++ decimal cpu ++ codes " " ++ hexadecimal (page_bytes * page) ++ codes " " ++ hexadecimal (page_bytes * page)
+    ++ (if page % 2 == 0 then codes " 0 global\n" else codes " 0\n")
 
 -- so many pages from one on
 unfoldable pub maps : ℕ → ℕ → ℕ → List ℕ

@@ -6,9 +6,11 @@ use Rattle.mt_ports.specs.declared.status.Status.TheVariants.{Done, BadText, Rea
 use Rattle.mt_answers.specs.declared.command.DumpCommand.{DumpCommand}
 use Rattle.mt_answers.specs.Answer.{Answer}
 use Rattle.mt_dump.specs.Dumps.{Dump}
-use Rattle.mt_dump.specs.Dump.{Shown, dump_offence}
+use Rattle.mt_dump.specs.Dump.{Shown}
+use Rattle.mt_dump.specs.Reader.{dump_offence}
 use Rattle.mt_dump.specs.declared.fault.DumpFault.{DumpFault}
 use Rattle.mt_output.specs.Lines.{bad_text_line}
+use Rattle.mt_output.specs.Ports.{Held, Port}
 use Rattle.mt_output.specs.Written.{Writes}
 
 -- The sink took a text that numbers determine, or a front of it, or nothing for want of memory.
@@ -21,7 +23,7 @@ pub data Answers (answer : List ℕ → Status → Type 0) (old new : Option (Li
   no_memory : result ≡ NoMemory → new ≡ old → Answers answer old new result
 
 -- A command on a dump wrote the line of the first offence, an answer about the dump, or nothing where the input wasn't read to its end.
-pub data AnswersInput (bytes : List ℕ) (command : DumpCommand) (left old new : Option (List ℕ)) (result : Status) : Type 0 where
-  bad_input : (fault : DumpFault) → dump_offence bytes ≡ Some fault → left ≡ Some [] → Writes (bad_text_line fault) BadText old new result → AnswersInput bytes command left old new result
-  good_input : (dump : Dump) → Shown bytes dump → left ≡ Some [] → Answers (Answer dump command) old new result → AnswersInput bytes command left old new result
-  no_input : new ≡ old → (result ≡ ReadFault) ⊎ ((result ≡ TooLong) × (longest_input < length bytes)) → AnswersInput bytes command left old new result
+pub data AnswersInput (command : DumpCommand) (source : Held) (sink : Port) (result : Status) : Type 0 where
+  bad_input : (fault : DumpFault) → dump_offence source.bytes ≡ Some fault → source.left ≡ Some [] → Writes (bad_text_line fault) BadText sink.old sink.new result → AnswersInput command source sink result
+  good_input : (dump : Dump) → Shown source.bytes dump → source.left ≡ Some [] → Answers (Answer dump command) sink.old sink.new result → AnswersInput command source sink result
+  no_input : sink.new ≡ sink.old → (result ≡ ReadFault) ⊎ ((result ≡ TooLong) × (longest_input < length source.bytes)) → AnswersInput command source sink result

@@ -9,6 +9,7 @@ ghost use Rattle.mt_answers.specs.Answer.{Answer, FileAnswer, MayChoose};
 ghost use Rattle.mt_answers.specs.Generator.{make_text};
 ghost use Rattle.mt_answers.specs.declared.command.Command.TheVariants.{Serial};
 ghost use Rattle.mt_answers.specs.declared.command.SerialCommand.TheVariants.{Dump as OfDump};
+ghost use Rattle.mt_output.specs.Ports.{held, port};
 ghost use Rattle.mt_answers.specs.Written.{Answers, AnswersInput, Makes};
 ghost use Rattle.mt_regs.specs.Registers.{HasThreeDigits};
 
@@ -195,7 +196,7 @@ pub fn answer_input<S: Source, K: Sink>(
     sink: &mut K,
 ) -> Status
     requires sound { IsSound command }
-    ensures bytes { (bytes : List ℕ) → S.left source.old ≡ Some bytes → AnswersInput bytes command (S.left source.new) (K.taken sink.old) (K.taken sink.new) result }
+    ensures bytes { (bytes : List ℕ) → S.left source.old ≡ Some bytes → AnswersInput command (held bytes (S.left source.new)) (port K.taken sink.old sink.new) result }
     ensures usage { result ≢ Status.Usage }
     ensures few { result ≡ Status.TooFew → MayChoose command }
     ensures disabled { result ≡ Status.Disabled → MayChoose command }

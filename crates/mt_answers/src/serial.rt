@@ -1,6 +1,7 @@
 ghost use Rattle.std.specs.Prelude.{◌≡◌, ◌≢◌, ◌⊎◌, ◌↔◌, ℕ, List, Some, false, IfSome};
 ghost use Rattle.mt_ports.specs.Causes.{StatusHasCause};
 ghost use Rattle.mt_text.specs.Feed.{GaveTooMuch};
+ghost use Rattle.mt_output.specs.Ports.{held, port};
 ghost use Rattle.mt_output.specs.Written.{Writes};
 ghost use Rattle.mt_answers.specs.declared.command.Command.TheVariants.{Serial};
 ghost use Rattle.mt_answers.specs.declared.command.SerialCommand.TheVariants.{Dump};
@@ -38,7 +39,7 @@ pub fn run_serial<S: Source, K: Sink>(
     requires { IsSoundSerial command }
     // A command on a dump writes its answer about the bytes of the source.
     ensures bytes { (asked : AsksDump) (bytes : List ℕ) → command ≡ Dump asked → S.left source.old ≡ Some bytes →
-        AnswersInput bytes asked (S.left source.new) (K.taken sink.old) (K.taken sink.new) result }
+        AnswersInput asked (held bytes (S.left source.new)) (port K.taken sink.old sink.new) result }
 
     // Every other command writes its own text.
     ensures text { IfSome (own_text command) (λ text. Makes text (K.taken sink.old) (K.taken sink.new) result) }

@@ -1,6 +1,7 @@
 ghost use Rattle.std.specs.Prelude.{◌≡◌, ◌≤◌, ◌<◌, ◌+◌, ◌^◌, map, string_bytes, IfSome, MatchOption};
-ghost use Rattle.mt_text.specs.Number.{decimal_number, hex_number};
-ghost use Rattle.mt_answers.specs.CommandLine.{behind, greatest, command_of, command_of_four, command_of_one, command_of_three, command_of_two, gran_as, gran_with, big_with, index_of, log_of, make_with, most_accesses, of_dump, option_of, private_with, proc_with, tidy_with, tidy_with_both};
+ghost use Rattle.std.specs.Result.{result_ok};
+ghost use Rattle.mt_text.specs.Number.{decimal_number};
+ghost use Rattle.mt_answers.specs.CommandLine.{behind, command_of, command_of_four, command_of_one, command_of_three, command_of_two, gran_as, gran_with, index_of, log_of, most_accesses, number_of, of_dump, option_of, private_with, proc_with, tidy_with, tidy_with_both};
 
 use crate::{Command, DumpCommand, SerialCommand, ThreadedCommand, TidyOption};
 use mt_gran::granule_log;
@@ -112,7 +113,7 @@ fn tidy_with_both(first: Option<TidyOption>, second: Option<TidyOption>) -> Opti
 }
 
 fn log_of(size: &[u8]) -> Option<u8>
-    ensures { result ≡ log_of (hex_number size.now) }
+    ensures { result ≡ log_of size.now }
 {
     match hex64(size) {
         Ok(size) => granule_log(size),
@@ -138,30 +139,19 @@ fn gran_with(size: &[u8], command: Option<DumpCommand>) -> Option<DumpCommand>
     gran_as(log_of(size), command)
 }
 
-fn make_with(number: &[u8]) -> Option<Command>
-    ensures { result ≡ make_with (decimal_number number.now greatest) }
+// A decimal number of 64 bits.
+fn number_of(word: &[u8]) -> Option<u64>
+    ensures { result ≡ number_of word.now }
 {
-    match decimal(number, u64::MAX) {
-        Ok(n) => Some(Command::Serial(SerialCommand::Make(n))),
-        Err(_) => None,
-    }
-}
-
-fn big_with(number: &[u8]) -> Option<Command>
-    ensures { result ≡ big_with (decimal_number number.now greatest) }
-{
-    match decimal(number, u64::MAX) {
-        Ok(n) => Some(Command::Threaded(ThreadedCommand::Big(n))),
-        Err(_) => None,
-    }
+    decimal(word, u64::MAX).ok()
 }
 
 fn private_with(cpus: &[u8], number: &[u8], accesses: &[u8]) -> Option<Command>
-    ensures { result ≡ private_with (decimal_number cpus.now greatest) (decimal_number number.now greatest) (decimal_number accesses.now most_accesses) }
+    ensures { result ≡ private_with (number_of cpus.now) (number_of number.now) (result_ok (decimal_number accesses.now most_accesses)) }
 {
-    let (Ok(cpus), Ok(n), Ok(accesses)) = (
-        decimal(cpus, u64::MAX),
-        decimal(number, u64::MAX),
+    let (Some(cpus), Some(n), Ok(accesses)) = (
+        number_of(cpus),
+        number_of(number),
         decimal(accesses, MOST_ACCESSES),
     ) else {
         return None;
@@ -194,9 +184,15 @@ fn command_of_two(name: &[u8], option: &[u8]) -> Option<Command>
     } else if name == b"gran".as_slice() {
         of_dump(gran_with(option, Some(USUAL_TIDY)))
     } else if name == b"make".as_slice() {
-        make_with(option)
+        match number_of(option) {
+            Some(n) => Some(Command::Serial(SerialCommand::Make(n))),
+            None => None,
+        }
     } else if name == b"big".as_slice() {
-        big_with(option)
+        match number_of(option) {
+            Some(n) => Some(Command::Threaded(ThreadedCommand::Big(n))),
+            None => None,
+        }
     } else if name == b"proc".as_slice() {
         proc_with(option)
     } else {

@@ -6,8 +6,10 @@ use Rattle.mt_ports.specs.Puts.{AppendsFront}
 use Rattle.mt_ports.specs.declared.status.Status.{Status}
 use Rattle.mt_ports.specs.declared.status.Status.TheVariants.{Done, Refused, Usage, BadText, ReadFault, WriteFault, NoMemory, TooLong, TooFew, Disabled}
 use Rattle.mt_dump.specs.Dumps.{Dump as Shows}
-use Rattle.mt_dump.specs.Dump.{Shown, dump_offence}
+use Rattle.mt_dump.specs.Dump.{Shown}
+use Rattle.mt_dump.specs.Reader.{dump_offence}
 use Rattle.mt_dump.specs.declared.fault.DumpFault.{DumpFault}
+use Rattle.mt_output.specs.Ports.{change, held}
 use Rattle.mt_stream.specs.Runs.{Runs, TellsAll, TellsKnown}
 use Rattle.mt_stream.specs.Told as stream
 use Rattle.mt_stream.specs.Told.{Telling}
@@ -27,7 +29,7 @@ use Rattle.mt_answers.specs.CommandLine.{command_of, left_of, reads_input}
 use Rattle.mt_answers.specs.declared.command.Command.{Command}
 use Rattle.mt_answers.specs.Answer.{Answer}
 use Rattle.mt_cli.specs.Output.{Output, usage, bad_text, answered, replayed, printed, summed, measured, requested}
-use Rattle.mt_cli.specs.Tool.{Answered, CutShort, Finished, Leaves, Reads, FailedRead, Overran, Starved, Untouched}
+use Rattle.mt_cli.specs.Tool.{Answered, CutShort, Finished, Leaves, Reads, FailedRead, Overran, Starved, Untouched, took}
 use Rattle.mt_output.specs.Written.{Writes}
 use Rattle.mt_answers.specs.Written.{Answers, AnswersInput, Makes, writes, no_memory, bad_input, good_input, no_input}
 
@@ -54,13 +56,13 @@ final_of_proc cpus bytes = elim (one_of_three_of_proc cpus bytes) [
 ]
 
 finished_leaves : (words : List (List ℕ)) (bytes : List ℕ) (left : Option (List ℕ)) (before : List ℕ) (after : Option (List ℕ)) (status : Status)
-    → IsFinal status → Finished words bytes left before after status → Leaves words bytes left before after status
+    → IsFinal status → Finished words (held bytes left) (took before after) status → Leaves words (held bytes left) (took before after) status
 unfolding IsFinal
-finished_leaves words bytes left before after status (inl is) done = rw is (subst (λ (s : Status). Finished words bytes left before after s) is done)
-finished_leaves words bytes left before after status (inr (inl is)) done = rw is (subst (λ (s : Status). Finished words bytes left before after s) is done)
-finished_leaves words bytes left before after status (inr (inr (inl is))) done = rw is (subst (λ (s : Status). Finished words bytes left before after s) is done)
-finished_leaves words bytes left before after status (inr (inr (inr (inl is)))) done = rw is (subst (λ (s : Status). Finished words bytes left before after s) is done)
-finished_leaves words bytes left before after status (inr (inr (inr (inr is)))) done = rw is (subst (λ (s : Status). Finished words bytes left before after s) is done)
+finished_leaves words bytes left before after status (inl is) done = rw is (subst (λ (s : Status). Finished words (held bytes left) (took before after) s) is done)
+finished_leaves words bytes left before after status (inr (inl is)) done = rw is (subst (λ (s : Status). Finished words (held bytes left) (took before after) s) is done)
+finished_leaves words bytes left before after status (inr (inr (inl is))) done = rw is (subst (λ (s : Status). Finished words (held bytes left) (took before after) s) is done)
+finished_leaves words bytes left before after status (inr (inr (inr (inl is)))) done = rw is (subst (λ (s : Status). Finished words (held bytes left) (took before after) s) is done)
+finished_leaves words bytes left before after status (inr (inr (inr (inr is)))) done = rw is (subst (λ (s : Status). Finished words (held bytes left) (took before after) s) is done)
 
 -- what a command leaves of the input
 pub left_by : (words : List (List ℕ)) (bytes : List ℕ) (left : Option (List ℕ)) (command : Option Command) → command_of words ≡ command → left ≡ Some (left_of command bytes) → left ≡ Some (left_of (command_of words) bytes)
@@ -72,7 +74,7 @@ must_read words command says reads not = let e : true ≡ false = sym reads ∙ 
 
 -- a run that has written its whole output
 whole : (words : List (List ℕ)) (bytes text : List ℕ) (status : Status) (left : Option (List ℕ)) (before : List ℕ) (after : Option (List ℕ))
-    → Output words bytes text status → left ≡ Some (left_of (command_of words) bytes) → after ≡ Some (before ++ text) → Leaves words bytes left before after status
+    → Output words bytes text status → left ≡ Some (left_of (command_of words) bytes) → after ≡ Some (before ++ text) → Leaves words (held bytes left) (took before after) status
 whole words bytes text status left before after (usage other) = λ read taken. record { text = _; output = usage other; taken = taken; read = read }
 whole words bytes text status left before after (bad_text command fault says is) = λ read taken.
     record { text = _; output = bad_text command fault says is; taken = taken; read = read }
@@ -92,7 +94,7 @@ whole words bytes text status left before after (requested cpus says) = λ read 
 
 -- a run whose last write is done or has failed
 pub written_leaves : (words : List (List ℕ)) (bytes text : List ℕ) (status result : Status) (left : Option (List ℕ)) (before : List ℕ) (old new : Option (List ℕ))
-    → Output words bytes text status → left ≡ Some (left_of (command_of words) bytes) → old ≡ Some before → Writes text status old new result → Leaves words bytes left before new result
+    → Output words bytes text status → left ≡ Some (left_of (command_of words) bytes) → old ≡ Some before → Writes text status old new result → Leaves words (held bytes left) (took before new) result
 written_leaves words bytes text status result left before old new output read told (inl (is, takes)) =
     rw is (whole words bytes text status left before new output read (appended before text old new told takes))
 written_leaves words bytes text status result left before old new output read told (inr (is, cut)) =
@@ -100,23 +102,23 @@ written_leaves words bytes text status result left before old new output read to
 
 -- a run that has written an answer, a front of one, or nothing
 pub answers_leave : (words : List (List ℕ)) (bytes : List ℕ) (dump : Shows) (command : DumpCommand) (result : Status) (left : Option (List ℕ)) (before : List ℕ) (old new : Option (List ℕ))
-    → command_of words ≡ Some (Serial (Dump command)) → Shown bytes dump → left ≡ Some [] → old ≡ Some before → Answers (Answer dump command) old new result → Leaves words bytes left before new result
+    → command_of words ≡ Some (Serial (Dump command)) → Shown bytes dump → left ≡ Some [] → old ≡ Some before → Answers (Answer dump command) old new result → Leaves words (held bytes left) (took before new) result
 answers_leave words bytes dump command result left before old new says shows read told (writes text status answer wrote) =
     written_leaves words bytes text status result left before old new (answered command dump text status says shows answer) (left_by words bytes left (Some (Serial (Dump command))) says read) told wrote
 answers_leave words bytes dump command result left before old new says shows read told (no_memory is same) = rw is (inl (same ∙ told))
 
 -- what a failed read, or too long an input, leaves of the sink by the command
 read_failed : (words : List (List ℕ)) (command : Command) (bytes : List ℕ) (left : Option (List ℕ)) (before : List ℕ) (after : Option (List ℕ))
-    → command_of words ≡ Some command → FailedRead (Some command) bytes left before after → FailedRead (command_of words) bytes left before after
+    → command_of words ≡ Some command → FailedRead (Some command) (held bytes left) (took before after) → FailedRead (command_of words) (held bytes left) (took before after)
 read_failed words command bytes left before after says is = rw says is
 
 too_much : (words : List (List ℕ)) (command : Command) (bytes before : List ℕ) (after : Option (List ℕ))
-    → command_of words ≡ Some command → Overran (Some command) words bytes before after → Overran (command_of words) words bytes before after
-too_much words command bytes before after says is = subst (λ (o : Option Command). Overran o words bytes before after) (sym says) is
+    → command_of words ≡ Some command → Overran (Some command) words bytes (took before after) → Overran (command_of words) words bytes (took before after)
+too_much words command bytes before after says is = subst (λ (o : Option Command). Overran o words bytes (took before after)) (sym says) is
 
 -- a command on a dump
 pub input_leaves : (words : List (List ℕ)) (bytes : List ℕ) (command : DumpCommand) (result : Status) (left : Option (List ℕ)) (before : List ℕ) (old new : Option (List ℕ))
-    → command_of words ≡ Some (Serial (Dump command)) → old ≡ Some before → AnswersInput bytes command left old new result → Leaves words bytes left before new result
+    → command_of words ≡ Some (Serial (Dump command)) → old ≡ Some before → AnswersInput command (held bytes left) (change old new) result → Leaves words (held bytes left) (took before new) result
 input_leaves words bytes command result left before old new says told (bad_input fault is read wrote) = written_leaves words bytes _ BadText result left before old new (bad_text command fault says is) (left_by words bytes left (Some (Serial (Dump command))) says read) told wrote
 input_leaves words bytes command result left before old new says told (good_input dump is read answers) = answers_leave words bytes dump command result left before old new says is read told answers
 input_leaves words bytes command result left before old new says told (no_input same (inl failed)) = rw failed (read_failed words (Serial (Dump command)) bytes left before new says (same ∙ told))
@@ -124,7 +126,7 @@ input_leaves words bytes command result left before old new says told (no_input 
 
 -- a text that a number determines
 pub makes_leave : (words : List (List ℕ)) (bytes text : List ℕ) (command : Command) (result : Status) (left : Option (List ℕ)) (before : List ℕ) (old new : Option (List ℕ))
-    → command_of words ≡ Some command → Output words bytes text Done → left ≡ Some (left_of (Some command) bytes) → old ≡ Some before → Makes text old new result → Leaves words bytes left before new result
+    → command_of words ≡ Some command → Output words bytes text Done → left ≡ Some (left_of (Some command) bytes) → old ≡ Some before → Makes text old new result → Leaves words (held bytes left) (took before new) result
 makes_leave words bytes text command result left before old new says output read told (inl wrote) =
     written_leaves words bytes text Done result left before old new output (left_by words bytes left (Some command) says read) told wrote
 makes_leave words bytes text command result left before old new says output read told (inr (is, same)) = rw is (inl (same ∙ told))
@@ -136,12 +138,12 @@ record IsLineRun (words : List (List ℕ)) (bytes : List ℕ) (command : Command
   says : command_of words ≡ Some command
   output : Output words bytes (stream.transcript start bytes).text (stream.transcript start bytes).status
   read : (left : Option (List ℕ)) → left ≡ Some [] → left ≡ Some (left_of (command_of words) bytes)
-  known : (left : Option (List ℕ)) (before : List ℕ) (after : Option (List ℕ)) → TellsKnown start bytes left (Some before) after → FailedRead (Some command) bytes left before after
-  much : (before : List ℕ) (after : Option (List ℕ)) → CutShort words bytes before after → Overran (Some command) words bytes before after
-  starved : (before : List ℕ) (after : Option (List ℕ)) → AppendsFront (Some before) after early → CutShort words bytes before after → Starved words bytes before after
+  known : (left : Option (List ℕ)) (before : List ℕ) (after : Option (List ℕ)) → TellsKnown start (held bytes left) (change (Some before) after) → FailedRead (Some command) (held bytes left) (took before after)
+  much : (before : List ℕ) (after : Option (List ℕ)) → CutShort words bytes (took before after) → Overran (Some command) words bytes (took before after)
+  starved : (before : List ℕ) (after : Option (List ℕ)) → AppendsFront (Some before) after early → CutShort words bytes (took before after) → Starved words bytes (took before after)
 
 -- a front of nothing
-nothing_taken : (before : List ℕ) (new : Option (List ℕ)) → AppendsFront (Some before) new [] → Untouched before new
+nothing_taken : (before : List ℕ) (new : Option (List ℕ)) → AppendsFront (Some before) new [] → Untouched (took before new)
 nothing_taken before new ([], back, is, takes) = appended before [] (Some before) new refl takes ∙ ap Some (append-nil before)
 nothing_taken before new (byte ∷ front, back, is, takes) = absurd (cc is)
 
@@ -167,12 +169,12 @@ procs words bytes cpus says = record {
 
 module _ (words : List (List ℕ)) (bytes : List ℕ) (command : Command) (start : Telling) (early : List ℕ) (run : IsLineRun words bytes command start early) (left : Option (List ℕ)) where
   -- the sink took a front of the text
-  front_told : (before : List ℕ) (new : Option (List ℕ)) → AppendsFront (Some before) new (stream.transcript start bytes).text → CutShort words bytes before new
+  front_told : (before : List ℕ) (new : Option (List ℕ)) → AppendsFront (Some before) new (stream.transcript start bytes).text → CutShort words bytes (took before new)
   front_told before new cut =
       record { text = (stream.transcript start bytes).text; status = (stream.transcript start bytes).status; output = run.output; front = cut.0; back = cut.1; cut = cut.2; taken = appended before cut.0 (Some before) new refl cut.3 }
 
   -- or all of it
-  all_told : (before : List ℕ) (new : Option (List ℕ)) (result : Status) → TellsAll (stream.transcript start bytes) left (Some before) new result → Finished words bytes left before new result
+  all_told : (before : List ℕ) (new : Option (List ℕ)) (result : Status) → TellsAll (stream.transcript start bytes) (held bytes left) (change (Some before) new) result → Finished words (held bytes left) (took before new) result
   all_told before new result tells = record {
     text = (stream.transcript start bytes).text;
     output = subst (Output words bytes (stream.transcript start bytes).text) (sym tells.status_is) run.output;
@@ -180,7 +182,7 @@ module _ (words : List (List ℕ)) (bytes : List ℕ) (command : Command) (start
     read = run.read left tells.read;
   }
 
-  run_leaves : (before : List ℕ) (new : Option (List ℕ)) (result : Status) → Runs start early bytes left (Some before) new result → Leaves words bytes left before new result
+  run_leaves : (before : List ℕ) (new : Option (List ℕ)) (result : Status) → Runs start early (held bytes left) (change (Some before) new) result → Leaves words (held bytes left) (took before new) result
   run_leaves before new Done tells = all_told before new Done tells
   run_leaves before new Refused tells = all_told before new Refused tells
   run_leaves before new Usage tells = absurd tells
@@ -193,11 +195,11 @@ module _ (words : List (List ℕ)) (bytes : List ℕ) (command : Command) (start
   run_leaves before new Disabled tells = absurd tells
 
   -- what is said of the source alone
-  status_told : (old new : Option (List ℕ)) (result : Status) → TellsAll (stream.transcript start bytes) left old new result → Answered words bytes left result
+  status_told : (old new : Option (List ℕ)) (result : Status) → TellsAll (stream.transcript start bytes) (held bytes left) (change old new) result → Answered words (held bytes left) result
   status_told old new result tells =
       record { text = (stream.transcript start bytes).text; output = subst (Output words bytes (stream.transcript start bytes).text) (sym tells.status_is) run.output; read = run.read left tells.read }
 
-  run_reads : (old new : Option (List ℕ)) (result : Status) → Runs start early bytes left old new result → Reads words bytes left result
+  run_reads : (old new : Option (List ℕ)) (result : Status) → Runs start early (held bytes left) (change old new) result → Reads words (held bytes left) result
   run_reads old new Done tells = status_told old new Done tells
   run_reads old new Refused tells = status_told old new Refused tells
   run_reads old new Usage tells = absurd tells
@@ -210,33 +212,33 @@ module _ (words : List (List ℕ)) (bytes : List ℕ) (command : Command) (start
   run_reads old new Disabled tells = absurd tells
 
 pub replays_leave : (words : List (List ℕ)) (bytes : List ℕ) (result : Status) (left : Option (List ℕ)) (before : List ℕ) (new : Option (List ℕ))
-    → command_of words ≡ Some (Threaded Replay) → Replays bytes left (Some before) new result → Leaves words bytes left before new result
+    → command_of words ≡ Some (Threaded Replay) → Replays (held bytes left) (change (Some before) new) result → Leaves words (held bytes left) (took before new) result
 replays_leave words bytes result left before new says tells = run_leaves words bytes (Threaded Replay) replay_told (early_text bytes) (replays words bytes says) left before new result tells
 
 pub proc_leaves : (words : List (List ℕ)) (bytes : List ℕ) (cpus : ℕ) (result : Status) (left : Option (List ℕ)) (before : List ℕ) (new : Option (List ℕ))
-    → command_of words ≡ Some (Threaded (Proc cpus)) → Runs (proc_told cpus) [] bytes left (Some before) new result → Leaves words bytes left before new result
+    → command_of words ≡ Some (Threaded (Proc cpus)) → Runs (proc_told cpus) [] (held bytes left) (change (Some before) new) result → Leaves words (held bytes left) (took before new) result
 proc_leaves words bytes cpus result left before new says tells = run_leaves words bytes (Threaded (Proc cpus)) (proc_told cpus) [] (procs words bytes cpus says) left before new result tells
 
-pub replays_read : (words : List (List ℕ)) (bytes : List ℕ) (result : Status) (left old new : Option (List ℕ)) → command_of words ≡ Some (Threaded Replay) → Replays bytes left old new result → Reads words bytes left result
+pub replays_read : (words : List (List ℕ)) (bytes : List ℕ) (result : Status) (left old new : Option (List ℕ)) → command_of words ≡ Some (Threaded Replay) → Replays (held bytes left) (change old new) result → Reads words (held bytes left) result
 replays_read words bytes result left old new says tells = run_reads words bytes (Threaded Replay) replay_told (early_text bytes) (replays words bytes says) left old new result tells
 
 pub proc_reads : (words : List (List ℕ)) (bytes : List ℕ) (cpus : ℕ) (result : Status) (left old new : Option (List ℕ))
-    → command_of words ≡ Some (Threaded (Proc cpus)) → Runs (proc_told cpus) [] bytes left old new result → Reads words bytes left result
+    → command_of words ≡ Some (Threaded (Proc cpus)) → Runs (proc_told cpus) [] (held bytes left) (change old new) result → Reads words (held bytes left) result
 proc_reads words bytes cpus result left old new says tells = run_reads words bytes (Threaded (Proc cpus)) (proc_told cpus) [] (procs words bytes cpus says) left old new result tells
 
 -- ---- what is said of the source alone
 
-answered_reads : (words : List (List ℕ)) (bytes : List ℕ) (left : Option (List ℕ)) (status : Status) → IsFinal status → Answered words bytes left status → Reads words bytes left status
+answered_reads : (words : List (List ℕ)) (bytes : List ℕ) (left : Option (List ℕ)) (status : Status) → IsFinal status → Answered words (held bytes left) status → Reads words (held bytes left) status
 unfolding IsFinal
-answered_reads words bytes left status (inl is) told = rw is (subst (λ (s : Status). Answered words bytes left s) is told)
-answered_reads words bytes left status (inr (inl is)) told = rw is (subst (λ (s : Status). Answered words bytes left s) is told)
-answered_reads words bytes left status (inr (inr (inl is))) told = rw is (subst (λ (s : Status). Answered words bytes left s) is told)
-answered_reads words bytes left status (inr (inr (inr (inl is)))) told = rw is (subst (λ (s : Status). Answered words bytes left s) is told)
-answered_reads words bytes left status (inr (inr (inr (inr is)))) told = rw is (subst (λ (s : Status). Answered words bytes left s) is told)
+answered_reads words bytes left status (inl is) told = rw is (subst (λ (s : Status). Answered words (held bytes left) s) is told)
+answered_reads words bytes left status (inr (inl is)) told = rw is (subst (λ (s : Status). Answered words (held bytes left) s) is told)
+answered_reads words bytes left status (inr (inr (inl is))) told = rw is (subst (λ (s : Status). Answered words (held bytes left) s) is told)
+answered_reads words bytes left status (inr (inr (inr (inl is)))) told = rw is (subst (λ (s : Status). Answered words (held bytes left) s) is told)
+answered_reads words bytes left status (inr (inr (inr (inr is)))) told = rw is (subst (λ (s : Status). Answered words (held bytes left) s) is told)
 
 -- the status of an answer
 pub answers_read : (words : List (List ℕ)) (bytes : List ℕ) (dump : Shows) (command : DumpCommand) (result : Status) (left old new : Option (List ℕ))
-    → command_of words ≡ Some (Serial (Dump command)) → Shown bytes dump → left ≡ Some [] → Answers (Answer dump command) old new result → Reads words bytes left result
+    → command_of words ≡ Some (Serial (Dump command)) → Shown bytes dump → left ≡ Some [] → Answers (Answer dump command) old new result → Reads words (held bytes left) result
 answers_read words bytes dump command result left old new says shows read (writes text status answer (inl (is, takes))) =
     rw is (answered_reads words bytes left status (final dump command text status answer) (record { text = text; output = answered command dump text status says shows answer; read = left_by words bytes left (Some (Serial (Dump command))) says read }))
 answers_read words bytes dump command result left old new says shows read (writes text status answer (inr (is, cut))) = rw is tt
@@ -244,14 +246,14 @@ answers_read words bytes dump command result left old new says shows read (no_me
 
 -- the status of a dump that is no dump
 pub offence_reads : (words : List (List ℕ)) (bytes : List ℕ) (command : DumpCommand) (fault : DumpFault) (written : List ℕ) (result : Status) (left old new : Option (List ℕ))
-    → command_of words ≡ Some (Serial (Dump command)) → dump_offence bytes ≡ Some fault → left ≡ Some [] → Writes written BadText old new result → Reads words bytes left result
+    → command_of words ≡ Some (Serial (Dump command)) → dump_offence bytes ≡ Some fault → left ≡ Some [] → Writes written BadText old new result → Reads words (held bytes left) result
 offence_reads words bytes command fault written result left old new says is read (inl (done, takes)) =
     rw done (record { text = _; output = bad_text command fault says is; read = left_by words bytes left (Some (Serial (Dump command))) says read })
 offence_reads words bytes command fault written result left old new says is read (inr (failed, cut)) = rw failed tt
 
 -- the status of a command on a dump
 pub input_reads : (words : List (List ℕ)) (bytes : List ℕ) (command : DumpCommand) (result : Status) (left old new : Option (List ℕ))
-    → command_of words ≡ Some (Serial (Dump command)) → AnswersInput bytes command left old new result → Reads words bytes left result
+    → command_of words ≡ Some (Serial (Dump command)) → AnswersInput command (held bytes left) (change old new) result → Reads words (held bytes left) result
 input_reads words bytes command result left old new says (bad_input fault is read wrote) = offence_reads words bytes command fault _ result left old new says is read wrote
 input_reads words bytes command result left old new says (good_input dump is read answers) = answers_read words bytes dump command result left old new says is read answers
 input_reads words bytes command result left old new says (no_input same (inl failed)) = rw failed tt
@@ -259,7 +261,7 @@ input_reads words bytes command result left old new says (no_input same (inr lon
 
 -- its status
 pub makes_read : (words : List (List ℕ)) (bytes text : List ℕ) (command : Command) (result : Status) (left old new : Option (List ℕ))
-    → command_of words ≡ Some command → Output words bytes text Done → left ≡ Some (left_of (Some command) bytes) → Makes text old new result → Reads words bytes left result
+    → command_of words ≡ Some command → Output words bytes text Done → left ≡ Some (left_of (Some command) bytes) → Makes text old new result → Reads words (held bytes left) result
 makes_read words bytes text command result left old new says output read (inl (inl (is, takes))) = rw is (record { text = text; output = output; read = left_by words bytes left (Some command) says read })
 makes_read words bytes text command result left old new says output read (inl (inr (is, cut))) = rw is tt
 makes_read words bytes text command result left old new says output read (inr (is, same)) = rw is tt

@@ -6,6 +6,7 @@ use Rattle.mt_ports.specs.declared.status.Status.{Status}
 use Rattle.mt_ports.specs.declared.status.Status.TheVariants.{Done, Usage, ReadFault, WriteFault, NoMemory, TooLong, TooFew, Disabled}
 use Rattle.mt_text.specs.Feed.{GaveTooMuch}
 use Rattle.mt_output.specs.Written.{Writes}
+use Rattle.mt_output.specs.Ports.{change, held, port}
 use Rattle.mt_stream.specs.Runs.{Runs}
 use Rattle.mt_proc.specs.Proc.{proc_told}
 use Rattle.mt_proc.specs.Running.{OutOfMemory as ProcOutOfMemory}
@@ -23,7 +24,7 @@ use Rattle.mt_answers.specs.Lines.{usage_line}
 use Rattle.mt_cli.specs.Output.{Output, printed, usage}
 use Rattle.mt_cli.specs.Runs.{IsRun, IsToolRun, SinkRun, SourceRun, sink_run, source_run}
 use Rattle.mt_answers.specs.Statuses.{MayEnd}
-use Rattle.mt_cli.specs.Tool.{Leaves, OutOfMemory, Reads}
+use Rattle.mt_cli.specs.Tool.{Leaves, OutOfMemory, Reads, took}
 use Rattle.mt_answers.specs.Written.{AnswersInput, Makes}
 use Rattle.mt_cli.proofs.Leaving.{input_leaves, input_reads, left_by, makes_leave, makes_read, must_read, proc_leaves, proc_reads, replays_leave, replays_read, written_leaves}
 use Rattle.mt_answers.proofs.Endings.{makes_own, never_own, own_ends}
@@ -42,8 +43,8 @@ unended command other ends not = (λ e. cc e, λ e. cc e)
 
 unread_run : {S K : Type 0} (words : List (List ℕ)) (source : SourceRun S) (sink : SinkRun K) (result : Status)
     → reads_input (command_of words) ≡ false → source.new ≡ source.old
-    → ((bytes before : List ℕ) (left : Option (List ℕ)) → left ≡ Some bytes → sink.taken sink.old ≡ Some before → Leaves words bytes left before (sink.taken sink.new) result)
-    → ((bytes : List ℕ) (left : Option (List ℕ)) → left ≡ Some bytes → Reads words bytes left result)
+    → ((bytes before : List ℕ) (left : Option (List ℕ)) → left ≡ Some bytes → sink.taken sink.old ≡ Some before → Leaves words (held bytes left) (took before (sink.taken sink.new)) result)
+    → ((bytes : List ℕ) (left : Option (List ℕ)) → left ≡ Some bytes → Reads words (held bytes left) result)
     → MayEnd (command_of words) result → (result ≡ Usage → command_of words ≡ None) → StatusHasCause WriteFault (sink.faults sink.old) (sink.faults sink.new) result
     → IsRun words source sink result
 unread_run words source sink result not same leaves told ends is_usage cause = record {
@@ -62,7 +63,7 @@ unread_run words source sink result not same leaves told ends is_usage cause = r
 }
 
 -- wrong usage
-usage_reads : (words : List (List ℕ)) (bytes : List ℕ) (left : Option (List ℕ)) (result : Status) → left ≡ Some bytes → (result ≡ Usage) ⊎ (result ≡ WriteFault) → Reads words bytes left result
+usage_reads : (words : List (List ℕ)) (bytes : List ℕ) (left : Option (List ℕ)) (result : Status) → left ≡ Some bytes → (result ≡ Usage) ⊎ (result ≡ WriteFault) → Reads words (held bytes left) result
 usage_reads words bytes left result is (inl ends) = rw ends is
 usage_reads words bytes left result is (inr ends) = rw ends tt
 
@@ -88,7 +89,7 @@ all_left : (command : Command) (bytes : List ℕ) (left : Option (List ℕ)) →
 all_left command bytes left not is = is ∙ ap (λ (b : Bool). Some (if b then [] else bytes)) (sym not)
 
 -- its lines ask for nothing
-no_lines : (command : Command) (bytes : List ℕ) (left before after : Option (List ℕ)) → reads_input (Some command) ≡ false → OutOfMemory (Some command) bytes left before after
+no_lines : (command : Command) (bytes : List ℕ) (left before after : Option (List ℕ)) → reads_input (Some command) ≡ false → OutOfMemory (Some command) (held bytes left) (change before after)
 no_lines (Serial command) bytes left before after not = tt
 no_lines (Threaded Replay) bytes left before after not = absurd (cc not)
 no_lines (Threaded (Proc cpus)) bytes left before after not = absurd (cc not)
@@ -112,7 +113,7 @@ makes_ran words text command source sink result says not memory output same make
   no_command = λ none. absurd (is_command words command says none);
   no_memory = λ is. (command, says, memory is);
   memory = λ bytes is no.
-      subst (λ (o : Option Command). OutOfMemory o bytes (source.left source.new) (sink.taken sink.old) (sink.taken sink.new)) (sym says)
+      subst (λ (o : Option Command). OutOfMemory o (held bytes (source.left source.new)) (port sink.taken sink.old sink.new)) (sym says)
       (no_lines command bytes (source.left source.new) (sink.taken sink.old) (sink.taken sink.new) not);
 }
 
@@ -120,10 +121,10 @@ makes_ran words text command source sink result says not memory output same make
 
 reading_ran : {S K : Type 0} (words : List (List ℕ)) (command : Command) (source : SourceRun S) (sink : SinkRun K) (result : Status)
     → command_of words ≡ Some command → reads_input (Some command) ≡ true
-    → ((bytes before : List ℕ) → source.left source.old ≡ Some bytes → sink.taken sink.old ≡ Some before → Leaves words bytes (source.left source.new) before (sink.taken sink.new) result)
-    → ((bytes : List ℕ) → source.left source.old ≡ Some bytes → Reads words bytes (source.left source.new) result)
+    → ((bytes before : List ℕ) → source.left source.old ≡ Some bytes → sink.taken sink.old ≡ Some before → Leaves words (held bytes (source.left source.new)) (took before (sink.taken sink.new)) result)
+    → ((bytes : List ℕ) → source.left source.old ≡ Some bytes → Reads words (held bytes (source.left source.new)) result)
     → MayEnd (command_of words) result → result ≢ Usage → (result ≡ NoMemory → MayTakeMemory command)
-    → ((bytes : List ℕ) → source.left source.old ≡ Some bytes → result ≡ NoMemory → OutOfMemory (Some command) bytes (source.left source.new) (sink.taken sink.old) (sink.taken sink.new))
+    → ((bytes : List ℕ) → source.left source.old ≡ Some bytes → result ≡ NoMemory → OutOfMemory (Some command) (held bytes (source.left source.new)) (port sink.taken sink.old sink.new))
     → StatusHasCause ReadFault (source.faults source.old) (source.faults source.new) result
     → StatusHasCause WriteFault (sink.faults sink.old) (sink.faults sink.new) result
     → ((result ≡ TooLong) ↔ GaveTooMuch (source.given source.old) (source.given source.new))
@@ -143,13 +144,13 @@ reading_ran words command source sink result says reads leaves told ends never m
   no_command = λ none. absurd (is_command words command says none);
   no_memory = λ is. (command, says, memory is);
   memory = λ bytes is no.
-      subst (λ (o : Option Command). OutOfMemory o bytes (source.left source.new) (sink.taken sink.old) (sink.taken sink.new)) (sym says) (refused bytes is no);
+      subst (λ (o : Option Command). OutOfMemory o (held bytes (source.left source.new)) (port sink.taken sink.old sink.new)) (sym says) (refused bytes is no);
 }
 
 -- a command on a dump
 input_ran : {S K : Type 0} (words : List (List ℕ)) (command : DumpCommand) (source : SourceRun S) (sink : SinkRun K) (result : Status)
     → command_of words ≡ Some (Serial (Dump command))
-    → ((bytes : List ℕ) → source.left source.old ≡ Some bytes → AnswersInput bytes command (source.left source.new) (sink.taken sink.old) (sink.taken sink.new) result)
+    → ((bytes : List ℕ) → source.left source.old ≡ Some bytes → AnswersInput command (held bytes (source.left source.new)) (port sink.taken sink.old sink.new) result)
     → result ≢ Usage → MayEnd (Some (Serial (Dump command))) result → (result ≡ NoMemory → MayTakeMemory (Serial (Dump command)))
     → StatusHasCause ReadFault (source.faults source.old) (source.faults source.new) result
     → StatusHasCause WriteFault (sink.faults sink.old) (sink.faults sink.new) result
@@ -164,7 +165,7 @@ input_ran words command source sink result says answers never ends memory failed
 -- a serial command
 pub serial_ran : {S K : Type 0} (words : List (List ℕ)) (command : SerialCommand) (source : SourceRun S) (sink : SinkRun K) (result : Status)
     → command_of words ≡ Some (Serial command)
-    → ((asked : DumpCommand) (bytes : List ℕ) → command ≡ Dump asked → source.left source.old ≡ Some bytes → AnswersInput bytes asked (source.left source.new) (sink.taken sink.old) (sink.taken sink.new) result)
+    → ((asked : DumpCommand) (bytes : List ℕ) → command ≡ Dump asked → source.left source.old ≡ Some bytes → AnswersInput asked (held bytes (source.left source.new)) (port sink.taken sink.old sink.new) result)
     → IfSome (own_text command) (λ text. Makes text (sink.taken sink.old) (sink.taken sink.new) result)
     → (reads_input (Some (Serial command)) ≡ false → source.new ≡ source.old)
     → result ≢ Usage → MayEnd (Some (Serial command)) result → (result ≡ NoMemory → MayTakeMemory (Serial command))
@@ -184,8 +185,8 @@ serial_ran words Version source sink result says answers makes unread never ends
 -- a script
 pub replay_ran : {S K : Type 0} (words : List (List ℕ)) (source : SourceRun S) (sink : SinkRun K) (result : Status)
     → command_of words ≡ Some (Threaded Replay)
-    → ((bytes : List ℕ) → source.left source.old ≡ Some bytes → Replays bytes (source.left source.new) (sink.taken sink.old) (sink.taken sink.new) result)
-    → ((bytes : List ℕ) → source.left source.old ≡ Some bytes → result ≡ NoMemory → ReplayOutOfMemory bytes (source.left source.new) (sink.taken sink.old) (sink.taken sink.new))
+    → ((bytes : List ℕ) → source.left source.old ≡ Some bytes → Replays (held bytes (source.left source.new)) (port sink.taken sink.old sink.new) result)
+    → ((bytes : List ℕ) → source.left source.old ≡ Some bytes → result ≡ NoMemory → ReplayOutOfMemory (held bytes (source.left source.new)) (port sink.taken sink.old sink.new))
     → result ≢ Usage → (result ≢ TooFew) × (result ≢ Disabled)
     → StatusHasCause ReadFault (source.faults source.old) (source.faults source.new) result
     → StatusHasCause WriteFault (sink.faults sink.old) (sink.faults sink.new) result
@@ -195,15 +196,15 @@ replay_ran words source sink result says replays refused never few failed cause 
     reading_ran words (Threaded Replay) source sink result says refl
     (λ bytes before is taken.
     replays_leave words bytes result (source.left source.new) before (sink.taken sink.new) says
-    (subst (λ (o : Option (List ℕ)). Replays bytes (source.left source.new) o (sink.taken sink.new) result) taken (replays bytes is)))
+    (subst (λ (o : Option (List ℕ)). Replays (held bytes (source.left source.new)) (change o (sink.taken sink.new)) result) taken (replays bytes is)))
     (λ bytes is. replays_read words bytes result (source.left source.new) (sink.taken sink.old) (sink.taken sink.new) says (replays bytes is))
     (run_ends words (Threaded Replay) result says refl few) never (λ is. tt) refused failed cause long
 
 -- requests
 pub proc_ran : {S K : Type 0} (words : List (List ℕ)) (cpus : ℕ) (source : SourceRun S) (sink : SinkRun K) (result : Status)
     → command_of words ≡ Some (Threaded (Proc cpus))
-    → ((bytes : List ℕ) → source.left source.old ≡ Some bytes → Runs (proc_told cpus) [] bytes (source.left source.new) (sink.taken sink.old) (sink.taken sink.new) result)
-    → ((bytes : List ℕ) → source.left source.old ≡ Some bytes → result ≡ NoMemory → ProcOutOfMemory cpus bytes (source.left source.new) (sink.taken sink.old) (sink.taken sink.new))
+    → ((bytes : List ℕ) → source.left source.old ≡ Some bytes → Runs (proc_told cpus) [] (held bytes (source.left source.new)) (port sink.taken sink.old sink.new) result)
+    → ((bytes : List ℕ) → source.left source.old ≡ Some bytes → result ≡ NoMemory → ProcOutOfMemory cpus (held bytes (source.left source.new)) (port sink.taken sink.old sink.new))
     → result ≢ Usage → (result ≢ TooFew) × (result ≢ Disabled)
     → StatusHasCause ReadFault (source.faults source.old) (source.faults source.new) result
     → StatusHasCause WriteFault (sink.faults sink.old) (sink.faults sink.new) result
@@ -213,7 +214,7 @@ proc_ran words cpus source sink result says runs refused never few failed cause 
     reading_ran words (Threaded (Proc cpus)) source sink result says refl
     (λ bytes before is taken.
     proc_leaves words bytes cpus result (source.left source.new) before (sink.taken sink.new) says
-    (subst (λ (o : Option (List ℕ)). Runs (proc_told cpus) [] bytes (source.left source.new) o (sink.taken sink.new) result) taken (runs bytes is)))
+    (subst (λ (o : Option (List ℕ)). Runs (proc_told cpus) [] (held bytes (source.left source.new)) (change o (sink.taken sink.new)) result) taken (runs bytes is)))
     (λ bytes is. proc_reads words bytes cpus result (source.left source.new) (sink.taken sink.old) (sink.taken sink.new) says (runs bytes is))
     (run_ends words (Threaded (Proc cpus)) result says refl few) never (λ is. tt) refused failed cause long
 

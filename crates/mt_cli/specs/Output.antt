@@ -5,7 +5,8 @@ use Rattle.mt_ports.specs.declared.status.Status.{Status}
 use Rattle.mt_ports.specs.declared.status.Status.TheVariants.{Done, Usage, BadText}
 use Rattle.mt_dump.specs.Canon.{value_text}
 use Rattle.mt_dump.specs.Dumps.{Dump as Shows}
-use Rattle.mt_dump.specs.Dump.{Shown, dump_offence}
+use Rattle.mt_dump.specs.Dump.{Shown}
+use Rattle.mt_dump.specs.Reader.{dump_offence}
 use Rattle.mt_dump.specs.declared.fault.DumpFault.{DumpFault}
 use Rattle.mt_replay.specs.declared.summing.Totals.{Totals}
 use Rattle.mt_replay.specs.Summary.{summary}

@@ -11,7 +11,8 @@ use Rattle.mt_types.specs.Runs.{IsRunsOf}
 use Rattle.mt_types.proofs.OneMap.{one_type_map}
 use Rattle.mt_dump.specs.Canon.{canon}
 use Rattle.mt_dump.specs.Dumps.{Dump as Shows, dump_of, first_file}
-use Rattle.mt_dump.specs.Dump.{Shown, dump_offence}
+use Rattle.mt_dump.specs.Dump.{Shown}
+use Rattle.mt_dump.specs.Reader.{dump_offence}
 use Rattle.mt_dump.specs.declared.fault.DumpFault.{DumpFault}
 use Rattle.mt_dump.proofs.Ends.{one_dump, shown_no_offence}
 use Rattle.mt_proc.specs.Proc.{proc_transcript}

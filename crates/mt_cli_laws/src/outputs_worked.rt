@@ -8,26 +8,27 @@ ghost use Rattle.mt_answers.specs.declared.command.DumpCommand.TheVariants as of
 ghost use Rattle.mt_answers.specs.CommandLine.{MayTakeMemory, command_of};
 ghost use Rattle.mt_answers.specs.Answer.{MayChoose};
 ghost use Rattle.mt_answers.specs.Statuses.{MayEnd};
-ghost use Rattle.mt_cli.specs.Tool.{CutShort, FailedRead, Finished, Overran, Reads, Starved};
+ghost use Rattle.mt_output.specs.Ports.{held};
+ghost use Rattle.mt_cli.specs.Tool.{CutShort, FailedRead, Finished, Overran, Reads, Starved, took};
 
 /// What a run may leave in its source and sink, and what it can't.
 pub fn worked_endings()
-    ensures finished { Finished [] (codes "x") (Some (codes "x")) (codes "a") (Some (codes "ausage\n")) status.Usage }
-    ensures not_written { Finished [] (codes "x") (Some (codes "x")) (codes "a") (Some (codes "a")) status.Usage → ⊥ }
-    ensures other_status { Finished [] (codes "x") (Some (codes "x")) (codes "a") (Some (codes "ausage\n")) status.Done → ⊥ }
-    ensures something_read { Finished [] (codes "x") (Some []) (codes "a") (Some (codes "ausage\n")) status.Usage → ⊥ }
-    ensures cut_short { CutShort [] [] (codes "a") (Some (codes "aus")) }
-    ensures no_front { CutShort [] [] (codes "a") (Some (codes "ax")) → ⊥ }
-    ensures lost_before { CutShort [] [] (codes "a") (Some []) → ⊥ }
-    ensures failed_read { FailedRead (command_of []) [] None (codes "a") (Some (codes "a")) }
-    ensures written_at_a_failed_read { FailedRead (command_of []) [] None (codes "a") (Some (codes "au")) → ⊥ }
-    ensures written_at_too_long { Overran (command_of []) [] [] (codes "a") (Some (codes "au")) → ⊥ }
-    ensures starved { Starved [] [] (codes "a") (Some (codes "a")) }
-    ensures more_without_memory { (bytes : List ℕ) → IsWithoutNewcomers bytes → Starved (codes "replay" ∷ []) bytes [] (Some (codes "accepted\nok\n")) → ⊥ }
-    ensures other_line_behind_a_newcomer { Starved (codes "replay" ∷ []) (codes "cpus 1\ndump\n0fe 0\nend\ncr3 0\njoin\n") [] (Some (codes "x")) → ⊥ }
-    ensures reads_usage { Reads [] (codes "x") (Some []) status.Usage → ⊥ }
-    ensures reads_too_long { Reads [] (codes "x") (Some []) status.TooLong → ⊥ }
-    ensures reads_to_the_end { Reads (codes "check" ∷ []) (codes "x") (Some (codes "x")) status.Done → ⊥ }
+    ensures finished { Finished [] (held (codes "x") (Some (codes "x"))) (took (codes "a") (Some (codes "ausage\n"))) status.Usage }
+    ensures not_written { Finished [] (held (codes "x") (Some (codes "x"))) (took (codes "a") (Some (codes "a"))) status.Usage → ⊥ }
+    ensures other_status { Finished [] (held (codes "x") (Some (codes "x"))) (took (codes "a") (Some (codes "ausage\n"))) status.Done → ⊥ }
+    ensures something_read { Finished [] (held (codes "x") (Some [])) (took (codes "a") (Some (codes "ausage\n"))) status.Usage → ⊥ }
+    ensures cut_short { CutShort [] [] (took (codes "a") (Some (codes "aus"))) }
+    ensures no_front { CutShort [] [] (took (codes "a") (Some (codes "ax"))) → ⊥ }
+    ensures lost_before { CutShort [] [] (took (codes "a") (Some [])) → ⊥ }
+    ensures failed_read { FailedRead (command_of []) (held [] None) (took (codes "a") (Some (codes "a"))) }
+    ensures written_at_a_failed_read { FailedRead (command_of []) (held [] None) (took (codes "a") (Some (codes "au"))) → ⊥ }
+    ensures written_at_too_long { Overran (command_of []) [] [] (took (codes "a") (Some (codes "au"))) → ⊥ }
+    ensures starved { Starved [] [] (took (codes "a") (Some (codes "a"))) }
+    ensures more_without_memory { (bytes : List ℕ) → IsWithoutNewcomers bytes → Starved (codes "replay" ∷ []) bytes (took [] (Some (codes "accepted\nok\n"))) → ⊥ }
+    ensures other_line_behind_a_newcomer { Starved (codes "replay" ∷ []) (codes "cpus 1\ndump\n0fe 0\nend\ncr3 0\njoin\n") (took [] (Some (codes "x"))) → ⊥ }
+    ensures reads_usage { Reads [] (held (codes "x") (Some [])) status.Usage → ⊥ }
+    ensures reads_too_long { Reads [] (held (codes "x") (Some [])) status.TooLong → ⊥ }
+    ensures reads_to_the_end { Reads (codes "check" ∷ []) (held (codes "x") (Some (codes "x"))) status.Done → ⊥ }
 {}
 
 /// A command that may lack pairs, statuses that other commands never return, and commands that

@@ -1,24 +1,25 @@
 -- Lines that show a dump have no offence.
 use Rattle.std.proofs.Common.{◌≡◌, ◌≢◌, ◌≤◌, ◌<◌, ◌+◌, ℕ, Bool, true, false, not, ◌==◌, ◌&&◌, nat_lt, List, [], ◌∷◌, ◌++◌, length, Option, Some, None, refl, sym, ◌∙◌, ap, arith, inl, inr, subst}
-use Rattle.std.specs.Prelude.{Ok, Err, is_some, ◌⊎◌, ◌||◌, if◌then◌else◌}
+use Rattle.std.specs.Prelude.{Ok, Err, is_some, ok_or, ◌⊎◌, ◌||◌, if◌then◌else◌}
 use Rattle.std.specs.List.{AllByRecursion}
-use Rattle.std.specs.Option.{option_map}
+use Rattle.std.specs.Option.{option_map, option_map_or}
 use Rattle.std.proofs.lemmas.Bool.{cases_Bool, eqb-true, eqb-false}
 use Rattle.std.proofs.lemmas.Bool.Decides.{nat_tests}
 use Rattle.mt_regs.specs.RegisterFile.{RegisterFile}
 use Rattle.mt_regs.specs.Registers.{value_at, value_of, register_of}
 use Rattle.mt_regs.specs.declared.registers.Register as register
 use Rattle.mt_text.specs.declared.place.Place.{Place}
-use Rattle.mt_dump.specs.Line.{Reading}
+use Rattle.mt_dump.specs.Line.{Reading, fault_at}
 use Rattle.mt_dump.specs.Dumps.{Dump}
-use Rattle.mt_dump.specs.Dump.{given, widths, versions, section_numbers, section_count, times, is_given, value_given, is_writable, is_spoken, version_of, is_later, is_outside, present, first_section, first_width, up_to_section, behind_first, behind_sections, sections_of, ShowsSection, ShowsFirst, ShowsLater, ShowAll, ShowAllLater, ShownBy, count_from, offence_said, offence_of, offence_from}
-use Rattle.mt_dump.specs.Reader.{IsSane, IsClean, file_in, files_in, onto}
+use Rattle.mt_dump.specs.Dump.{given, widths, versions, section_numbers, section_count, times, is_given, value_given, is_writable, is_spoken, version_of, is_later, is_outside, present, first_section, first_width, up_to_section, behind_first, behind_sections, sections_of, ShowsSection, ShowsFirst, ShowsLater, ShowAll, ShowAllLater, ShownBy, count_from, offence_said, offence_of}
+use Rattle.mt_dump.specs.Reader.{IsSane, IsClean, dump_in, file_in, files_in, onto, read_from}
 use Rattle.mt_dump.specs.declared.said.Said.TheVariants.{Nothing, Version, Section, Width, Register}
 use Rattle.mt_dump.proofs.Readings.{times-onto, length-onto, given-onto, widths-onto, versions-onto, numbers-onto, good_rest, all_rest, all_before, value_given-stands}
 use Rattle.mt_dump.proofs.Sections.{behind_unspoken, behind_spoken, clean_versions, first_early, early_present, up_to_all, up_to-onto, done_in, no_sections_done, sections_split}
 use Rattle.mt_dump.proofs.Present.{Leads, clean_stands}
-use Rattle.mt_dump.proofs.Stands.{Shows, clean_closed, one_first, first_gives}
+use Rattle.mt_dump.proofs.Stands.{Shows, clean_closed, clean_shown, none_given, one_first, first_gives, shown_given, shown_once}
 use Rattle.mt_dump.specs.declared.fault.DumpFault.{DumpFault}
+use Rattle.mt_dump.specs.declared.fault.DumpReason.TheVariants.{NoCap}
 
 -- where numbers are counted, one that stands behind others is their count
 rest_counted : {X : Type 0} (ns more : List ℕ) (xs : List X) → onto ns more ≡ count_from 0 xs → (ys : List X) × (more ≡ count_from (length ns) ys)
@@ -357,8 +358,13 @@ no_offence before rest (Ok (Section number place)) dump clean shown = no_offence
 no_offence before rest (Ok (Width width first second)) dump clean shown = no_offence_width before rest width first second dump clean shown
 no_offence before rest (Ok (Register number value first second)) dump clean shown = no_offence_register before rest number value first second dump clean shown
 
-pub complete : (before rest : List Reading) (dump : Dump) → IsClean before → AllByRecursion IsSane rest → ShownBy (onto before rest) dump → offence_from before rest ≡ None
-complete before [] dump clean sane shown = refl
-complete before (line ∷ rest) dump clean sane shown =
+-- so they are read as it
+pub complete : (end : Place) (before rest : List Reading) (dump : Dump) → IsClean before → AllByRecursion IsSane rest → ShownBy (onto before rest) dump → read_from end before rest ≡ Ok dump
+complete end before [] dump clean sane shown = by (dump_in before) refl
+  where
+    by : (found : Option Dump) → dump_in before ≡ found → ok_or found (fault_at NoCap end) ≡ Ok dump
+    by None led = let e = sym (none_given before clean led) ∙ shown_given (onto before []) dump shown in cc e
+    by (Some other) led = ap Ok (shown_once (onto before []) other dump (clean_shown before other clean led) shown)
+complete end before (line ∷ rest) dump clean sane shown =
     let none = no_offence before rest line dump clean shown in
-    rw none (complete (line ∷ before) rest dump (sane.0, none, clean) sane.1 shown)
+    ap (λ o. option_map_or (λ fault. Err fault) o (read_from end (line ∷ before) rest)) none ∙ complete end (line ∷ before) rest dump (sane.0, none, clean) sane.1 shown

@@ -1,50 +1,51 @@
 -- Where the reading of a text ends.
 use Rattle.std.proofs.Common.{◌≡◌, ◌+◌, ℕ, true, false, List, [], ◌∷◌, Option, Some, None, Result, refl, sym, ◌∙◌, ap, subst, inl, inr}
-use Rattle.std.specs.Prelude.{Ok, Err, ◌⊎◌, MatchResult, ◌↔◌}
+use Rattle.std.specs.Prelude.{Ok, Err, is_some, ok_or, ◌⊎◌, MatchResult, ◌↔◌}
 use Rattle.std.specs.List.{AllByRecursion}
+use Rattle.std.specs.Option.{option_map_or}
+use Rattle.std.specs.Result.{result_err}
 use Rattle.mt_text.specs.Text.{lines_of, end_of}
 use Rattle.mt_text.specs.declared.place.Place.{Place}
 use Rattle.mt_dump.specs.Dumps.{Dump, IsDump}
 use Rattle.mt_dump.specs.Line.{Reading, fault_at}
-use Rattle.mt_dump.specs.Dump.{said_from, said_by, versions, version_in, behind_first, tells_version, Shown, ShownBy, is_given, offence_of, offence_from, offence_at_end, or_else, dump_offence}
-use Rattle.mt_dump.specs.Reader.{IsSane, IsClean, dump_in, onto}
+use Rattle.mt_dump.specs.Dump.{said_from, said_by, versions, version_in, behind_first, tells_version, Shown, ShownBy, offence_of}
+use Rattle.mt_dump.specs.Reader.{IsSane, IsClean, dump_in, dump_offence, onto, read_from, read_text}
 use Rattle.mt_dump.specs.declared.fault.DumpFault.{DumpFault}
 use Rattle.mt_dump.specs.declared.fault.DumpReason.TheVariants.{NoCap}
 use Rattle.mt_dump.specs.declared.said.Said.TheVariants.{Nothing, Version, Section, Width, Register}
 use Rattle.mt_dump.proofs.OneLine.{is_sane}
-use Rattle.mt_dump.proofs.Readings.{offence_past}
-use Rattle.mt_dump.proofs.Stands.{clean_shown, none_given, shown_given, shown_once, shown_is_dump}
+use Rattle.mt_dump.proofs.Readings.{read_past}
+use Rattle.mt_dump.proofs.Stands.{clean_shown, shown_once, shown_is_dump}
 use Rattle.mt_dump.proofs.Complete.{complete}
 
 -- the first line with an offence
-pub ends_at_line : (text : List ℕ) (before rest : List Reading) (line : Reading) (fault : DumpFault) → IsClean before → onto before (line ∷ rest) ≡ said_by text → offence_of before line ≡ Some fault → dump_offence text ≡ Some fault
+pub ends_at_line : (text : List ℕ) (before rest : List Reading) (line : Reading) (fault : DumpFault) → IsClean before → onto before (line ∷ rest) ≡ said_by text → offence_of before line ≡ Some fault → read_text text ≡ Err fault
 ends_at_line text before rest line fault clean is found =
-    let first : offence_from [] (said_by text) ≡ Some fault = rw (← is) (offence_past before (line ∷ rest) clean ∙ ap (λ o. or_else o (offence_from (line ∷ before) rest)) found) in
-    ap (λ o. or_else o (offence_at_end (end_of text) (said_by text))) first
+    ap (read_from (end_of text) []) (sym is) ∙ read_past (end_of text) before (line ∷ rest) clean
+    ∙ ap (λ o. option_map_or (λ fault. Err fault) o (read_from (end_of text) (line ∷ before) rest)) found
 
 -- where 0FEH was given no place matters
-pub same_end : (at place : Place) (says : List Reading) → is_given 0xfe says ≡ true → offence_at_end at says ≡ offence_at_end place says
-same_end at place says is = rw is refl
+pub same_end : (at place : Place) (before : List Reading) → is_some (dump_in before) ≡ true → read_from at before [] ≡ read_from place before []
+same_end at place before = by (dump_in before)
+  where
+    by : (found : Option Dump) → is_some found ≡ true → ok_or found (fault_at NoCap at) ≡ ok_or found (fault_at NoCap place)
+    by None none = cc none
+    by (Some dump) some = refl
 
 -- no line has one
-no_line : (text : List ℕ) (before : List Reading) → IsClean before → onto before [] ≡ said_by text → offence_from [] (said_by text) ≡ None
-no_line text before clean is = rw (← is) (offence_past before [] clean)
-
-pub ends_at_end : (text : List ℕ) (before : List Reading) (answer : Result Dump DumpFault) → IsClean before → onto before [] ≡ said_by text
-    → MatchResult answer (λ dump. ShownBy (onto before []) dump) (λ fault. offence_at_end (end_of text) (onto before []) ≡ Some fault) → MatchResult answer (λ dump. Shown text dump) (λ fault. dump_offence text ≡ Some fault)
-ends_at_end text before (Ok dump) clean is shown = rw is at shown
-ends_at_end text before (Err fault) clean is found = ap (λ o. or_else o (offence_at_end (end_of text) (said_by text))) (no_line text before clean is) ∙ rw is at found
+pub ends_at_end : (text : List ℕ) (before : List Reading) (answer : Result Dump DumpFault) → IsClean before → onto before [] ≡ said_by text → answer ≡ read_from (end_of text) before [] → read_text text ≡ answer
+ends_at_end text before answer clean is last = ap (read_from (end_of text) []) (sym is) ∙ read_past (end_of text) before [] clean ∙ sym last
 
 sane_from : (number : ℕ) (lines : List (List ℕ)) → AllByRecursion IsSane (said_from number lines)
 sane_from number [] = tt
 sane_from number (line ∷ lines) = (is_sane number line, sane_from (number + 1) lines)
 
--- A text that shows a dump has no offence, and one without an offence shows a dump.
+-- A text is read as the dump that it shows.
+pub read_shown : (text : List ℕ) (dump : Dump) → Shown text dump → read_text text ≡ Ok dump
+read_shown text dump = complete (end_of text) [] (said_by text) dump tt (sane_from 1 (lines_of text))
+
 pub shown_no_offence : (text : List ℕ) (dump : Dump) → Shown text dump → dump_offence text ≡ None
-shown_no_offence text dump shown =
-    let some = shown_given (said_by text) dump shown in
-    let last : offence_at_end (end_of text) (said_by text) ≡ None = rw some refl in
-    ap (λ o. or_else o (offence_at_end (end_of text) (said_by text))) (complete [] (said_by text) dump tt (sane_from 1 (lines_of text)) shown) ∙ last
+shown_no_offence text dump shown = ap result_err (read_shown text dump shown)
 
 -- what a text shows is a dump
 pub shown_dump : (text : List ℕ) (dump : Dump) → Shown text dump → IsDump dump
@@ -63,35 +64,36 @@ usual (Err fault ∷ says) none first = first
 pub usual_version : (text : List ℕ) (dump : Dump) → Shown text dump → tells_version (said_by text) ≡ false → dump.version ≡ 1
 usual_version text dump shown none = shown.version ∙ ap version_in (usual (said_by text) none shown.told_first)
 
--- lines lead to clean lines or to the first offence
-decided : (before rest : List Reading) → IsClean before → AllByRecursion IsSane rest
-    → ((after : List Reading) × (onto before rest ≡ onto after []) × IsClean after) ⊎ ((fault : DumpFault) × (offence_from before rest ≡ Some fault))
-decided before [] clean sane = inl (before, refl, clean)
-decided before (line ∷ rest) clean sane = by (offence_of before line) refl (λ none. decided (line ∷ before) rest (sane.0, none, clean) sane.1)
+pub led_to : (end : Place) (before : List Reading) (dump : Dump) → read_from end before [] ≡ Ok dump → dump_in before ≡ Some dump
+led_to end before dump = by (dump_in before)
   where
-    by : (offence : Option DumpFault) → offence_of before line ≡ offence
-        → (offence_of before line ≡ None → ((after : List Reading) × (onto before (line ∷ rest) ≡ onto after []) × IsClean after) ⊎ ((fault : DumpFault) × (offence_from (line ∷ before) rest ≡ Some fault)))
-        → ((after : List Reading) × (onto before (line ∷ rest) ≡ onto after []) × IsClean after) ⊎ ((fault : DumpFault) × (offence_from before (line ∷ rest) ≡ Some fault))
-    by (Some fault) is later = inr (fault, ap (λ o. or_else o (offence_from (line ∷ before) rest)) is)
-    by None is later = elim (later is) [
-      | inl good ↦ inl good
-      | inr bad ↦ inr (bad.0, ap (λ o. or_else o (offence_from (line ∷ before) rest)) is ∙ bad.1)
-    ]
+    by : (found : Option Dump) → ok_or found (fault_at NoCap end) ≡ Ok dump → found ≡ Some dump
+    by None none = cc none
+    by (Some other) some = let e : other ≡ dump = cc some in ap Some e
+
+-- what clean lines and those behind them are read as they show
+pub shows_all : (end : Place) (before rest : List Reading) (dump : Dump) → IsClean before → AllByRecursion IsSane rest → read_from end before rest ≡ Ok dump → ShownBy (onto before rest) dump
+shows_all end before [] dump clean sane is = clean_shown before dump clean (led_to end before dump is)
+shows_all end before (line ∷ rest) dump clean sane is = by (offence_of before line) refl is (λ none. shows_all end (line ∷ before) rest dump (sane.0, none, clean) sane.1)
+  where
+    by : (offence : Option DumpFault) → offence_of before line ≡ offence → option_map_or (λ fault. Err fault) offence (read_from end (line ∷ before) rest) ≡ Ok dump
+        → (offence_of before line ≡ None → read_from end (line ∷ before) rest ≡ Ok dump → ShownBy (onto before (line ∷ rest)) dump) → ShownBy (onto before (line ∷ rest)) dump
+    by (Some fault) found bad later = cc bad
+    by None none good later = later none good
+
+-- what each answer says of the text that is read as it
+pub reads_as : (text : List ℕ) (answer : Result Dump DumpFault) → read_text text ≡ answer → MatchResult answer (λ dump. Shown text dump) (λ fault. dump_offence text ≡ Some fault)
+reads_as text (Ok dump) is = shows_all (end_of text) [] (said_by text) dump tt (sane_from 1 (lines_of text)) is
+reads_as text (Err fault) is = ap result_err is
 
 -- each text shows a dump or has an offence
 pub shown_or_offence : (text : List ℕ) → ((dump : Dump) × Shown text dump) ⊎ ((fault : DumpFault) × (dump_offence text ≡ Some fault))
-shown_or_offence text = elim (decided [] (said_by text) tt (sane_from 1 (lines_of text))) [
-  | inr bad ↦ inr (bad.0, ap (λ o. or_else o (offence_at_end (end_of text) (said_by text))) bad.1)
-  | inl good ↦ by good.0 (sym good.1) good.2 (dump_in good.0) refl
-]
+shown_or_offence text = by (read_text text) (reads_as text (read_text text) refl)
   where
-    by : (after : List Reading) → onto after [] ≡ said_by text → IsClean after → (found : Option Dump) → dump_in after ≡ found
+    by : (answer : Result Dump DumpFault) → MatchResult answer (λ dump. Shown text dump) (λ fault. dump_offence text ≡ Some fault)
         → ((dump : Dump) × Shown text dump) ⊎ ((fault : DumpFault) × (dump_offence text ≡ Some fault))
-    by after is clean (Some dump) led = inl (dump, rw is at (clean_shown after dump clean led))
-    by after is clean None led =
-        let none = none_given after clean led in
-        let last : offence_at_end (end_of text) (onto after []) ≡ Some (fault_at NoCap (end_of text)) = rw none refl in
-        inr (fault_at NoCap (end_of text), ap (λ o. or_else o (offence_at_end (end_of text) (said_by text))) (no_line text after clean is) ∙ rw is at last)
+    by (Ok dump) shown = inl (dump, shown)
+    by (Err fault) found = inr (fault, found)
 
 pub one_dump : (text : List ℕ) (dump other : Dump) → Shown text dump → Shown text other → dump ≡ other
 one_dump text dump other = shown_once (said_by text) dump other
@@ -104,3 +106,9 @@ exactly_shown text (Err fault) found dump = (λ is. cc is, λ shown. let e = sym
 pub exactly_offence : (text : List ℕ) (answer : Result Dump DumpFault) → MatchResult answer (λ dump. Shown text dump) (λ fault. dump_offence text ≡ Some fault) → (fault : DumpFault) → (answer ≡ Err fault) ↔ (dump_offence text ≡ Some fault)
 exactly_offence text (Ok dump) shown fault = (λ is. cc is, λ found. let e = sym found ∙ shown_no_offence text dump shown in cc e)
 exactly_offence text (Err other) found fault = (λ is. let e : other ≡ fault = cc is in found ∙ ap Some e, λ again. let e : Some other ≡ Some fault = sym found ∙ again in let f : other ≡ fault = cc e in ap Err f)
+
+pub read_exactly : (text : List ℕ) (dump : Dump) → (read_text text ≡ Ok dump) ↔ Shown text dump
+read_exactly text = exactly_shown text (read_text text) (reads_as text (read_text text) refl)
+
+pub read_offence : (text : List ℕ) (fault : DumpFault) → (read_text text ≡ Err fault) ↔ (dump_offence text ≡ Some fault)
+read_offence text = exactly_offence text (read_text text) (reads_as text (read_text text) refl)

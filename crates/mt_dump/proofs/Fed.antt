@@ -1,6 +1,7 @@
 -- Reading a dump through a feed: what holds between two lines, and how each line keeps it.
 use Rattle.std.proofs.Common.{◌≡◌, ◌+◌, ◌≤◌, ℕ, Bool, true, false, nat_lt, List, [], ◌∷◌, ◌++◌, length, take, Option, Some, None, refl, sym, ◌∙◌, ap, arith, append_assoc, inl, inr}
 use Rattle.std.specs.Prelude.{Result, Ok, MatchResult}
+use Rattle.std.specs.Result.{result_err}
 use Rattle.std.proofs.lemmas.Bool.{cases_lt}
 use Rattle.std.proofs.lemmas.Bool.Decides.{nat_tests}
 use Rattle.std.proofs.lemmas.List.{append-nil, length-take-le, take_all}
@@ -10,14 +11,14 @@ use Rattle.mt_text.specs.declared.line.Line.{Line}
 use Rattle.mt_text.proofs.Lent.{lends_lines, passes, told_next}
 use Rattle.mt_dump.specs.Dumps.{Dump}
 use Rattle.mt_dump.specs.Line.{Reading, said_of}
-use Rattle.mt_dump.specs.Dump.{Shown, ShownBy, dump_offence, offence_at_end, offence_of, said_by, said_from}
-use Rattle.mt_dump.specs.Reader.{HasRead, State, onto}
+use Rattle.mt_dump.specs.Dump.{Shown, offence_of, said_by, said_from}
+use Rattle.mt_dump.specs.Reader.{HasRead, State, dump_offence, onto, read_from}
 use Rattle.mt_dump.specs.declared.fault.DumpFault.{DumpFault}
 use Rattle.mt_dump.proofs.Counted.{IsFed, fed_at_first, fed_on, few_first}
-use Rattle.mt_dump.proofs.Ends.{ends_at_end, ends_at_line}
+use Rattle.mt_dump.proofs.Ends.{ends_at_end, ends_at_line, reads_as}
 
--- The lines that were read and those of the bytes that are left are the lines of all bytes, and the feed stands at its place among these.
-pub record Told (bytes : List ℕ) (left : Option (List ℕ)) (feed : Feeding) (before : List Reading) : Type 0 where
+-- A reader is partway through these bytes: the lines that were read and those that are left are all lines, and the feed is at its place among them.
+pub record IsPartway (bytes : List ℕ) (left : Option (List ℕ)) (feed : Feeding) (before : List Reading) : Type 0 where
   pub after : List ℕ
   pub left_is : left ≡ Some after
   pub says : onto before (said_from feed.place.line (lines_of (feed.pending ++ after))) ≡ said_by bytes
@@ -30,7 +31,7 @@ pub record IsReading (left_first left : Option (List ℕ)) (given_first given : 
   pub fed : IsFed left_first left given_first given feed
   pub before : List Reading
   pub read : HasRead reader before
-  pub told : (bytes : List ℕ) → left_first ≡ Some bytes → Told bytes left feed before
+  pub told : (bytes : List ℕ) → left_first ≡ Some bytes → IsPartway bytes left feed before
 
 pub at_first : (left : Option (List ℕ)) (given : ℕ) (feed : Feeding) (reader : State) → feed ≡ at_start → HasRead reader [] → IsReading left left given given feed reader
 at_first left given feed reader start read = record {
@@ -64,7 +65,7 @@ said_lent old new before after line lent = ap (said_of line.number) lent.bytes �
 module _ (left_first left after : Option (List ℕ)) (given_first given given_after : ℕ) (feed new : Feeding) (reader : State) (reading : IsReading left_first left given_first given feed reader)
     (line : Line) (lines : Lines feed new left after given given_after (Ok (Some line))) where
   -- the line that is lent is the next of all
-  next_of : (bytes : List ℕ) (told : Told bytes left feed reading.before) → (later : List ℕ) × (after ≡ Some later) × LendsFirst feed new told.after later line
+  next_of : (bytes : List ℕ) (told : IsPartway bytes left feed reading.before) → (later : List ℕ) × (after ≡ Some later) × LendsFirst feed new told.after later line
   next_of bytes told = lends_lines feed new told.after after given given_after (Ok (Some line)) (rw told.left_is at lines)
 
   pub offends : (bytes : List ℕ) (fault : DumpFault) → left_first ≡ Some bytes → offence_of reading.before (said_of line.number line.bytes.now) ≡ Some fault → dump_offence bytes ≡ Some fault
@@ -72,10 +73,11 @@ module _ (left_first left after : Option (List ℕ)) (given_first given given_af
       let told = reading.told bytes is in
       let lent = (next_of bytes told).2 in
       let says = sym (ap (λ ls. onto reading.before (said_from feed.place.line ls)) lent.lines) ∙ told.says in
-      ends_at_line bytes reading.before (said_from (feed.place.line + 1) lent.others) (said_of feed.place.line lent.first) fault reading.read.clean says
-      (ap (offence_of reading.before) (sym (said_lent feed new told.after (next_of bytes told).0 line lent)) ∙ found)
+      ap result_err
+      (ends_at_line bytes reading.before (said_from (feed.place.line + 1) lent.others) (said_of feed.place.line lent.first) fault reading.read.clean says
+      (ap (offence_of reading.before) (sym (said_lent feed new told.after (next_of bytes told).0 line lent)) ∙ found))
 
-  told_on : (bytes : List ℕ) → offence_of reading.before (said_of line.number line.bytes.now) ≡ None → Told bytes left feed reading.before → Told bytes after new (said_of line.number line.bytes.now ∷ reading.before)
+  told_on : (bytes : List ℕ) → offence_of reading.before (said_of line.number line.bytes.now) ≡ None → IsPartway bytes left feed reading.before → IsPartway bytes after new (said_of line.number line.bytes.now ∷ reading.before)
   told_on bytes none told =
       let next = next_of bytes told in
       let later = next.0 in
@@ -107,7 +109,7 @@ module _ (left_first left after : Option (List ℕ)) (given_first given given_af
 module _ (left_first left after : Option (List ℕ)) (given_first given given_after : ℕ) (feed new : Feeding) (reader : State) (reading : IsReading left_first left given_first given feed reader)
     (lines : Lines feed new left after given given_after (Ok None)) where
   pub ends : (bytes : List ℕ) (answer : Result Dump DumpFault) → left_first ≡ Some bytes
-      → ((before : List Reading) → HasRead reader before → MatchResult answer (λ dump. ShownBy (onto before []) dump) (λ fault. offence_at_end new.place (onto before []) ≡ Some fault))
+      → ((before : List Reading) → HasRead reader before → answer ≡ read_from new.place before [])
       → MatchResult answer (λ dump. Shown bytes dump) (λ fault. dump_offence bytes ≡ Some fault)
   ends bytes answer is finished =
       let told = reading.told bytes is in
@@ -115,4 +117,4 @@ module _ (left_first left after : Option (List ℕ)) (given_first given given_af
       let says = ap (λ l. onto reading.before (said_from feed.place.line (lines_of l))) (sym next.2.0) ∙ told.says in
       let whole : bytes ≡ told.past = told.parts ∙ ap (λ l. told.past ++ l) next.2.0 ∙ append-nil told.past in
       let place : new.place ≡ end_of bytes = lines.3.0.4 ∙ told.place ∙ ap end_of (sym whole) in
-      ends_at_end bytes reading.before answer reading.read.clean says (rw place at (finished reading.before reading.read))
+      reads_as bytes answer (ends_at_end bytes reading.before answer reading.read.clean says (finished reading.before reading.read ∙ ap (λ p. read_from p reading.before []) place))

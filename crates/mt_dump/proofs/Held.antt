@@ -1,6 +1,6 @@
 -- What a reader keeps when it takes one more line.
 use Rattle.std.proofs.Common.{◌≡◌, ◌≢◌, ◌≤◌, ◌<◌, ◌+◌, ◌-◌, ℕ, Bool, true, false, not, ◌==◌, ◌&&◌, nat_lt, List, [], ◌∷◌, ◌++◌, length, replicate, Option, Some, None, refl, sym, ◌∙◌, ap, arith, slice_set, inl, inr}
-use Rattle.std.specs.Prelude.{Ok, is_some, ◌⊎◌, ◌||◌, if◌then◌else◌}
+use Rattle.std.specs.Prelude.{Ok, Err, is_some, ok_or, ◌⊎◌, if◌then◌else◌}
 use Rattle.std.specs.List.{slice_index_or}
 use Rattle.std.specs.Option.{option_map}
 use Rattle.std.proofs.lemmas.Bool.{cases_Bool, eqb-true, eqb-false}
@@ -14,13 +14,13 @@ use Rattle.mt_regs.specs.Registers.{value_of, with_value, register_of, written}
 use Rattle.mt_regs.specs.declared.registers.Register as register
 use Rattle.mt_regs.proofs.ByNumber.{register_of-range}
 use Rattle.mt_dump.specs.Line.{Reading, fault_at}
-use Rattle.mt_dump.specs.Dumps.{Dump, IsDump}
-use Rattle.mt_dump.specs.Dump.{given, widths, section_numbers, section_count, times, is_given, value_given, is_writable, width_of, version_of, is_later, is_outside, present, first_section, first_width, offence_said, offence_at_end, ShownBy}
-use Rattle.mt_dump.specs.Reader.{HasRead, State, file_in, files_in, file_with, dump_with, after_section, with_width, onto}
+use Rattle.mt_dump.specs.Dumps.{IsDump}
+use Rattle.mt_dump.specs.Dump.{given, widths, section_numbers, section_count, times, is_given, value_given, is_writable, width_of, version_of, is_later, is_outside, present, first_section, first_width, offence_said}
+use Rattle.mt_dump.specs.Reader.{HasRead, State, file_in, files_in, file_with, dump_in, dump_with, after_section, with_width, read_from}
 use Rattle.mt_dump.proofs.Readings.{value_given-stands}
 use Rattle.mt_dump.proofs.Sections.{first_early, first_late, early_present, same_widths, section_counts}
 use Rattle.mt_dump.proofs.Present.{StandsNow, Leads, clean_stands, clean_widths, positive}
-use Rattle.mt_dump.proofs.Stands.{some_section, clean_shown, clean_is_dump, none_given, shown_given}
+use Rattle.mt_dump.proofs.Stands.{some_section, clean_is_dump}
 use Rattle.mt_dump.proofs.Complete.{section_none}
 use Rattle.mt_dump.specs.declared.fault.DumpReason.TheVariants.{UnknownRegister, Repeated, NoCap, Differs}
 use Rattle.mt_dump.specs.declared.said.Said.TheVariants.{Nothing, Version, Section, Width, Register}
@@ -366,12 +366,11 @@ module _ (state : State) (before : List Reading) (number value : ℕ) (first sec
 
 -- ---- the end
 
-pub shown_at_end : (state : State) (before : List Reading) (file : RegisterFile) → HasRead state before → state.file ≡ Some file
-    → ShownBy (onto before []) (record { version = state.version; files = state.files ++ with_width file state.width ∷ [] })
-shown_at_end state before file holds is =
-    let led : file_in before ≡ Some file = sym holds.file_is ∙ is in
+pub read_at_end : (state : State) (before : List Reading) (place : Place) (file : RegisterFile) → HasRead state before → state.file ≡ Some file
+    → Ok (record { version = state.version; files = state.files ++ with_width file state.width ∷ [] }) ≡ read_from place before []
+read_at_end state before place file holds is =
     rw (holds.version_is, holds.files_is, holds.width_is)
-    (clean_shown before (record { version = version_of before; files = files_in before ++ with_width file (first_width before) ∷ [] }) holds.clean (ap (dump_with (version_of before) (files_in before) (first_width before)) led))
+    (ap (λ found. ok_or (dump_with (version_of before) (files_in before) (first_width before) found) (fault_at NoCap place)) (sym is ∙ holds.file_is))
 
 pub dump_at_end : (state : State) (before : List Reading) (file : RegisterFile) → HasRead state before → state.file ≡ Some file → IsDump (record { version = state.version; files = state.files ++ with_width file state.width ∷ [] })
 dump_at_end state before file holds is =
@@ -380,16 +379,13 @@ dump_at_end state before file holds is =
     (clean_is_dump before (record { version = version_of before; files = files_in before ++ with_width file (first_width before) ∷ [] }) holds.clean (ap (dump_with (version_of before) (files_in before) (first_width before)) led))
 
 -- whether the reader has a file at the end
-pub complete_is : (state : State) (before : List Reading) → HasRead state before → is_some state.file ≡ is_given 0xfe (onto before [])
-complete_is state before holds = ap is_some holds.file_is ∙ by (file_in before) refl
+pub complete_is : (state : State) (before : List Reading) → HasRead state before → is_some state.file ≡ is_some (dump_in before)
+complete_is state before holds = ap is_some holds.file_is ∙ by (file_in before)
   where
-    by : (found : Option RegisterFile) → file_in before ≡ found → is_some found ≡ is_given 0xfe (onto before [])
-    by None led = sym (none_given before holds.clean (ap (dump_with (version_of before) (files_in before) (first_width before)) led))
-    by (Some file) led =
-        let dump : Dump = record { version = version_of before; files = files_in before ++ with_width file (first_width before) ∷ [] } in
-        sym (shown_given (onto before []) dump (clean_shown before dump holds.clean (ap (dump_with (version_of before) (files_in before) (first_width before)) led)))
+    by : (found : Option RegisterFile) → is_some found ≡ is_some (dump_with (version_of before) (files_in before) (first_width before) found)
+    by None = refl
+    by (Some file) = refl
 
-pub no_file_at_end : (state : State) (before : List Reading) (place : Place) → HasRead state before → state.file ≡ None → offence_at_end place (onto before []) ≡ Some (fault_at NoCap place)
+pub no_file_at_end : (state : State) (before : List Reading) (place : Place) → HasRead state before → state.file ≡ None → Err (fault_at NoCap place) ≡ read_from place before []
 no_file_at_end state before place holds is =
-    let none : is_given 0xfe (onto before []) ≡ false = sym (complete_is state before holds) ∙ ap is_some is in
-    rw none refl
+    ap (λ found. ok_or (dump_with (version_of before) (files_in before) (first_width before) found) (fault_at NoCap place)) (sym is ∙ holds.file_is)

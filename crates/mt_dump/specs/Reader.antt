@@ -1,13 +1,20 @@
--- What a reader of a dump keeps of the lines that it has read, of which the last stands first (own).
+-- What a text is read as, and what a reader of a dump keeps of the lines that it has read, of which the last stands first (own).
 --     dump_in before      the dump that the lines lead to
-use Rattle.std.specs.Prelude.{ℕ, ◌≡◌, ◌≤◌, ◌<◌, ◌-◌, ◌==◌, nat_lt, Bool, false, List, [], ◌∷◌, ◌++◌, length, ⊤, if◌then◌else◌, Option, Some, None, Ok, Err}
+--     read_text text      the dump that the text shows, or its first offence
+--     dump_offence text      the first offence, with its reason and place
+use Rattle.std.specs.Prelude.{ℕ, ◌≡◌, ◌≤◌, ◌<◌, ◌-◌, ◌==◌, nat_lt, Bool, false, List, [], ◌∷◌, ◌++◌, length, ⊤, if◌then◌else◌, Option, Some, None, ok_or, Result, Ok, Err}
 use Rattle.std.specs.List.{slice_index_or}
-use Rattle.std.specs.Option.{option_map}
+use Rattle.std.specs.Option.{option_map, option_map_or}
+use Rattle.std.specs.Result.{result_err}
+use Rattle.mt_text.specs.Text.{end_of}
+use Rattle.mt_text.specs.declared.place.Place.{Place}
 use Rattle.mt_regs.specs.RegisterFile.{RegisterFile, low_byte, blank_file}
 use Rattle.mt_regs.specs.Registers.{written}
-use Rattle.mt_dump.specs.Line.{Reading}
+use Rattle.mt_dump.specs.Line.{Reading, fault_at}
 use Rattle.mt_dump.specs.Dumps.{Dump}
-use Rattle.mt_dump.specs.Dump.{given, widths, times, version_of, is_given, is_spoken, present, section_count, first_width, offence_of}
+use Rattle.mt_dump.specs.Dump.{given, widths, times, version_of, said_by, is_given, is_spoken, present, section_count, first_width, offence_of}
+use Rattle.mt_dump.specs.declared.fault.DumpFault.{DumpFault}
+use Rattle.mt_dump.specs.declared.fault.DumpReason.TheVariants.{NoCap}
 use Rattle.mt_dump.specs.declared.said.Said.TheVariants.{Nothing, Version, Section, Width, Register}
 
 -- what a line that is good by itself can't say otherwise
@@ -40,11 +47,8 @@ after_section file = option_map (λ f. blank_file 36 f.capabilities) file
 abbrev pub file_in : List Reading → Option RegisterFile
 file_in [] = None
 file_in (Ok (Register number value first second) ∷ before) = after_register (file_in before) number value
-file_in (Ok Nothing ∷ before) = file_in before
-file_in (Ok (Version version place) ∷ before) = file_in before
 file_in (Ok (Section number place) ∷ before) = after_section (file_in before)
-file_in (Ok (Width width first second) ∷ before) = file_in before
-file_in (Err fault ∷ before) = file_in before
+file_in (other ∷ before) = file_in before
 
 -- the present section's file with this width, where there is one
 abbrev pub file_with : ℕ → Option RegisterFile → List RegisterFile
@@ -55,11 +59,7 @@ file_with width (Some file) = with_width file width ∷ []
 abbrev pub files_in : List Reading → List RegisterFile
 files_in [] = []
 files_in (Ok (Section number place) ∷ before) = files_in before ++ file_with (first_width before) (file_in before)
-files_in (Ok Nothing ∷ before) = files_in before
-files_in (Ok (Version version place) ∷ before) = files_in before
-files_in (Ok (Width width first second) ∷ before) = files_in before
-files_in (Ok (Register number value first second) ∷ before) = files_in before
-files_in (Err fault ∷ before) = files_in before
+files_in (other ∷ before) = files_in before
 
 -- a dump whose last file is this one with this width
 abbrev pub dump_with : ℕ → List RegisterFile → ℕ → Option RegisterFile → Option Dump
@@ -69,6 +69,17 @@ dump_with version files width (Some file) = Some (record { version = version; fi
 -- the dump that the lines lead to
 abbrev pub dump_in : List Reading → Option Dump
 dump_in before = dump_with (version_of before) (files_in before) (first_width before) (file_in before)
+
+-- What lines behind others lead to: the dump, or the first offence. 0FEH must have been given where they end.
+abbrev pub read_from : Place → List Reading → List Reading → Result Dump DumpFault
+read_from end before [] = ok_or (dump_in before) (fault_at NoCap end)
+read_from end before (line ∷ rest) = option_map_or (λ fault. Err fault) (offence_of before line) (read_from end (line ∷ before) rest)
+
+abbrev pub read_text : List ℕ → Result Dump DumpFault
+read_text text = read_from (end_of text) [] (said_by text)
+
+abbrev pub dump_offence : List ℕ → Option DumpFault
+dump_offence text = result_err (read_text text)
 
 -- A reader between two lines.
 pub record State : Type 0 where

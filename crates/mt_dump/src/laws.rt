@@ -1,12 +1,13 @@
-ghost use Rattle.std.specs.Prelude.{◌≡◌, ◌<◌, ◌≤◌, ◌⊎◌, ◌↔◌, ◌∷◌, ◌++◌, ℕ, List, length, not, true, false, Some, None};
+ghost use Rattle.std.specs.Prelude.{◌≡◌, ◌<◌, ◌≤◌, ◌⊎◌, ◌↔◌, ◌∷◌, ◌++◌, ℕ, List, length, not, true, false, Some, None, Ok};
 ghost use Rattle.std.specs.List.{AllByRecursion, list_all};
 ghost use Rattle.mt_text.specs.Text.{is_line_end, lines_of, longest_line};
 ghost use Rattle.mt_regs.specs.RegisterFile.{RegisterFile};
 ghost use Rattle.mt_regs.specs.Words.{HasWords};
 ghost use Rattle.mt_dump.specs.Canon.{canon};
-ghost use Rattle.mt_dump.specs.Dump.{Shown, dump_offence, said_by, tells_version};
+ghost use Rattle.mt_dump.specs.Dump.{Shown, said_by, tells_version};
 ghost use Rattle.mt_dump.specs.Dumps.{Dump, IsDump, dump_of};
 ghost use Rattle.mt_dump.specs.Plain.{PlainlyShown};
+ghost use Rattle.mt_dump.specs.Reader.{dump_offence, read_text};
 ghost use Rattle.mt_dump.specs.declared.fault.DumpFault.{DumpFault};
 
 use mt_regs::RegFile;
@@ -14,6 +15,11 @@ use mt_regs::RegFile;
 /// A text shows one dump at most.
 pub fn a_text_shows_one_dump()
     ensures { (text : List ℕ) (dump other : Dump) → Shown text dump → Shown text other → dump ≡ other }
+{}
+
+/// A text is read as a dump if and only if it shows the dump.
+pub fn a_text_is_read_as_what_it_shows()
+    ensures { (text : List ℕ) (dump : Dump) → (read_text text ≡ Ok dump) ↔ Shown text dump }
 {}
 
 /// A text shows a dump exactly where it has no offence.

@@ -1,4 +1,4 @@
-ghost use Rattle.std.specs.Prelude.{◌≡◌, ◌≢◌, ◌≤◌, ◌<◌, ◌+◌, ◌-◌, ◌==◌, ◌&&◌, nat_lt, not, ◌∷◌, ℕ, List, [], length, Some, None, Ok, Err, ◌↔◌, IfErr, IfOk, IsErrOf, MatchResult, MatchOption};
+ghost use Rattle.std.specs.Prelude.{◌≡◌, ◌≢◌, ◌≤◌, ◌<◌, ◌+◌, ◌-◌, ◌==◌, ◌&&◌, nat_lt, not, ◌∷◌, ℕ, List, [], length, Some, None, is_some, Ok, Err, ◌↔◌, IfErr, IfOk, IsErrOf, MatchResult, MatchOption};
 ghost use Rattle.std.specs.Io.KnownBytes.{Consumes, IsAtEnd};
 ghost use Rattle.mt_text.specs.Text.{longest_input};
 ghost use Rattle.mt_ports.specs.Causes.{Rose};
@@ -8,8 +8,8 @@ ghost use Rattle.mt_regs.specs.RegisterFile.{blank_file, low_byte};
 ghost use Rattle.mt_dump.specs.declared.fault.DumpFault.{DumpFault};
 ghost use Rattle.mt_dump.specs.Line.{Reading, fault_at, said_of};
 ghost use Rattle.mt_dump.specs.Dumps.{Dump as DumpValue};
-ghost use Rattle.mt_dump.specs.Dump.{Shown, ShownBy, offence_of, offence_said, offence_at_end, dump_offence, is_given, is_outside};
-ghost use Rattle.mt_dump.specs.Reader.{HasRead, onto, with_width};
+ghost use Rattle.mt_dump.specs.Dump.{Shown, offence_of, offence_said, is_outside};
+ghost use Rattle.mt_dump.specs.Reader.{HasRead, dump_in, dump_offence, read_from, with_width};
 
 use crate::dumps::Dump;
 use crate::line::read_line;
@@ -278,16 +278,14 @@ impl DumpReader {
 
     // Whether a line gave 0FEH, so that the end can have no offence.
     fn is_complete(&self) -> bool
-        ensures { (before : List Reading) → HasRead self.now before → result ≡ is_given 0xfe (onto before []) }
+        ensures { (before : List Reading) → HasRead self.now before → result ≡ is_some (dump_in before) }
     {
         self.file.is_some()
     }
 
     /// The dump of all lines that were read. Where none of them gave 0FEH the fault stands at the place.
     pub fn finish(self, at: Place) -> Result<Dump, DumpFault>
-        ensures { (before : List Reading) → HasRead self before → MatchResult result
-            (λ dump. ShownBy (onto before []) dump)
-            (λ fault. offence_at_end at (onto before []) ≡ Some fault) }
+        ensures { (before : List Reading) → HasRead self before → result ≡ read_from at before [] }
     {
         let version = self.version;
         let width = self.width;

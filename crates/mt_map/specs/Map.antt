@@ -13,7 +13,8 @@ use Rattle.mt_regs.specs.RegisterFile.{RegisterFile}
 use Rattle.mt_regs.specs.Faults.{register_fault}
 use Rattle.mt_regs.specs.Agreement.{first_difference, first_refusal}
 use Rattle.mt_dump.specs.Dumps.{Dump, first_file}
-use Rattle.mt_dump.specs.Dump.{Shown, dump_offence}
+use Rattle.mt_dump.specs.Dump.{Shown}
+use Rattle.mt_dump.specs.Reader.{dump_offence}
 use Rattle.mt_dump.specs.declared.fault.DumpFault.{DumpFault}
 use Rattle.mt_output.specs.Lines.{bad_text_line, dump_refused_line, line}
 use Rattle.mt_output.specs.Written.{Writes}

@@ -1,4 +1,5 @@
 pub mod Lines
+pub mod Ports
 pub mod Program
 pub mod Writing
 pub mod Written

@@ -4,8 +4,9 @@ use Rattle.std.specs.Prelude.{◌↔◌, if◌then◌else◌}
 use Rattle.std.proofs.lemmas.Bool.Decides.{nat_tests}
 use Rattle.mt_text.specs.Text.{words_of}
 use Rattle.mt_text.specs.Words.{place_of, text_of}
+use Rattle.mt_script.specs.Numbers.{with}
 use Rattle.mt_script.proofs.FirstWords.{by_length, size, word_first}
-use Rattle.mt_proc.specs.Requests.{Answer, asked_by, by_heads, count_fault, fault_at, request_in, request_of, some_request}
+use Rattle.mt_proc.specs.Requests.{Answer, asked_by, by_heads, count_fault, fault_at, request_in, request_of}
 use Rattle.mt_proc.specs.declared.request.ProcReason.TheVariants.{BadLine}
 
 module _ (words : List (ℕ × List ℕ)) (many : 7 ≤ length words) (number : ℕ) where
@@ -36,11 +37,11 @@ module _ (words : List (ℕ × List ℕ)) (many : 7 ≤ length words) (number : 
 pub asked_first : (number : ℕ) (words : List (ℕ × List ℕ)) → asked_by number (take 7 words) ≡ asked_by number words
 asked_first number words = by_length words (asked_by number) (λ many.
     let some : (length words == 0) ≡ false = grind (arith, nat_tests) in
-    rw (size words many, some) (ap some_request (many_first words many number)))
+    rw (size words many, some) (ap (λ asked. with asked (λ request. Ok (Some request))) (many_first words many number)))
 
 -- ---- lines without words
 
-none_asked : (answer : Answer) → some_request answer ≡ Ok None → ⊥
+none_asked : (answer : Answer) → with answer (λ request. Ok (Some request)) ≡ Ok None → ⊥
 none_asked (Ok request) is = cc is
 none_asked (Err fault) is = cc is
 

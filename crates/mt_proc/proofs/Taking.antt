@@ -1,5 +1,5 @@
 -- What a run of `proc` makes of one line.
-use Rattle.std.proofs.Common.{◌≡◌, ap, sym, refl, subst, ℕ, ◌+◌, List, ◌++◌, Option, None, Some, Result, Ok, Err}
+use Rattle.std.proofs.Common.{◌≡◌, ap, sym, refl, subst, ℕ, List, ◌++◌, Option, None, Some, Result, Ok, Err}
 use Rattle.std.specs.Prelude.{◌≢◌, IfOk}
 use Rattle.mt_ports.specs.Puts.{AppendsFront}
 use Rattle.mt_ports.specs.declared.status.Failed.{Failed}
@@ -9,7 +9,8 @@ use Rattle.mt_output.specs.Writing.{Adds, Passes}
 use Rattle.mt_machine.specs.Machine.{Machine}
 use Rattle.mt_dump.specs.Line.{Reading}
 use Rattle.mt_dump.specs.Reader.{HasRead, State}
-use Rattle.mt_stream.specs.Lines.{Fails, GoesOn, Leading, Leads, Takes, from_line, stop_status}
+use Rattle.mt_stream.specs.Lines.{AtLine, Fails, GoesOn, Leads, Takes, at_line, stop_status}
+use Rattle.mt_output.specs.Ports.{Port, Waiting}
 use Rattle.mt_stream.specs.Told.{told}
 use Rattle.mt_stream.proofs.Taking.{takes_last}
 use Rattle.mt_proc.specs.declared.running.Run.{Run}
@@ -19,26 +20,27 @@ use Rattle.mt_proc.specs.Serving.{served}
 use Rattle.mt_proc.specs.Running.{AllServe, IsAt, IsQuiet, LeadsBy, StandsAt, path_from}
 
 -- a line leads on by its step
-pub leads_by : (cpus : ℕ) (p : Point) (number : ℕ) (line : List ℕ) → LeadsBy cpus (from_line number line (path_from cpus p)) (proc_step cpus number line p) (number + 1)
-leads_by cpus p number line (Some end) lines = refl
-leads_by cpus p number line None lines = refl
+pub leads_by : (cpus : ℕ) (p : Point) (number : ℕ) (line so_far : List ℕ) → LeadsBy cpus (at_line number line so_far (path_from cpus p)) (proc_step cpus number line p)
+leads_by cpus p number line so_far (Some end) lines = refl
+leads_by cpus p number line so_far None lines = refl
 
-pub leads_as : (cpus : ℕ) (from : Leading) (number : ℕ) (answer other : Answer) → answer ≡ other → LeadsBy cpus from answer number → LeadsBy cpus from other number
-leads_as cpus from number answer other is leads = subst (λ (a : Answer). LeadsBy cpus from a number) is leads
+module _ (cpus : ℕ) (here : AtLine) where
+  pub leads_as : (answer other : Answer) → answer ≡ other → LeadsBy cpus here answer → LeadsBy cpus here other
+  leads_as answer other is leads = subst (λ (a : Answer). LeadsBy cpus here a) is leads
 
-module _ (cpus : ℕ) (from : Leading) (number : ℕ) (so_far : List ℕ) (now : Run) (waiting left : List ℕ) (a b : Option (List ℕ)) where
-  pub goes : (text : List ℕ) (next : Point) → LeadsBy cpus from (Ok (text, next)) number → IsAt now next → IsQuiet now (so_far ++ text) → AllServe cpus now → Passes waiting text left a b
-      → GoesOn (StandsAt cpus now) from number so_far waiting left a b
-  goes text next leads at quiet each passed = record { next = path_from cpus next; at = (next, at, quiet, refl, each); text = text; goes = leads; passed = passed }
+  module _ (now : Run) (writer : Waiting) (sink : Port) where
+    pub goes : (text : List ℕ) (next : Point) → LeadsBy cpus here (Ok (text, next)) → IsAt now next → IsQuiet now (here.so_far ++ text) → AllServe cpus now → Passes writer.old text writer.new sink.old sink.new
+        → GoesOn (StandsAt cpus now) here writer sink
+    goes text next leads at quiet each passed = record { next = path_from cpus next; at = (next, at, quiet, refl, each); text = text; goes = leads; passed = passed }
 
-  pub ends : (text : List ℕ) (stop : Stop) (result : Result (Option Stop) Failed) → LeadsBy cpus from (Err (told text (stop_status stop))) number → stop ≢ NoMemory → Adds waiting text left a b result
-      → IfOk result (λ ended. ended ≡ Some stop) → Takes (StandsAt cpus now) from number so_far waiting left a b result
-  ends text stop result leads other adds is = takes_last (StandsAt cpus now) from number so_far text waiting left stop a b result (λ end lines. ap (λ (x : Leads). x.tells) (leads end lines)) other adds is
+    pub ends : (text : List ℕ) (stop : Stop) (result : Result (Option Stop) Failed) → LeadsBy cpus here (Err (told text (stop_status stop))) → stop ≢ NoMemory → Adds writer.old text writer.new sink.old sink.new result
+        → IfOk result (λ ended. ended ≡ Some stop) → Takes (StandsAt cpus now) here writer sink result
+    ends text stop result leads other adds is = takes_last (StandsAt cpus now) here text writer sink stop result (λ end lines. ap (λ (x : Leads). x.tells) (leads end lines)) other adds is
 
-  pub fails : (text : List ℕ) (next : Point) → LeadsBy cpus from (Ok (text, next)) number → AppendsFront a b (waiting ++ text) → Fails from waiting a b
-  fails text next leads failed = record {
+  pub fails : (waiting text : List ℕ) (sink : Port) (next : Point) → LeadsBy cpus here (Ok (text, next)) → AppendsFront sink.old sink.new (waiting ++ text) → Fails here waiting sink
+  fails waiting text sink next leads failed = record {
     text = text;
-    front = λ end lines. ((from_point cpus next end number lines).text, ap (λ (x : Leads). x.tells.text) (leads end lines));
+    front = λ end lines. ((from_point cpus next end here.next_number lines).text, ap (λ (x : Leads). x.tells.text) (leads end lines));
     failed = failed;
   }
 

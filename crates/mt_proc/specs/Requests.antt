@@ -2,13 +2,15 @@
 --     request_of number line      the answer for the line of this number
 -- A line is `base=HEX size=HEX type=NAME` or `disable=D`. Its tests come in the order of the definitions:
 -- the first word, the number of words, how they begin, the numbers from left to right, the type.
-use Rattle.std.specs.Prelude.{ℕ, ◌-◌, ◌==◌, nat_lt, nat_eq, codes, Bool, List, length, take, drop, if◌then◌else◌, Option, Some, None, Result, Ok, Err}
+use Rattle.std.specs.Prelude.{ℕ, ◌-◌, ◌==◌, nat_lt, nat_eq, codes, Bool, List, length, take, drop, if◌then◌else◌, Option, Some, None, ok_or, Result, Ok, Err}
+use Rattle.std.specs.Option.{option_map_or}
 use Rattle.std.specs.Cmp.Lexicographic.{pointwise}
 use Rattle.mt_text.specs.Text.{is_too_long, past_limit, words_of}
 use Rattle.mt_text.specs.Words.{text_of, place_of}
 use Rattle.mt_text.specs.Number.{hex_number, decimal_number}
 use Rattle.mt_text.specs.declared.fault.NumberFault.{NumberFault}
 use Rattle.mt_text.specs.declared.place.Place.{Place}
+use Rattle.mt_script.specs.Numbers.{with}
 use Rattle.mt_kinds.specs.declared.mem_type.MemType.{MemType}
 use Rattle.mt_kinds.specs.declared.mem_type.MemType.TheVariants.{UC, WC, WT, WP, WB}
 use Rattle.mt_proc.specs.declared.request.Request.{Request}
@@ -53,28 +55,15 @@ abbrev pub number_at : Place → Result ℕ NumberFault → Result ℕ ProcFault
 number_at place (Ok number) = Ok number
 number_at place (Err fault) = Err (fault_at BadNumber place)
 
--- what a good number leads to
-abbrev pub with : Result ℕ ProcFault → (ℕ → Answer) → Answer
-with (Ok number) next = next number
-with (Err fault) next = Err fault
-
--- a word that begins as it is to, or the fault of the word
-abbrev pub headed : Place → Option (List ℕ) → (List ℕ → Answer) → Answer
-headed place (Some text) next = next text
-headed place None next = Err (fault_at BadLine place)
-
-abbrev pub of_type : Place → Option MemType → (MemType → Request) → Answer
-of_type place (Some kind) make = Ok (make kind)
-of_type place None make = Err (fault_at UnknownType place)
-
 -- three words, of which the first one's digits are these
 abbrev pub range_of : ℕ → List (ℕ × List ℕ) → List ℕ → Answer
 range_of number words base =
-    headed (place_of number words 1) (behind (codes "size=") (text_of words 1)) (λ size.
-    headed (place_of number words 2) (behind (codes "type=") (text_of words 2)) (λ name.
+    with (ok_or (behind (codes "size=") (text_of words 1)) (fault_at BadLine (place_of number words 1))) (λ size.
+    with (ok_or (behind (codes "type=") (text_of words 2)) (fault_at BadLine (place_of number words 2))) (λ name.
     with (number_at (place_of number words 0) (hex_number base)) (λ from.
     with (number_at (place_of number words 1) (hex_number size)) (λ count.
-    of_type (place_of number words 2) (type_named name) (Range from count)))))
+    with (ok_or (type_named name) (fault_at UnknownType (place_of number words 2))) (λ kind.
+    Ok (Range from count kind))))))
 
 -- the last word is at fault where there are too few words, and the first one that is too many where there are too many
 abbrev pub count_fault : ℕ → List (ℕ × List ℕ) → ℕ → Option ProcFault
@@ -83,30 +72,21 @@ count_fault number words wanted =
     else if nat_lt wanted (length words) then Some (fault_at BadLine (place_of number words wanted))
     else None
 
--- a fault, or else another answer
-abbrev pub unless : Option ProcFault → Answer → Answer
-unless (Some fault) answer = Err fault
-unless None answer = answer
-
 abbrev pub disable_of : ℕ → List (ℕ × List ℕ) → List ℕ → Answer
 disable_of number words digits = with (number_at (place_of number words 0) (decimal_number digits 0xffffffffffffffff)) (λ n. Ok (Disable n))
 
 -- a line with words, by what stands in the first one behind either head
 abbrev pub by_heads : ℕ → List (ℕ × List ℕ) → Option (List ℕ) → Option (List ℕ) → Answer
-by_heads number words (Some base) other = unless (count_fault number words 3) (range_of number words base)
-by_heads number words None (Some digits) = unless (count_fault number words 1) (disable_of number words digits)
+by_heads number words (Some base) other = option_map_or (λ fault. Err fault) (count_fault number words 3) (range_of number words base)
+by_heads number words None (Some digits) = option_map_or (λ fault. Err fault) (count_fault number words 1) (disable_of number words digits)
 by_heads number words None None = Err (fault_at BadLine (place_of number words 0))
 
 abbrev pub request_in : ℕ → List (ℕ × List ℕ) → Answer
 request_in number words = by_heads number words (behind (codes "base=") (text_of words 0)) (behind (codes "disable=") (text_of words 0))
 
-abbrev pub some_request : Answer → Result (Option Request) ProcFault
-some_request (Ok request) = Ok (Some request)
-some_request (Err fault) = Err fault
-
 -- a line of these words; one without words asks for nothing
 abbrev pub asked_by : ℕ → List (ℕ × List ℕ) → Result (Option Request) ProcFault
-asked_by number words = if length words == 0 then Ok None else some_request (request_in number words)
+asked_by number words = if length words == 0 then Ok None else with (request_in number words) (λ request. Ok (Some request))
 
 abbrev pub request_of : ℕ → List ℕ → Result (Option Request) ProcFault
 request_of number line =

@@ -5,7 +5,8 @@ use Rattle.mt_regs.specs.Agreement.{first_refusal}
 use Rattle.mt_dump.specs.Dumps.{Dump}
 use Rattle.mt_dump.specs.Reader.{HasRead}
 use Rattle.mt_script.specs.Head.{ends_dump, shows, step_in_dump}
-use Rattle.mt_stream.specs.Lines.{Leading, Path, Running, early_at, running}
+use Rattle.mt_stream.specs.Lines.{AtLine, Path, Running, early_at, running}
+use Rattle.mt_output.specs.Ports.{Held, Port}
 use Rattle.mt_stream.specs.Runs.{AsksBy, RefusesMemory}
 use Rattle.mt_stream.specs.Told.{Told, told_step}
 use Rattle.mt_proc.specs.declared.running.ProcRun.{ProcRun}
@@ -43,9 +44,10 @@ AllServe cpus (run.Requests m) = (length m.system.processors ≡ cpus) × Serves
 abbrev pub StandsAt : ℕ → Run → List ℕ → Path → Type 0
 StandsAt cpus now so_far was = (p : Point) × IsAt now p × IsQuiet now so_far × (was ≡ path_from cpus p) × AllServe cpus now
 
--- what a line and those behind it, of which the first has this number, lead to by the line's answer
-abbrev pub LeadsBy : ℕ → Leading → Answer → ℕ → Type 0
-LeadsBy cpus from answer number = (end : Option Place) (lines : List (List ℕ)) → from end lines ≡ record { tells = told_step (λ p. from_point cpus p end number lines) answer; early = [] }
+-- what a line and those behind it lead to by the line's answer
+abbrev pub LeadsBy : ℕ → AtLine → Answer → Type 0
+LeadsBy cpus here answer =
+    (end : Option Place) (lines : List (List ℕ)) → here.leads end lines ≡ record { tells = told_step (λ p. from_point cpus p end here.next_number lines) answer; early = [] }
 
 -- no more requests were carried out
 abbrev pub HasCount : ℕ → Run → Type 0
@@ -68,8 +70,8 @@ AsksAt cpus (in_dump before) number line = (dump : Dump) × (step_in_dump (situa
 AsksAt cpus (in_requests now) number line = ⊥
 
 -- Memory was refused at that line, or before anything was read.
-abbrev pub OutOfMemory : ℕ → List ℕ → Option (List ℕ) → Option (List ℕ) → Option (List ℕ) → Type 0
-OutOfMemory cpus bytes left before after = RefusesMemory (from_point cpus (in_dump [])) (AsksBy (from_point cpus) (AsksAt cpus)) bytes left before after
+abbrev pub OutOfMemory : ℕ → Held → Port → Type 0
+OutOfMemory cpus source sink = RefusesMemory (from_point cpus (in_dump [])) (AsksBy (from_point cpus) (AsksAt cpus)) source sink
 
 -- ---- all of it
 

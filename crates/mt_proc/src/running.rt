@@ -7,8 +7,9 @@ ghost use Rattle.mt_regs.specs.Faults.{IsAccepted};
 ghost use Rattle.mt_regs.specs.Agreement.{first_refusal};
 ghost use Rattle.mt_dump.specs.ForProcessors.{files_for, has_each};
 ghost use Rattle.mt_machine.specs.Machine.{Machine};
-ghost use Rattle.mt_stream.specs.Handling.{Taken, out};
-ghost use Rattle.mt_stream.specs.Lines.{IfGoesOn, Leading, Path, Takes, from_line};
+ghost use Rattle.mt_stream.specs.Handling.{Taken};
+ghost use Rattle.mt_stream.specs.Lines.{AtLine, IfGoesOn, Path, Takes, at_line};
+ghost use Rattle.mt_output.specs.Ports.{change, held, port};
 ghost use Rattle.mt_stream.specs.Runs.{EndsAs, Runs};
 ghost use Rattle.mt_proc.specs.After.{era_line};
 ghost use Rattle.mt_proc.specs.Listing.{listing};
@@ -79,8 +80,8 @@ fn begin<K: Sink>(
     requires few { cpus ≤ 16 }
     requires dump { IsDump run.old }
     requires each { has_each cpus dump.now ≡ true }
-    ensures bytes { (from : Leading) (number : ℕ) → LeadsBy cpus from (begins dump.now (first_refusal dump.now.files)) number
-        → Takes (StandsAt cpus run.new) from number [] writer.old writer.new (K.taken sink.old) (K.taken sink.new) result }
+    ensures bytes { (here : AtLine) → LeadsBy cpus here (begins dump.now (first_refusal dump.now.files))
+        → Takes (StandsAt cpus run.new) (record here { so_far = [] }) (change writer.old writer.new) (port K.taken sink.old sink.new) result }
     ensures asks { result ≡ Ok (Some Stop.NoMemory) → first_refusal dump.now.files ≡ None }
     ensures starts { (m : Machine) → run.new ≡ Run.Requests m → m ≡ idling (files_for cpus dump.now) 0 }
     ensures counts { (most : ℕ) → IfGoesOn result (HasCount most run.new) }
@@ -109,9 +110,9 @@ fn take_request<R: Threads + Wait + Sync, K: Sink, G: Gate>(
     sink: &mut K,
 ) -> Result<Option<Stop>, Failed>
     requires { (served processors.old).count < 2 ^ 64 - 1 }
-    ensures bytes { (cpus : ℕ) (from : Leading) (number : ℕ) (so_far : List ℕ) → AllServe cpus (Run.Requests processors.old) →
-        LeadsBy cpus from (of_request (served processors.old) (request_of line.now.number line.now.bytes.now)) number
-        → Takes (StandsAt cpus (Run.Requests processors.new)) from number so_far writer.old writer.new (K.taken sink.old) (K.taken sink.new) result }
+    ensures bytes { (cpus : ℕ) (here : AtLine) → AllServe cpus (Run.Requests processors.old)
+        → LeadsBy cpus here (of_request (served processors.old) (request_of line.now.number line.now.bytes.now))
+        → Takes (StandsAt cpus (Run.Requests processors.new)) here (change writer.old writer.new) (port K.taken sink.old sink.new) result }
     ensures asks { result ≢ Ok (Some Stop.NoMemory) }
     ensures counts { (most : ℕ) → (served processors.old).count ≤ most → IfGoesOn result ((served processors.new).count ≤ most + 1) }
     ensures cause { HasCause (K.faults sink.old) (K.faults sink.new) result }
@@ -148,7 +149,7 @@ fn take_line<R: Threads + Wait + Sync, K: Sink, G: Gate>(
     requires few { cpus ≤ 16 }
     requires room { HasRoom run.old }
     ensures bytes { (so_far : List ℕ) (was : Path) → StandsAt cpus run.old so_far was →
-        Takes (StandsAt cpus run.new) (from_line line.now.number line.now.bytes.now was) (line.now.number + 1) so_far writer.old writer.new (K.taken sink.old) (K.taken sink.new) result }
+        Takes (StandsAt cpus run.new) (at_line line.now.number line.now.bytes.now so_far was) (change writer.old writer.new) (port K.taken sink.old sink.new) result }
     ensures asks { (p : Point) → IsAt run.old p → result ≡ Ok (Some Stop.NoMemory) → AsksAt cpus p line.now.number line.now.bytes.now }
     ensures counts { (most : ℕ) → HasCount most run.old → IfGoesOn result (HasCount (most + 1) run.new) }
     ensures cause { HasCause (K.faults sink.old) (K.faults sink.new) result }
@@ -258,13 +259,14 @@ pub fn proc_with<R: Threads + Wait + Sync, S: Source, K: Sink, G: Gate>(
     requires few { cpus ≤ 16 }
 
     // Where the source tells its bytes, what each status says of them and of what the sink took.
-    ensures bytes { (bytes : List ℕ) → S.left source.old ≡ Some bytes → Runs (proc_told cpus) [] bytes (S.left source.new) (K.taken sink.old) (K.taken sink.new) result }
+    ensures bytes { (bytes : List ℕ) → S.left source.old ≡ Some bytes → Runs (proc_told cpus) [] (held bytes (S.left source.new)) (port K.taken sink.old sink.new) result }
 
     // The status is the text's, unless a port fails, too much is read or memory is refused.
     ensures complete { (bytes : List ℕ) → S.left source.old ≡ Some bytes → EndsAs (proc_transcript cpus bytes).status result }
 
     // Memory is refused before anything is read, or at the dump's end.
-    ensures memory { (bytes : List ℕ) → S.left source.old ≡ Some bytes → result ≡ Status.NoMemory → OutOfMemory cpus bytes (S.left source.new) (K.taken sink.old) (K.taken sink.new) }
+    ensures memory { (bytes : List ℕ) → S.left source.old ≡ Some bytes → result ≡ Status.NoMemory
+        → OutOfMemory cpus (held bytes (S.left source.new)) (port K.taken sink.old sink.new) }
 
     // A port that failed did so once, and the status is its fault; at every other status none failed.
     ensures read_fault { StatusHasCause Status.ReadFault (S.faults source.old) (S.faults source.new) result }
@@ -282,8 +284,9 @@ pub fn proc_with<R: Threads + Wait + Sync, S: Source, K: Sink, G: Gate>(
     };
     let take = |run: &mut ProcRun, line: &Line<'_>, writer: &mut Writer, sink: &mut K|
         requires { HasRoom run.old.run × HasCpus run.old }
-        ensures { Taken proc_running run.old run.new line.now
-            (out writer.old (K.taken sink.old) (K.faults sink.old)) (out writer.new (K.taken sink.new) (K.faults sink.new)) result }
+        ensures { Taken proc_running
+            (record { line = line.now; run = change run.old run.new; writer = change writer.old writer.new; sink = port K.taken sink.old sink.new; faults = change (K.faults sink.old) (K.faults sink.new) })
+            result }
     { take_line(caller, alloc, run.cpus, &mut run.run, line, writer, sink) };
     run_lines(take, &mut run, source, &mut writer, sink)
 }
@@ -307,13 +310,14 @@ pub fn proc<R: AllocGlobal + Threads + Wait + Sync, S: Source, K: Sink, G: Gate>
     requires few { cpus ≤ 16 }
 
     // Where the source tells its bytes, what each status says of them and of what the sink took.
-    ensures bytes { (bytes : List ℕ) → S.left source.old ≡ Some bytes → Runs (proc_told cpus) [] bytes (S.left source.new) (K.taken sink.old) (K.taken sink.new) result }
+    ensures bytes { (bytes : List ℕ) → S.left source.old ≡ Some bytes → Runs (proc_told cpus) [] (held bytes (S.left source.new)) (port K.taken sink.old sink.new) result }
 
     // The status is the text's, unless a port fails, too much is read or memory is refused.
     ensures complete { (bytes : List ℕ) → S.left source.old ≡ Some bytes → EndsAs (proc_transcript cpus bytes).status result }
 
     // Memory is refused before anything is read, or at the dump's end.
-    ensures memory { (bytes : List ℕ) → S.left source.old ≡ Some bytes → result ≡ Status.NoMemory → OutOfMemory cpus bytes (S.left source.new) (K.taken sink.old) (K.taken sink.new) }
+    ensures memory { (bytes : List ℕ) → S.left source.old ≡ Some bytes → result ≡ Status.NoMemory
+        → OutOfMemory cpus (held bytes (S.left source.new)) (port K.taken sink.old sink.new) }
 
     // A port that failed did so once, and the status is its fault; at every other status none failed.
     ensures read_fault { StatusHasCause Status.ReadFault (S.faults source.old) (S.faults source.new) result }

@@ -1,15 +1,17 @@
 -- What the lines of a script come to up to its dump's end: an offence, or the one dump that they show, and where its lines end.
 use Rattle.std.proofs.Common.{◌≡◌, ◌∙◌, ap, sym, refl, subst, arith, ℕ, ◌+◌, length, Bool, true, false, List, [], ◌∷◌, ◌++◌, Option, None, Some, Result, Ok, Err, if◌then◌else◌}
 use Rattle.std.specs.Prelude.{◌↔◌, is_some}
-use Rattle.std.specs.Option.{option_map}
+use Rattle.std.specs.Option.{option_map, option_map_or}
 use Rattle.mt_text.specs.Text.{end_of, lines_of, words_of}
 use Rattle.mt_text.specs.declared.place.Place.{Place}
 use Rattle.mt_dump.specs.Line.{Reading, said_of}
-use Rattle.mt_dump.specs.Dump.{ShownBy, offence_at_end, offence_of}
+use Rattle.mt_dump.specs.Dump.{ShownBy, offence_of}
 use Rattle.mt_dump.specs.Dumps.{Dump, IsDump}
 use Rattle.mt_dump.specs.ForProcessors.{has_each}
-use Rattle.mt_dump.specs.Reader.{IsClean, dump_in, onto}
+use Rattle.mt_dump.specs.Reader.{IsClean, dump_in, onto, read_from}
 use Rattle.mt_dump.specs.declared.fault.DumpFault.{DumpFault}
+use Rattle.mt_dump.proofs.Complete.{complete}
+use Rattle.mt_dump.proofs.Ends.{led_to}
 use Rattle.mt_dump.proofs.OneLine.{is_sane}
 use Rattle.mt_dump.proofs.Stands.{clean_is_dump, clean_shown, shown_once}
 use Rattle.mt_script.specs.Situation.{Situation, at_start}
@@ -19,20 +21,19 @@ use Rattle.mt_script.specs.Words.{place_of}
 use Rattle.mt_script.specs.Numbers.{fault_at}
 use Rattle.mt_script.specs.Commands.{command_of, end_fault}
 use Rattle.mt_script.specs.Accept.{Fits, accepted, finished}
-use Rattle.mt_script.specs.Head.{HeadStep, goes_on, head_step, is_end_command, offends, or_sections, sections_offence, shows, step_in_dump, step_of_answer, step_of_command, step_shown, step_unless}
-use Rattle.mt_script.specs.Script.{at_end, offence_after, offence_in, script_offence}
+use Rattle.mt_script.specs.Head.{HeadStep, end_step, goes_on, head_step, is_end_command, offends, shows, step_in_dump, step_of_answer, step_of_command}
+use Rattle.mt_script.specs.Script.{offence_after, offence_in, script_offence}
 use Rattle.mt_script.specs.declared.command.Command.{Command}
 use Rattle.mt_script.specs.declared.command.Command.TheVariants as command
 use Rattle.mt_script.specs.declared.command.Stage.{Stage}
 use Rattle.mt_script.specs.declared.command.Stage.TheVariants.{Rams, Commands}
 use Rattle.mt_script.specs.declared.fault.ScriptFault.{ScriptFault}
-use Rattle.mt_script.specs.declared.fault.ScriptReason.TheVariants.{NoEnd}
+use Rattle.mt_script.specs.declared.fault.ScriptReason.TheVariants.{NoEnd, OutOfRange}
 use Rattle.mt_script.specs.declared.fault.Offence.{Offence}
 use Rattle.mt_script.specs.declared.fault.Offence.TheVariants as offence
-use Rattle.mt_script.proofs.Ends.{none_ends, shown_end}
 use Rattle.mt_script.proofs.Keeping.{accepted_is, start_is}
 use Rattle.mt_replay.specs.Heads.{HeadEnd, end_after, head_end, head_of, has_offence, shows_dump, stays_open}
-use Rattle.mt_replay.specs.Statuses.{ShowsAfter, ShowsAt, ShowsDump, ShowsIn}
+use Rattle.mt_replay.specs.Statuses.{ShowsAfter, ShowsAt, ShowsDump, ShowsIn, head_line}
 use Rattle.mt_replay.proofs.Keeping.States.{command_known}
 
 -- only the dump's end gives a situation its dump
@@ -62,44 +63,43 @@ module _ (number : ℕ) (line : List ℕ) (Later : Dump → Situation → List R
   Ended d = ShownBy (onto before []) d × (has_each now.cpus d ≡ true)
 
   -- the dump's end
-  counted : is_in_dump now.stage ≡ true → (dump : Dump) → dump_in before ≡ Some dump → (each : Bool) → has_each now.cpus dump ≡ each → LeadsTo now Ended Later (step_unless (sections_offence now.cpus place (Some dump)) (shows dump))
-  counted in_dump dump led true each = rw each (in_dump, (clean_shown before dump clean led, each), λ d shown. shown_once (onto before []) d dump shown.0 (clean_shown before dump clean led), clean_is_dump before dump clean led, each)
-  counted in_dump dump led false each = rw each (λ d shown. let same = shown_once (onto before []) d dump shown.0 (clean_shown before dump clean led) in absurd (cc (shown.1, each, same)))
+  counted : is_in_dump now.stage ≡ true → (dump : Dump) → dump_in before ≡ Some dump → (each : Bool) → has_each now.cpus dump ≡ each
+      → LeadsTo now Ended Later (if each then shows dump else offends (offence.Script (fault_at OutOfRange place)))
+  counted in_dump dump led true each = (in_dump, (clean_shown before dump clean led, each), λ d shown. shown_once (onto before []) d dump shown.0 (clean_shown before dump clean led), clean_is_dump before dump clean led, each)
+  counted in_dump dump led false each = λ d shown. let same = shown_once (onto before []) d dump shown.0 (clean_shown before dump clean led) in absurd (cc (shown.1, each, same))
 
-  ended : is_in_dump now.stage ≡ true → (found : Option Dump) → dump_in before ≡ found → (fault : Option DumpFault) → offence_at_end place (onto before []) ≡ fault
-      → LeadsTo now Ended Later (step_unless (or_sections fault (sections_offence now.cpus place found)) (step_shown now before found))
-  ended in_dump found led (Some fault) bad = λ d shown. let good = shown_end place (onto before []) d shown.0 in cc (bad, good)
-  ended in_dump None led None good = absurd (none_ends place before clean led good)
-  ended in_dump (Some dump) led None good = counted in_dump dump led (has_each now.cpus dump) refl
+  ended : is_in_dump now.stage ≡ true → (answer : Result Dump DumpFault) → read_from place before [] ≡ answer → LeadsTo now Ended Later (end_step now.cpus place answer)
+  ended in_dump (Err fault) bad = λ d shown. let good = complete place before [] d clean tt shown.0 in cc (bad, good)
+  ended in_dump (Ok dump) good = counted in_dump dump (led_to place before dump good) (has_each now.cpus dump) refl
 
   -- another line of the dump
   another : (fault : Option DumpFault) → offence_of before (said_of number line) ≡ fault
-      → LeadsTo now (λ d. (offence_of before (said_of number line) ≡ None) × Later d now (said_of number line ∷ before)) Later (step_unless (option_map offence.Dump fault) (goes_on now (said_of number line ∷ before)))
+      → LeadsTo now (λ d. (offence_of before (said_of number line) ≡ None) × Later d now (said_of number line ∷ before)) Later (option_map_or (λ fault. offends (offence.Dump fault)) fault (goes_on now (said_of number line ∷ before)))
   another (Some fault) bad = λ d shown. let good = shown.0 in cc (bad, good)
   another None good = (is, (is_sane number line, good, clean), refl, λ d. (λ shown. shown.1, λ later. (good, later)))
 
-  in_dump : is_in_dump now.stage ≡ true → (ends : Bool) → LeadsTo now (λ d. ShowsAt d now before (said_of number line) (Later d) ends) Later (step_in_dump now before number line ends)
-  in_dump dump true = ended dump (dump_in before) refl (offence_at_end place (onto before [])) refl
+  in_dump : is_in_dump now.stage ≡ true → (ends : Bool) → LeadsTo now (λ d. ShowsAt d (head_line now before (said_of number line)) (Later d) ends) Later (step_in_dump now before number line ends)
+  in_dump dump true = ended dump (read_from place before []) refl
   in_dump dump false = another (offence_of before (said_of number line)) refl
 
-  of_command : (c : Command) → Fits now c → (dump : Bool) → is_in_dump now.stage ≡ dump → LeadsTo now (λ d. ShowsAfter d now before (said_of number line) (Later d) c dump) Later (step_of_command now before number line c dump)
+  of_command : (c : Command) → Fits now c → (dump : Bool) → is_in_dump now.stage ≡ dump → LeadsTo now (λ d. ShowsAfter d (head_line now before (said_of number line)) (Later d) c dump) Later (step_of_command now before number line c dump)
   of_command c fits true dump = in_dump dump (is_end_command c)
   of_command c fits false dump =
       (accepted_is now is c fits (λ in_dump. absurd (let e = sym dump ∙ in_dump in cc e)), clean, dump_after now c, λ d. (λ shown. shown, λ shown. shown))
 
   abbrev Asked : Dump → Type 0
-  Asked d = (c : Command) × (command_of now number line ≡ Ok c) × ShowsAfter d now before (said_of number line) (Later d) c (is_in_dump now.stage)
+  Asked d = (c : Command) × (command_of now number line ≡ Ok c) × ShowsAfter d (head_line now before (said_of number line)) (Later d) c (is_in_dump now.stage)
 
   of_answer : (answer : Result Command ScriptFault) → command_of now number line ≡ answer → LeadsTo now Asked Later (step_of_answer now before number line answer)
   of_answer (Err fault) asked = λ d shown. let good = shown.1 in cc (asked, good)
   of_answer (Ok c) asked =
-      same_shown now (λ d. ShowsAfter d now before (said_of number line) (Later d) c (is_in_dump now.stage)) Asked Later (step_of_answer now before number line (Ok c))
+      same_shown now (λ d. ShowsAfter d (head_line now before (said_of number line)) (Later d) c (is_in_dump now.stage)) Asked Later (step_of_answer now before number line (Ok c))
       (λ d. (
         λ shown. (c, asked, shown),
         λ shown.
             let both : Ok c ≡ Ok shown.0 = sym asked ∙ shown.1 in
             let same : shown.0 ≡ c = cc both in
-            subst (λ (x : Command). ShowsAfter d now before (said_of number line) (Later d) x (is_in_dump now.stage)) same shown.2,
+            subst (λ (x : Command). ShowsAfter d (head_line now before (said_of number line)) (Later d) x (is_in_dump now.stage)) same shown.2,
       ))
       (of_command c (command_known now number line c asked) (is_in_dump now.stage) refl)
 
@@ -159,7 +159,7 @@ AllCome end number lines =
     → Comes end number lines (offence_in end number lines now before) (λ d. ShowsIn d number lines now before) (head_end number lines now before)
 
 lines_end : (end : Place) (number : ℕ) (now : Situation) (before : List Reading) → IsSituation now → now.dump ≡ None → (takes : Bool) → takes_commands now.stage ≡ takes
-    → ((if takes then None else Some (fault_at NoEnd end)) ≡ Some (fault_at NoEnd end)) × (at_end (if takes then None else Some (fault_at NoEnd end)) ≡ Some (offence.Script (fault_at NoEnd end))) × ((d : Dump) → ⊥ → ⊥)
+    → ((if takes then None else Some (fault_at NoEnd end)) ≡ Some (fault_at NoEnd end)) × (option_map offence.Script (if takes then None else Some (fault_at NoEnd end)) ≡ Some (offence.Script (fault_at NoEnd end))) × ((d : Dump) → ⊥ → ⊥)
 lines_end end number now before is fresh true takes =
     let past : is_some now.dump ≡ true = is.has_dump ∙ past_dump now.stage takes in
     absurd (let some : false ≡ true = sym (ap is_some fresh) ∙ past in cc some)

@@ -8,9 +8,8 @@ use Rattle.mt_script.specs.Situation.{Situation}
 use Rattle.mt_script.specs.Commands.{end_fault}
 use Rattle.mt_script.specs.declared.fault.ScriptFault.{ScriptFault}
 use Rattle.mt_stream.specs.Laws.{AreLaws, IsLongLed}
-use Rattle.mt_stream.specs.Lines as stream
-use Rattle.mt_stream.specs.Lines.{Leading, Path}
-use Rattle.mt_replay.specs.Running.{HasErasAt, IsAt, IsQuiet, end_of_run, leading, path_from, replay_running, setup_of}
+use Rattle.mt_stream.specs.Lines.{AtLine, Path, at_line}
+use Rattle.mt_replay.specs.Running.{HasErasAt, IsAt, IsQuiet, end_of_run, line_at, path_from, replay_running, setup_of}
 use Rattle.mt_replay.specs.Transcript.{Point, in_body, in_head, told_at_end, told_lines, told_offence}
 use Rattle.mt_replay.specs.declared.line.Run.{Run}
 use Rattle.mt_replay.specs.declared.line.Run.TheVariants as run
@@ -53,8 +52,8 @@ replay_laws = record {
 }
 
 -- a line and those behind it lead to as much as from the point where the run stands
-pub at_point : (was : Path) (came : Bool) (so_far : List ℕ) (p : Point) (F : Leading → Type 0) (number : ℕ) (line : List ℕ) → was ≡ path_from came so_far p → F (leading came so_far number line p) → F (stream.from_line number line was)
-at_point was came so_far p F number line is holds = subst (λ (t : Path). F (stream.from_line number line t)) (sym is) holds
+pub at_point : (was : Path) (came : Bool) (so_far : List ℕ) (p : Point) (F : AtLine → Type 0) (number : ℕ) (line : List ℕ) → was ≡ path_from came so_far p → F (line_at came so_far number line p) → F (at_line number line so_far was)
+at_point was came so_far p F number line is holds = subst (λ (t : Path). F (at_line number line so_far t)) (sym is) holds
 
 -- a text that may have been written so far
 pub quiet_text : Run → List ℕ

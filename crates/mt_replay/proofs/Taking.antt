@@ -28,8 +28,9 @@ use Rattle.mt_replay.specs.Parts.{AsksForMemory}
 use Rattle.mt_replay.specs.ReplayState.{ReplayState, command_text, first_state, state_after}
 use Rattle.mt_replay.specs.Newcomers.{early, is_newcomer, newcomers_from, newcomers_in, newcomers_of_dump}
 use Rattle.mt_replay.proofs.Newcomers.{body_brings, early_front, early_then, head_brings, or_true}
-use Rattle.mt_replay.specs.Running.{CarriesOut, IsAt, IsQuiet, StandsAt, from_line, leading, leading_dump, path_from}
+use Rattle.mt_replay.specs.Running.{CarriesOut, IsAt, IsQuiet, StandsAt, dump_at, from_line, line_at, path_from}
 use Rattle.mt_stream.specs.Lines.{Fails, GoesOn, Leads, Takes, leads_behind}
+use Rattle.mt_output.specs.Ports.{Port, Waiting, change}
 use Rattle.mt_replay.specs.Transcript.{Point, body_lines, head_lines, in_body, in_head, told_command, told_dump}
 use Rattle.mt_stream.specs.Told.{Told, behind, told}
 use Rattle.mt_replay.specs.declared.line.Run.{Run}
@@ -61,24 +62,24 @@ pub dump_accepted : (now : Situation) (dump : Dump) (number : ℕ) → first_ref
     → from_dump now dump number end lines ≡ behind accepted_line (body_lines end number lines (first_state now dump))
 dump_accepted now dump number is end lines = ap (told_dump now dump (body_lines end number lines)) is
 
-pub dump_goes : (now : Situation) (dump : Dump) (number : ℕ) (r : ReplayState) (waiting text left : List ℕ) (a b : Option (List ℕ)) → first_refusal dump.files ≡ None → r ≡ first_state now dump → text ≡ accepted_line
-    → Passes waiting text left a b → GoesOn (StandsAt (run.Body r)) (leading_dump now dump number) number [] waiting left a b
-dump_goes now dump number r waiting text left a b is first line passed = record {
+pub dump_goes : (now : Situation) (dump : Dump) (number : ℕ) (r : ReplayState) (text : List ℕ) (writer : Waiting) (sink : Port) → first_refusal dump.files ≡ None → r ≡ first_state now dump → text ≡ accepted_line
+    → Passes writer.old text writer.new sink.old sink.new → GoesOn (StandsAt (run.Body r)) (dump_at now dump number) writer sink
+dump_goes now dump number r text writer sink is first line passed = record {
   next = path_from false accepted_line (in_body (first_state now dump));
   at = (in_body (first_state now dump), false, (first, refl), (λ takes. refl), refl);
   text = accepted_line;
   goes = λ end lines.
       leads_then (from_dump now dump number end lines) (body_lines end number lines (first_state now dump)) false false (newcomers_in number lines (first_state now dump)) (newcomers_of_dump now dump (newcomers_in number lines) (first_refusal dump.files)) [] accepted_line
       (dump_accepted now dump number is end lines) (ap (newcomers_of_dump now dump (newcomers_in number lines)) is);
-  passed = subst (λ l. Passes waiting l left a b) line passed;
+  passed = subst (λ l. Passes writer.old l writer.new sink.old sink.new) line passed;
 }
 
-pub dump_fails : (now : Situation) (dump : Dump) (number : ℕ) (waiting text : List ℕ) (a b : Option (List ℕ)) → first_refusal dump.files ≡ None → text ≡ accepted_line → AppendsFront a b (waiting ++ text)
-    → Fails (leading_dump now dump number) waiting a b
-dump_fails now dump number waiting text a b is line failed = record {
+pub dump_fails : (now : Situation) (dump : Dump) (number : ℕ) (waiting text : List ℕ) (sink : Port) → first_refusal dump.files ≡ None → text ≡ accepted_line → AppendsFront sink.old sink.new (waiting ++ text)
+    → Fails (dump_at now dump number) waiting sink
+dump_fails now dump number waiting text sink is line failed = record {
   text = accepted_line;
   front = λ end lines. ((body_lines end number lines (first_state now dump)).text, ap (λ (t : Told). t.text) (dump_accepted now dump number is end lines));
-  failed = subst (λ l. AppendsFront a b (waiting ++ l)) line failed;
+  failed = subst (λ l. AppendsFront sink.old sink.new (waiting ++ l)) line failed;
 }
 
 -- ---- commands
@@ -97,9 +98,9 @@ pub leads : (s : ReplayState) (c : Command) (number : ℕ) (line : List ℕ) →
 leads s c number line asked end lines = from_body s number line end lines ∙ ap (told_command s (body_lines end (number + 1) lines)) asked
 
 module _ (s new : ReplayState) (c : Command) (number : ℕ) (line : List ℕ) (is : IsReplayState s) (fits : Fits s.now c) (asked : command_of s.now number line ≡ Ok c) where
-  pub command_takes : (waiting left : List ℕ) (a b : Option (List ℕ)) (result : Result (Option Stop) Failed) → CarriesOut s new c waiting left a b result → ((stop : Stop) → result ≡ Ok (Some stop) → AsksForMemory s.machine c)
-      → (came : Bool) (so_far : List ℕ) → IsQuiet (run.Body s) came so_far → Takes (StandsAt (run.Body new)) (leading came so_far number line (in_body s)) (number + 1) so_far waiting left a b result
-  command_takes waiting left a b (Ok None) does asks came so_far quiet = record {
+  pub command_takes : (writer : Waiting) (sink : Port) (result : Result (Option Stop) Failed) → CarriesOut (change s new) c writer sink result → ((stop : Stop) → result ≡ Ok (Some stop) → AsksForMemory s.machine c)
+      → (came : Bool) (so_far : List ℕ) → IsQuiet (run.Body s) came so_far → Takes (StandsAt (run.Body new)) (line_at came so_far number line (in_body s)) writer sink result
+  command_takes writer sink (Ok None) does asks came so_far quiet = record {
     next = path_from (came || is_newcomer c) (so_far ++ command_text s c) (in_body (state_after s c));
     at = (
       in_body (state_after s c),
@@ -117,7 +118,7 @@ module _ (s new : ReplayState) (c : Command) (number : ℕ) (line : List ℕ) (i
     where
       later : IsQuiet (run.Body (state_after s c)) (came || is_newcomer c) (so_far ++ command_text s c)
       later takes = let was = quiet_command s c fits takes in ap (λ l. so_far ++ l) was.1 ∙ append-nil so_far ∙ quiet was.0
-  command_takes waiting left a b (Ok (Some stop)) does asks came so_far quiet =
+  command_takes writer sink (Ok (Some stop)) does asks came so_far quiet =
       inr (record {
         refused = does.0;
         early = λ end lines. early_front (came || newcomers_from number (line ∷ lines) (in_body s)) so_far (from_line number line (in_body s) end lines).text (asked_early lines (asks stop refl));
@@ -134,17 +135,17 @@ module _ (s new : ReplayState) (c : Command) (number : ℕ) (line : List ℕ) (i
       asked_early : (lines : List (List ℕ)) → AsksForMemory s.machine c → (came || newcomers_from number (line ∷ lines) (in_body s)) ≡ false → so_far ≡ accepted_line
       asked_early lines (inl w) off = quiet (subst (Fits s.now) w.2 fits).0
       asked_early lines (inr w) off = ⊎_elim (λ up. none lines (ap is_newcomer up) off) (λ join. none lines (ap is_newcomer join) off) w.1
-  command_takes waiting left a b (Err failed) does asks came so_far quiet = record {
+  command_takes writer sink (Err failed) does asks came so_far quiet = record {
     text = command_text s c;
     front = λ end lines. ((body_lines end (number + 1) lines (state_after s c)).text, ap (λ (t : Told). t.text) (leads s c number line asked end lines));
     failed = does;
   }
 
-  pub command_eras : (most : ℕ) (waiting left : List ℕ) (a b : Option (List ℕ)) (result : Result (Option Stop) Failed) → HasEras most s → CarriesOut s new c waiting left a b result
+  pub command_eras : (most : ℕ) (writer : Waiting) (sink : Port) (result : Result (Option Stop) Failed) → HasEras most s → CarriesOut (change s new) c writer sink result
       → MatchResult result (λ ended. MatchOption ended (HasEras (most + 1) new) (λ stop. Unit {0})) (λ failed. Unit {0})
-  command_eras most waiting left a b (Ok None) eras does = subst (HasEras (most + 1)) (sym does.1) (eras_kept s c most is fits eras)
-  command_eras most waiting left a b (Ok (Some stop)) eras does = tt
-  command_eras most waiting left a b (Err failed) eras does = tt
+  command_eras most writer sink (Ok None) eras does = subst (HasEras (most + 1)) (sym does.1) (eras_kept s c most is fits eras)
+  command_eras most writer sink (Ok (Some stop)) eras does = tt
+  command_eras most writer sink (Err failed) eras does = tt
 
 pub fault_leads : (s : ReplayState) (number : ℕ) (line : List ℕ) (fault : ScriptFault) → command_of s.now number line ≡ Err fault → (end : Option Place) (lines : List (List ℕ))
     → from_line number line (in_body s) end lines ≡ told_command s (body_lines end (number + 1) lines) (Err fault)
@@ -154,7 +155,7 @@ fault_leads s number line fault asked end lines = from_body s number line end li
 
 -- the head goes on
 pub head_takes : (now next : Situation) (before after : List Reading) (number : ℕ) (line : List ℕ) (came : Bool) (so_far waiting : List ℕ) (h : HeadReader) (a : Option (List ℕ)) → head_step now before number line ≡ goes_on next after
-    → IsAt (run.Head h) (in_head next after) → (so_far ≡ []) × (came ≡ false) → GoesOn (StandsAt (run.Head h)) (leading came so_far number line (in_head now before)) (number + 1) so_far waiting waiting a a
+    → IsAt (run.Head h) (in_head next after) → (so_far ≡ []) × (came ≡ false) → GoesOn (StandsAt (run.Head h)) (line_at came so_far number line (in_head now before)) (change waiting waiting) (change a a)
 head_takes now next before after number line came so_far waiting h a is at none = record {
   next = path_from (came || false) (so_far ++ []) (in_head next after);
   at = (in_head next after, (came || false), at, (append-nil so_far ∙ none.0, ap (λ b. b || false) none.1), refl);
@@ -167,7 +168,7 @@ head_takes now next before after number line came so_far waiting h a is at none 
 
 -- a dump that is shown
 pub dump_leads : (now : Situation) (dump : Dump) (before : List Reading) (number : ℕ) (line : List ℕ) (came : Bool) (so_far : List ℕ) → head_step now before number line ≡ shows dump → (so_far ≡ []) × (came ≡ false)
-    → (end : Option Place) (lines : List (List ℕ)) → leading came so_far number line (in_head now before) end lines ≡ leading_dump now dump (number + 1) end lines
+    → (end : Option Place) (lines : List (List ℕ)) → (line_at came so_far number line (in_head now before)).leads end lines ≡ (dump_at now dump (number + 1)).leads end lines
 dump_leads now dump before number line came so_far is none end lines =
     λ i. leads_of (head_leads now before number line (shows dump) is end lines i) (none.1 i || head_brings now before number line lines (shows dump) is i) (none.0 i)
 

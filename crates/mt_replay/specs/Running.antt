@@ -1,6 +1,6 @@
 -- A replay between two lines, as its code keeps it, and what it leaves in the source and the sink (own).
---     Replays bytes left before after status      of a source that held these bytes; ReplaysAs telling .., where this is its transcript
---     AsksAt point number line      a line that asks for memory; OutOfMemory bytes left before after, where it was refused
+--     Replays source sink status      of a source that held these bytes; ReplaysAs telling .., where this is its transcript
+--     AsksAt point number line      a line that asks for memory; OutOfMemory source sink, where it was refused
 use Rattle.std.specs.Prelude.{ℕ, ◌≡◌, ◌||◌, ◌++◌, Bool, true, false, List, [], ◌∷◌, ⊤, MatchOption, MatchResult, Option, Result, None, Ok}
 use Rattle.mt_text.specs.declared.place.Place.{Place}
 use Rattle.mt_ports.specs.declared.status.Status.{Status}
@@ -17,7 +17,8 @@ use Rattle.mt_script.specs.Head.{head_step, shows}
 use Rattle.mt_machine.specs.Start.{HasEraRoom}
 use Rattle.mt_regs.specs.Agreement.{first_refusal}
 use Rattle.mt_dump.specs.Dumps.{Dump}
-use Rattle.mt_stream.specs.Lines.{Leading, Path, Running, running}
+use Rattle.mt_stream.specs.Lines.{AtLine, Path, Running, at_line, running}
+use Rattle.mt_output.specs.Ports.{Change, Held, Port, Waiting}
 use Rattle.mt_stream.specs.Runs.{AsksBy, RefusesMemory, RunsAs}
 use Rattle.mt_stream.specs.Told.{Told}
 use Rattle.mt_stream.specs.declared.ending.Stop.{Stop}
@@ -33,12 +34,12 @@ use Rattle.mt_replay.specs.declared.line.Run.TheVariants as run
 -- ---- a whole replay
 
 -- Memory is asked for before anything but the line `accepted` is written, unless a line `up` or `join` is read.
-abbrev pub ReplaysAs : Told → List ℕ → Option (List ℕ) → Option (List ℕ) → Option (List ℕ) → Status → Type 0
-ReplaysAs t bytes left before after status = RunsAs t replay_told (early_text bytes) bytes left before after status
+abbrev pub ReplaysAs : Told → Held → Port → Status → Type 0
+ReplaysAs t source sink status = RunsAs (record { tells = t; early = early_text source.bytes }) replay_told source sink status
 
 -- what is told is the transcript
-abbrev pub Replays : List ℕ → Option (List ℕ) → Option (List ℕ) → Option (List ℕ) → Status → Type 0
-Replays bytes left before after status = ReplaysAs (transcript bytes) bytes left before after status
+abbrev pub Replays : Held → Port → Status → Type 0
+Replays source sink status = ReplaysAs (transcript source.bytes) source sink status
 
 -- A line asks for memory where it ends a dump whose files are accepted, or is a command `ram`, or `up` or `join` where a processor may come. No other does.
 abbrev pub AsksAt : Point → ℕ → List ℕ → Type 0
@@ -46,8 +47,8 @@ AsksAt (in_head now before) number line = (dump : Dump) × (head_step now before
 AsksAt (in_body s) number line = (c : Command) × (command_of s.now number line ≡ Ok c) × AsksForMemory s.machine c
 
 -- Memory was refused at such a line, or before anything was read.
-abbrev pub OutOfMemory : List ℕ → Option (List ℕ) → Option (List ℕ) → Option (List ℕ) → Type 0
-OutOfMemory bytes left before after = RefusesMemory (from_point (in_head at_start [])) (AsksBy from_point AsksAt) bytes left before after
+abbrev pub OutOfMemory : Held → Port → Type 0
+OutOfMemory source sink = RefusesMemory (from_point (in_head at_start [])) (AsksBy from_point AsksAt) source sink
 
 -- ---- between two lines
 
@@ -73,17 +74,21 @@ IsQuiet (run.Head h) came text = (text ≡ []) × (came ≡ false)
 IsQuiet (run.Body r) came text = takes_windows r.now.stage ≡ true → text ≡ accepted_line
 
 -- A text went through the writer, and the run goes on; or a write failed, and a front of it was taken.
-abbrev pub Writes : List ℕ → List ℕ → List ℕ → Option (List ℕ) → Option (List ℕ) → Result (Option Stop) Failed → Type 0
-Writes waiting text left before after result =
-    MatchResult result (λ ended. (ended ≡ None) × Passes waiting text left before after) (λ _. AppendsFront before after (waiting ++ text))
+abbrev pub Writes : Waiting → List ℕ → Port → Result (Option Stop) Failed → Type 0
+Writes writer text sink result =
+    MatchResult result
+    (λ ended. (ended ≡ None) × Passes writer.old text writer.new sink.old sink.new)
+    (λ _. AppendsFront sink.old sink.new (writer.old ++ text))
 
 -- A command was done: its text went through the writer, and its state stands. For want of memory nothing was done, and
 -- after a failed write a front of the text was taken.
-abbrev pub CarriesOut : ReplayState → ReplayState → Command → List ℕ → List ℕ → Option (List ℕ) → Option (List ℕ) → Result (Option Stop) Failed → Type 0
-CarriesOut s new c waiting left before after result =
+abbrev pub CarriesOut : Change ReplayState → Command → Waiting → Port → Result (Option Stop) Failed → Type 0
+CarriesOut state c writer sink result =
     MatchResult result
-    (λ ended. MatchOption ended (Passes waiting (command_text s c) left before after × (new ≡ state_after s c)) (λ stop. (stop ≡ NoMemory) × (left ≡ waiting) × (after ≡ before)))
-    (λ failed. AppendsFront before after (waiting ++ command_text s c))
+    (λ ended. MatchOption ended
+    (Passes writer.old (command_text state.old c) writer.new sink.old sink.new × (state.new ≡ state_after state.old c))
+    (λ stop. (stop ≡ NoMemory) × (writer.new ≡ writer.old) × (sink.new ≡ sink.old)))
+    (λ failed. AppendsFront sink.old sink.new (writer.old ++ command_text state.old c))
 
 -- where lines stand at this point, behind a text, and whether a processor came up before
 abbrev pub path_from : Bool → List ℕ → Point → Path
@@ -99,15 +104,21 @@ StandsAt now so_far was = (p : Point) × (came : Bool) × IsAt now p × IsQuiet 
 abbrev pub from_line : ℕ → List ℕ → Point → Option Place → List (List ℕ) → Told
 from_line number line p end lines = told_lines end number (line ∷ lines) p
 
--- and lead to
-abbrev pub leading : Bool → List ℕ → ℕ → List ℕ → Point → Leading
-leading came so_far number line p end lines = path_from came so_far p end number (line ∷ lines)
+-- and what a run that takes it finds behind a text, where a processor may have come up before
+abbrev pub line_at : Bool → List ℕ → ℕ → List ℕ → Point → AtLine
+line_at came so_far number line p = at_line number line so_far (path_from came so_far p)
 
--- what a dump that is shown leads to, the lines behind which have this number on
-abbrev pub leading_dump : Situation → Dump → ℕ → Leading
-leading_dump now dump number end lines = record {
-  tells = told_dump now dump (body_lines end number lines) (first_refusal dump.files);
-  early = early (newcomers_of_dump now dump (newcomers_in number lines) (first_refusal dump.files)) [] (told_dump now dump (body_lines end number lines) (first_refusal dump.files)).text;
+-- The same at the end of a dump that is shown, the lines behind which have this number on. Nothing is written before it.
+abbrev pub dump_at : Situation → Dump → ℕ → AtLine
+dump_at now dump number = record {
+  leads = λ end lines. record {
+    tells = told_dump now dump (body_lines end number lines) (first_refusal dump.files);
+    early =
+        early (newcomers_of_dump now dump (newcomers_in number lines) (first_refusal dump.files)) []
+        (told_dump now dump (body_lines end number lines) (first_refusal dump.files)).text;
+  };
+  next_number = number;
+  so_far = [];
 }
 
 -- no processor has finished more updates than this

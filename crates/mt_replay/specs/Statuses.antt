@@ -26,21 +26,30 @@ use Rattle.mt_stream.specs.Told.{told}
 
 -- ---- the dump of a text
 
+-- A line up to the dump's end: what stands set up, the dump's lines before it, and what it says as a line of the dump.
+pub record HeadLine : Type 0 where
+  pub now : Situation
+  pub before : List Reading
+  pub says : Reading
+
+abbrev pub head_line : Situation → List Reading → Reading → HeadLine
+head_line now before says = record { now = now; before = before; says = says }
+
 -- A line of the dump, which ends it where the last argument is true: the lines before it then show the dump, with a file for each
 -- of the processors, or in version 1 one for all.
-abbrev pub ShowsAt : Dump → Situation → List Reading → Reading → (Situation → List Reading → Type 0) → Bool → Type 0
-ShowsAt dump now before says rest true = ShownBy (onto before []) dump × (has_each now.cpus dump ≡ true)
-ShowsAt dump now before says rest false = (offence_of before says ≡ None) × rest now (says ∷ before)
+abbrev pub ShowsAt : Dump → HeadLine → (Situation → List Reading → Type 0) → Bool → Type 0
+ShowsAt dump here rest true = ShownBy (onto here.before []) dump × (has_each here.now.cpus dump ≡ true)
+ShowsAt dump here rest false = (offence_of here.before here.says ≡ None) × rest here.now (here.says ∷ here.before)
 
-abbrev pub ShowsAfter : Dump → Situation → List Reading → Reading → (Situation → List Reading → Type 0) → Command → Bool → Type 0
-ShowsAfter dump now before says rest c true = ShowsAt dump now before says rest (is_end_command c)
-ShowsAfter dump now before says rest c false = rest (accepted now c) before
+abbrev pub ShowsAfter : Dump → HeadLine → (Situation → List Reading → Type 0) → Command → Bool → Type 0
+ShowsAfter dump here rest c true = ShowsAt dump here rest (is_end_command c)
+ShowsAfter dump here rest c false = rest (accepted here.now c) here.before
 
 -- each of these lines is accepted in its turn, up to one that ends the dump
 abbrev pub ShowsIn : Dump → ℕ → List (List ℕ) → Situation → List Reading → Type 0
 ShowsIn dump number [] now before = ⊥
 ShowsIn dump number (line ∷ lines) now before =
-    (c : Command) × (command_of now number line ≡ Ok c) × ShowsAfter dump now before (said_of number line) (ShowsIn dump (number + 1) lines) c (is_in_dump now.stage)
+    (c : Command) × (command_of now number line ≡ Ok c) × ShowsAfter dump (head_line now before (said_of number line)) (ShowsIn dump (number + 1) lines) c (is_in_dump now.stage)
 
 abbrev pub ShowsDump : List ℕ → Dump → Type 0
 ShowsDump text dump = ShowsIn dump 1 (lines_of text) at_start []

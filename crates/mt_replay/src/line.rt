@@ -10,8 +10,9 @@ ghost use Rattle.mt_dump.specs.ForProcessors.{has_each};
 ghost use Rattle.mt_replay.specs.Kept.{HasEras};
 ghost use Rattle.mt_replay.specs.Parts.{AsksForMemory};
 ghost use Rattle.mt_replay.specs.ReplayState.{ReplayState, command_text, may_come, state_after, task_of};
-ghost use Rattle.mt_replay.specs.Running.{AsksAt, CarriesOut, HasEraRoomAt, HasErasAt, IsAt, IsQuiet, Writes, StandsAt, leading, leading_dump, setup_of};
+ghost use Rattle.mt_replay.specs.Running.{AsksAt, CarriesOut, HasEraRoomAt, HasErasAt, IsAt, IsQuiet, Writes, StandsAt, dump_at, line_at, setup_of};
 ghost use Rattle.mt_stream.specs.Lines.{IfGoesOn, Takes};
+ghost use Rattle.mt_output.specs.Ports.{change, port};
 ghost use Rattle.mt_replay.specs.Summing.{Begins, Lasts, state_in};
 ghost use Rattle.mt_replay.specs.Transcript.{Point, in_body};
 
@@ -83,8 +84,7 @@ fn begin<K: Sink>(
     requires stage { is_in_dump setup.stage ≡ true }
     requires each { has_each setup.cpus dump ≡ true }
     requires head { state_in run.old ≡ None }
-    ensures bytes { (number : ℕ) →
-        Takes (StandsAt run.new) (leading_dump setup dump number) number [] writer.old writer.new (K.taken sink.old) (K.taken sink.new) result }
+    ensures bytes { (number : ℕ) → Takes (StandsAt run.new) (dump_at setup dump number) (change writer.old writer.new) (port K.taken sink.old sink.new) result }
     ensures eras { (most : ℕ) → IfGoesOn result (HasErasAt most run.new) }
     ensures asks { result ≡ Ok (Some Stop.NoMemory) → first_refusal dump.files ≡ None }
     ensures state { Begins setup dump run.new result }
@@ -138,7 +138,7 @@ fn write_newcomer<K: Sink>(
     writer: &mut Writer,
     sink: &mut K,
 ) -> Result<Option<Stop>, Failed>
-    ensures told { IfOk line (λ text. Writes writer.old text.items writer.new (K.taken sink.old) (K.taken sink.new) result) }
+    ensures told { IfOk line (λ text. Writes (change writer.old writer.new) text.items (port K.taken sink.old sink.new) result) }
     ensures refused { OnErr line ((result ≡ Ok (Some Stop.NoMemory)) × (writer.new ≡ writer.old) × (K.taken sink.new ≡ K.taken sink.old)) }
     ensures cause { HasCause (K.faults sink.old) (K.faults sink.new) result }
 {
@@ -160,7 +160,7 @@ fn bring_up<K: Sink>(
 ) -> Result<Option<Stop>, Failed>
     requires fits { Fits replayer.old.now Command.Up }
     requires room { HasEraRoom replayer.old.machine }
-    ensures bytes { CarriesOut replayer.old replayer.new Command.Up writer.old writer.new (K.taken sink.old) (K.taken sink.new) result }
+    ensures bytes { CarriesOut (change replayer.old replayer.new) Command.Up (change writer.old writer.new) (port K.taken sink.old sink.new) result }
     ensures asks { (stop : Stop) → result ≡ Ok (Some stop) → may_come replayer.old.machine ≡ true }
     ensures refused { (stop : Stop) → result ≡ Ok (Some stop) → stop ≡ Stop.NoMemory }
     ensures cause { HasCause (K.faults sink.old) (K.faults sink.new) result }
@@ -177,7 +177,7 @@ fn admit<K: Sink>(
 ) -> Result<Option<Stop>, Failed>
     requires fits { Fits replayer.old.now Command.Join }
     requires room { HasEraRoom replayer.old.machine }
-    ensures bytes { CarriesOut replayer.old replayer.new Command.Join writer.old writer.new (K.taken sink.old) (K.taken sink.new) result }
+    ensures bytes { CarriesOut (change replayer.old replayer.new) Command.Join (change writer.old writer.new) (port K.taken sink.old sink.new) result }
     ensures asks { (stop : Stop) → result ≡ Ok (Some stop) → may_come replayer.old.machine ≡ true }
     ensures refused { (stop : Stop) → result ≡ Ok (Some stop) → stop ≡ Stop.NoMemory }
     ensures cause { HasCause (K.faults sink.old) (K.faults sink.new) result }
@@ -196,7 +196,7 @@ fn do_command<R: Threads + Wait + Sync, K: Sink, G: Gate>(
 ) -> Result<Option<Stop>, Failed>
     requires fits { Fits replayer.old.now c.now }
     requires room { HasEraRoom replayer.old.machine }
-    ensures bytes { CarriesOut replayer.old replayer.new c.now writer.old writer.new (K.taken sink.old) (K.taken sink.new) result }
+    ensures bytes { CarriesOut (change replayer.old replayer.new) c.now (change writer.old writer.new) (port K.taken sink.old sink.new) result }
     ensures asks { (stop : Stop) → result ≡ Ok (Some stop) → AsksForMemory replayer.old.machine c.now }
     ensures refused { (stop : Stop) → result ≡ Ok (Some stop) → stop ≡ Stop.NoMemory }
     ensures cause { HasCause (K.faults sink.old) (K.faults sink.new) result }
@@ -230,7 +230,8 @@ fn take_command<R: Threads + Wait + Sync, K: Sink, G: Gate>(
 ) -> Result<Option<Stop>, Failed>
     requires { HasEraRoom replayer.old.machine }
     ensures bytes { (came : Bool) (so_far : List ℕ) → IsQuiet (Run.Body replayer.old) came so_far →
-        Takes (StandsAt (Run.Body replayer.new)) (leading came so_far line.now.number line.now.bytes.now (in_body replayer.old)) (line.now.number + 1) so_far writer.old writer.new (K.taken sink.old) (K.taken sink.new) result }
+        Takes (StandsAt (Run.Body replayer.new)) (line_at came so_far line.now.number line.now.bytes.now (in_body replayer.old))
+        (change writer.old writer.new) (port K.taken sink.old sink.new) result }
     ensures eras { (most : ℕ) → HasEras most replayer.old → IfGoesOn result (HasEras (most + 1) replayer.new) }
     ensures asks { result ≡ Ok (Some Stop.NoMemory) → AsksAt (in_body replayer.old) line.now.number line.now.bytes.now }
     ensures last { Lasts line.now.number line.now.bytes.now (in_body replayer.old) (Run.Body replayer.new) result }
@@ -254,7 +255,7 @@ fn take_in_head<K: Sink>(
 ) -> Result<Option<Stop>, Failed>
     requires { (replayer : ReplayState) → run.old ≢ Run.Body replayer }
     ensures bytes { (came : Bool) (so_far : List ℕ) (was : Point) → IsAt run.old was → IsQuiet run.old came so_far →
-        Takes (StandsAt run.new) (leading came so_far line.now.number line.now.bytes.now was) (line.now.number + 1) so_far writer.old writer.new (K.taken sink.old) (K.taken sink.new) result }
+        Takes (StandsAt run.new) (line_at came so_far line.now.number line.now.bytes.now was) (change writer.old writer.new) (port K.taken sink.old sink.new) result }
     ensures eras { (most : ℕ) → HasErasAt most run.old → IfGoesOn result (HasErasAt (most + 1) run.new) }
     ensures asks { (was : Point) → IsAt run.old was → result ≡ Ok (Some Stop.NoMemory) → AsksAt was line.now.number line.now.bytes.now }
     ensures last { (was : Point) → IsAt run.old was → Lasts line.now.number line.now.bytes.now was run.new result }
@@ -285,7 +286,7 @@ pub(crate) fn take_line<R: Threads + Wait + Sync, K: Sink, G: Gate>(
 ) -> Result<Option<Stop>, Failed>
     requires { HasEraRoomAt run.old }
     ensures bytes { (came : Bool) (so_far : List ℕ) (was : Point) → IsAt run.old was → IsQuiet run.old came so_far →
-        Takes (StandsAt run.new) (leading came so_far line.now.number line.now.bytes.now was) (line.now.number + 1) so_far writer.old writer.new (K.taken sink.old) (K.taken sink.new) result }
+        Takes (StandsAt run.new) (line_at came so_far line.now.number line.now.bytes.now was) (change writer.old writer.new) (port K.taken sink.old sink.new) result }
     ensures eras { (most : ℕ) → HasErasAt most run.old → IfGoesOn result (HasErasAt (most + 1) run.new) }
     ensures asks { (was : Point) → IsAt run.old was → result ≡ Ok (Some Stop.NoMemory) → AsksAt was line.now.number line.now.bytes.now }
     ensures last { (was : Point) → IsAt run.old was → Lasts line.now.number line.now.bytes.now was run.new result }

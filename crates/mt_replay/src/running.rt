@@ -3,7 +3,8 @@ ghost use Rattle.mt_text.specs.Feed.{GaveTooMuch};
 ghost use Rattle.mt_ports.specs.Causes.{StatusHasCause};
 ghost use Rattle.mt_replay.specs.Running.{HasEraRoomAt, OutOfMemory, Replays, replay_running};
 ghost use Rattle.mt_replay.specs.Transcript.{transcript};
-ghost use Rattle.mt_stream.specs.Handling.{Taken, out};
+ghost use Rattle.mt_stream.specs.Handling.{Taken};
+ghost use Rattle.mt_output.specs.Ports.{change, held, port};
 ghost use Rattle.mt_stream.specs.Runs.{EndsAs};
 
 use crate::line::{Run, take_line};
@@ -54,13 +55,14 @@ pub fn replay_with<R: Threads + Wait + Sync, S: Source, K: Sink, G: Gate>(
     sink: &mut K,
 ) -> Status
     // Where the source tells its bytes, what each status says of them and of what the sink took.
-    ensures bytes { (bytes : List ℕ) → S.left source.old ≡ Some bytes → Replays bytes (S.left source.new) (K.taken sink.old) (K.taken sink.new) result }
+    ensures bytes { (bytes : List ℕ) → S.left source.old ≡ Some bytes → Replays (held bytes (S.left source.new)) (port K.taken sink.old sink.new) result }
 
     // The status is the transcript's, unless a port fails, too much is read or memory is refused.
     ensures complete { (bytes : List ℕ) → S.left source.old ≡ Some bytes → EndsAs (transcript bytes).status result }
 
     // Memory is refused before anything is read, or at a line that asks for some. What the lines before it write was then written.
-    ensures memory { (bytes : List ℕ) → S.left source.old ≡ Some bytes → result ≡ Status.NoMemory → OutOfMemory bytes (S.left source.new) (K.taken sink.old) (K.taken sink.new) }
+    ensures memory { (bytes : List ℕ) → S.left source.old ≡ Some bytes → result ≡ Status.NoMemory
+        → OutOfMemory (held bytes (S.left source.new)) (port K.taken sink.old sink.new) }
 
     // A port that failed did so once, and the status is its fault; at every other status none failed.
     ensures read_fault { StatusHasCause Status.ReadFault (S.faults source.old) (S.faults source.new) result }
@@ -75,8 +77,9 @@ pub fn replay_with<R: Threads + Wait + Sync, S: Source, K: Sink, G: Gate>(
     let mut run = Run::Head(Head::new());
     let take = |run: &mut Run, line: &Line<'_>, writer: &mut Writer, sink: &mut K|
         requires { HasEraRoomAt run.old }
-        ensures { Taken replay_running run.old run.new line.now
-            (out writer.old (K.taken sink.old) (K.faults sink.old)) (out writer.new (K.taken sink.new) (K.faults sink.new)) result }
+        ensures { Taken replay_running
+            (record { line = line.now; run = change run.old run.new; writer = change writer.old writer.new; sink = port K.taken sink.old sink.new; faults = change (K.faults sink.old) (K.faults sink.new) })
+            result }
     { take_line(caller, alloc, run, line, writer, sink) };
     run_lines(take, &mut run, source, &mut writer, sink)
 }
@@ -95,13 +98,14 @@ pub fn replay<R: AllocGlobal + Threads + Wait + Sync, S: Source, K: Sink, G: Gat
     gate: &G,
 ) -> Status
     // Where the source tells its bytes, what each status says of them and of what the sink took.
-    ensures bytes { (bytes : List ℕ) → S.left source.old ≡ Some bytes → Replays bytes (S.left source.new) (K.taken sink.old) (K.taken sink.new) result }
+    ensures bytes { (bytes : List ℕ) → S.left source.old ≡ Some bytes → Replays (held bytes (S.left source.new)) (port K.taken sink.old sink.new) result }
 
     // The status is the transcript's, unless a port fails, too much is read or memory is refused.
     ensures complete { (bytes : List ℕ) → S.left source.old ≡ Some bytes → EndsAs (transcript bytes).status result }
 
     // Memory is refused before anything is read, or at a line that asks for some. What the lines before it write was then written.
-    ensures memory { (bytes : List ℕ) → S.left source.old ≡ Some bytes → result ≡ Status.NoMemory → OutOfMemory bytes (S.left source.new) (K.taken sink.old) (K.taken sink.new) }
+    ensures memory { (bytes : List ℕ) → S.left source.old ≡ Some bytes → result ≡ Status.NoMemory
+        → OutOfMemory (held bytes (S.left source.new)) (port K.taken sink.old sink.new) }
 
     // A port that failed did so once, and the status is its fault; at every other status none failed.
     ensures read_fault { StatusHasCause Status.ReadFault (S.faults source.old) (S.faults source.new) result }

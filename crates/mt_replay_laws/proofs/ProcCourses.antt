@@ -11,19 +11,17 @@ use Rattle.mt_regs.specs.declared.fault.Fault.{Fault}
 use Rattle.mt_regs.specs.Agreement.{first_refusal}
 use Rattle.mt_regs.specs.FirstFault.{first_fault}
 use Rattle.mt_regs.specs.RegisterFile.{RegisterFile}
-use Rattle.mt_dump.specs.Dump.{offence_at_end, offence_of}
+use Rattle.mt_dump.specs.Dump.{offence_of}
 use Rattle.mt_dump.specs.Dumps.{Dump, first_file}
 use Rattle.mt_dump.specs.ForProcessors.{files_for, has_each}
 use Rattle.mt_dump.specs.Line.{Reading, said_of}
-use Rattle.mt_dump.specs.Reader.{dump_in, onto}
+use Rattle.mt_dump.specs.Reader.{read_from}
 use Rattle.mt_dump.specs.declared.fault.DumpFault.{DumpFault}
 use Rattle.mt_dump.proofs.ForProcessors.{files_count}
-use Rattle.mt_script.specs.Head.{HeadStep, ends_dump, goes_on, offends, or_sections, sections_offence, shows, step_in_dump, step_shown, step_unless}
-use Rattle.mt_script.specs.Numbers.{fault_at}
+use Rattle.mt_script.specs.Head.{HeadStep, ends_dump, goes_on, offends, shows, step_in_dump}
 use Rattle.mt_script.specs.Words.{place_of}
-use Rattle.mt_script.specs.declared.fault.Offence.{Offence}
 use Rattle.mt_script.specs.declared.fault.Offence.TheVariants as offence
-use Rattle.mt_script.specs.declared.fault.ScriptReason.TheVariants.{OutOfRange}
+use Rattle.mt_script.proofs.Ends.{ended}
 use Rattle.mt_machine.specs.Machine.{Machine}
 use Rattle.mt_machine.specs.Update.{IsSettled, updated}
 use Rattle.mt_core.specs.Rounds.{in_order}
@@ -119,21 +117,12 @@ module _ (cpus : ℕ) (some : 0 < cpus) (m : Machine) (idles : Idles cpus m) (re
 
 -- a dump that is shown has a file for each
 each_shown : (cpus : ℕ) (before : List Reading) (number : ℕ) (line : List ℕ) (end : Bool) (dump : Dump) → step_in_dump (situation_of cpus) before number line end ≡ shows dump → has_each cpus dump ≡ true
-each_shown cpus before number line false dump is = absurd (by (option_map offence.Dump (offence_of before (said_of number line))) is)
+each_shown cpus before number line false dump is = absurd (by (offence_of before (said_of number line)) is)
   where
-    by : (o : Option Offence) → step_unless o (goes_on (situation_of cpus) (said_of number line ∷ before)) ≡ shows dump → ⊥
-    by (Some o) is = cc is
+    by : (fault : Option DumpFault) → option_map_or (λ fault. offends (offence.Dump fault)) fault (goes_on (situation_of cpus) (said_of number line ∷ before)) ≡ shows dump → ⊥
+    by (Some fault) is = cc is
     by None is = cc is
-each_shown cpus before number line true dump is = by (offence_at_end (place_of number (words_of line) 0) (onto before [])) (dump_in before) is
-  where
-    by : (fault : Option DumpFault) (found : Option Dump) → step_unless (or_sections fault (sections_offence cpus (place_of number (words_of line) 0) found)) (step_shown (situation_of cpus) before found) ≡ shows dump → has_each cpus dump ≡ true
-    by (Some fault) found is = absurd (cc is)
-    by None None is = absurd (cc is)
-    by None (Some d) is = counted (has_each cpus d) refl is
-      where
-        counted : (test : Bool) → has_each cpus d ≡ test → step_unless (if test then None else Some (offence.Script (fault_at OutOfRange (place_of number (words_of line) 0)))) (shows d) ≡ shows dump → has_each cpus dump ≡ true
-        counted true each is = let same : d ≡ dump = cc is in ap (has_each cpus) (sym same) ∙ each
-        counted false each is = absurd (cc is)
+each_shown cpus before number line true dump is = (ended cpus (place_of number (words_of line) 0) dump (read_from (place_of number (words_of line) 0) before []) is).1
 
 -- ---- all requests
 

@@ -30,6 +30,7 @@ use Rattle.mt_replay.specs.Kept.{start_of}
 use Rattle.mt_replay_laws.specs.Through.{HoldsThrough}
 use Rattle.mt_replay_laws.specs.Coming.{BringsUp}
 use Rattle.mt_replay.specs.ReplayState.{ReplayState, first_file, with_register}
+use Rattle.mt_output.specs.Ports.{Held, Port}
 use Rattle.mt_replay.specs.Running.{Replays, ReplaysAs}
 use Rattle.mt_replay_laws.specs.Settling.{emptied_now, stored_by}
 use Rattle.mt_replay.specs.Statuses.{ShowsDump}
@@ -60,8 +61,8 @@ TranscriptIsOfTheCourse = (text : List ℕ) → IsSome (beginning text) → tran
 -- what a replay of a text leaves in the source and the sink is told of that text
 abbrev pub ReplaysAreOfTheCourse : Type 0
 ReplaysAreOfTheCourse =
-    (text : List ℕ) (left before after : Option (List ℕ)) (status : Status) → IsSome (beginning text)
-    → Replays text left before after status → ReplaysAs (told_by_course text) text left before after status
+    (source : Held) (sink : Port) (status : Status) → IsSome (beginning source.bytes)
+    → Replays source sink status → ReplaysAs (told_by_course source.bytes) source sink status
 
 -- where no step begins it is one line, of an offence or of the refused dump
 abbrev pub TranscriptIsOneLine : Type 0

@@ -33,6 +33,7 @@ ghost use Rattle.mt_replay.specs.Kept.{CommandsFinishOne, CommandsKeep, HasEras,
 ghost use Rattle.mt_replay_laws.specs.Through.{HoldsThrough, NothingIsStale, ScriptsKeep};
 ghost use Rattle.mt_replay_laws.specs.Movers.{RetiresWhereIdle, Stays, StaysAlone, StaysFull, StaysUnderWay};
 ghost use Rattle.mt_replay.specs.ReplayState.{command_text, first_file, machine_after, state_after};
+ghost use Rattle.mt_output.specs.Ports.{Port, held};
 ghost use Rattle.mt_replay.specs.Running.{Replays, ReplaysAs};
 ghost use Rattle.mt_replay_laws.specs.Settling.{AbsentProcessorsDoNothing, AcceptedCallsAreUnderWay, AreHeld, CallsUnderWayChangeNothing, CompleteUpdatesSettle, EndsIdle, IsAdmittedAfter, IsSettledAfter, JoinsSettle, RefusedCallsChangeNothing, ReleasedStatesSettle, ReleasedWordsAreHeld, UpdatedWordsAreHeld, emptied_now};
 ghost use Rattle.mt_replay.specs.Statuses.{AcceptedFirst, AcceptedUnlessRefused, BadTextEndsWithOffence, BeginsWith, EndsWith, HasRefusedFile, OffenceAlone, OneDumpShown, RefusedAlone, RefusedWhereFileIsRefused, ShowsDump};
@@ -62,8 +63,8 @@ pub fn worked_laws_of_sections()
 /// The laws of transcripts, at that script and at one whose dump is refused.
 pub fn worked_laws_of_transcripts()
     ensures transcript { TranscriptIsOfTheCourse → transcript section_script ≡ told_by_course section_script }
-    ensures written { ReplaysAreOfTheCourse → (rest before after : Option (List ℕ)) (status : Status) → Replays section_script rest before after status
-        → ReplaysAs (told_by_course section_script) section_script rest before after status }
+    ensures written { ReplaysAreOfTheCourse → (rest : Option (List ℕ)) (sink : Port) (status : Status) → Replays (held section_script rest) sink status
+        → ReplaysAs (told_by_course section_script) (held section_script rest) sink status }
     ensures one_line { TranscriptIsOneLine → ((o : Offence) × (transcript later_refused ≡ told_offence o))
         ⊎ ((version : ℕ) × (k : ℕ) × (fault : Fault) × (transcript later_refused ≡ told (dump_refused_line version k fault) status.Refused)) }
 {}

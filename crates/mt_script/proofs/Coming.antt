@@ -7,11 +7,12 @@ use Rattle.mt_text.specs.Text.{is_too_long, without_ending, words_of}
 use Rattle.mt_text.specs.Number.{hex_number}
 use Rattle.mt_script.specs.Situation.{Situation, file_of}
 use Rattle.mt_script.specs.Words.{text_of, place_of}
-use Rattle.mt_script.specs.Numbers.{address_limit, aligned_in, any, base_in, count_in, fault_at, has_room, is_writable, physical_in, processor_in, register_in, value_in}
+use Rattle.mt_script.specs.Numbers.{address_limit, aligned_in, any, base_in, count_in, fault_at, has_room, is_writable, physical_in, processor_in, register_in, value_in, with}
 use Rattle.mt_script.specs.Newcomers.{begins_newcomer, brings_up}
-use Rattle.mt_script.specs.Rows.{is_word, row_of, stands}
+use Rattle.mt_script.specs.Rows.{is_word, row_of}
 use Rattle.mt_script.specs.Shape.{shape_fault}
-use Rattle.mt_script.specs.Commands.{Answer, command_of, cpus_in, in_dump, invlpg_in, load_in, map_in, msr_in, ram_in, store_in, in_section, in_stage, is_end, not_too_long, outside, row_line, verb_answer, with}
+use Rattle.mt_script.specs.Stages.{stands}
+use Rattle.mt_script.specs.Commands.{Answer, command_of, cpus_in, in_dump, invlpg_in, load_in, map_in, msr_in, ram_in, store_in, in_section, in_stage, is_end, not_too_long, outside, row_line, verb_answer}
 use Rattle.mt_script.specs.declared.command.Stage.{Stage}
 use Rattle.mt_script.specs.declared.command.Stage.TheVariants.{NeedCpus, NeedDump, InDump, Rams, Commands, InUpdate, InBegin}
 use Rattle.mt_script.specs.declared.command.Command.{Command}

@@ -1,6 +1,7 @@
 -- Each command that a line is read as fits the situation.
-use Rattle.std.proofs.Common.{◌≡◌, ℕ, ◌≤◌, ◌<◌, ◌%◌, ◌^◌, ◌==◌, ◌&&◌, nat_le, nat_eq, nat_lt, Bool, true, false, List, length, Option, Some, None, Result, Ok, Err, refl}
+use Rattle.std.proofs.Common.{◌≡◌, ℕ, ◌≤◌, ◌<◌, ◌%◌, ◌^◌, ◌==◌, ◌&&◌, nat_le, nat_eq, nat_lt, Bool, true, false, List, length, Option, Some, None, Result, Ok, Err, refl, sym, ap, ◌∙◌}
 use Rattle.std.specs.Prelude.{if◌then◌else◌, codes, IfSome}
+use Rattle.std.specs.Option.{option_map_or}
 use Rattle.std.specs.Set.{is_member}
 use Rattle.std.specs.Result.{IfOk}
 use Rattle.std.proofs.lemmas.Bool.{and_parts, leb-true, ltb-true, eqb-true}
@@ -9,14 +10,13 @@ use Rattle.mt_text.specs.Text.{is_too_long, without_ending, words_of}
 use Rattle.mt_text.specs.declared.fault.NumberFault.{NumberFault}
 use Rattle.mt_text.specs.declared.fault.NumberFault.TheVariants.{NotDigit, TooLarge}
 use Rattle.mt_text.specs.declared.place.Place.{Place}
-use Rattle.mt_regs.specs.RegisterFile.{RegisterFile}
 use Rattle.mt_script.specs.Situation.{Situation, file_of, most_processors}
 use Rattle.mt_script.specs.Words.{text_of, place_of}
-use Rattle.mt_script.specs.Numbers.{fault_at, tested, at_least, below, any, aligned, multiple, register, count_in, processor_in, value_in, aligned_in, physical_in, register_in, base_in, has_room, is_register, is_writable, address_limit}
-use Rattle.mt_script.specs.Rows.{is_word, row_of, stands}
-use Rattle.mt_script.specs.Stages.{takes_cpus, takes_windows, takes_commands, takes_registers, takes_end, is_in_dump}
+use Rattle.mt_script.specs.Numbers.{fault_at, tested, limited, with, any, count_in, processor_in, value_in, aligned_in, physical_in, register_in, base_in, has_room, is_register, is_writable, address_limit}
+use Rattle.mt_script.specs.Rows.{is_word, row_of}
+use Rattle.mt_script.specs.Stages.{stands, takes_cpus, takes_windows, takes_commands, takes_registers, takes_end, is_in_dump}
 use Rattle.mt_script.specs.Shape.{shape_fault}
-use Rattle.mt_script.specs.Commands.{Answer, with, unless, cpus_in, ram_in, load_in, store_in, map_in, invlpg_in, msr_in, switch_in, verb_answer, row_line, outside, register_line, is_end, in_section, in_dump, not_too_long, in_stage, command_of}
+use Rattle.mt_script.specs.Commands.{Answer, cpus_in, ram_in, load_in, store_in, map_in, invlpg_in, msr_in, switch_in, verb_answer, row_line, outside, register_line, is_end, in_section, in_dump, not_too_long, in_stage, command_of}
 use Rattle.mt_script.specs.Accept.{Fits, IsAligned, IsFor}
 use Rattle.mt_dump.proofs.OneLine.{decimal_within}
 use Rattle.mt_script.proofs.Table.{row_all}
@@ -35,7 +35,7 @@ pub fits_with : (P : Command → Type 0) (number : Result ℕ ScriptFault) (next
 fits_with P (Err fault) next all = tt
 fits_with P (Ok n) next all = all n refl
 
-pub fits_unless : (P : Command → Type 0) (fault : Option ScriptFault) (answer : Answer) → IfOk answer P → IfOk (unless fault answer) P
+pub fits_unless : (P : Command → Type 0) (fault : Option ScriptFault) (answer : Answer) → IfOk answer P → IfOk (option_map_or (λ fault. Err fault) fault answer) P
 fits_unless P (Some fault) answer fits = tt
 fits_unless P None answer fits = fits
 
@@ -43,56 +43,40 @@ pub fits_if : (P : Command → Type 0) (test : Bool) (yes_answer no_answer : Ans
 fits_if P true yes_answer no_answer good bad = good refl
 fits_if P false yes_answer no_answer good bad = bad refl
 
-tested_fact : (good : Bool) (reason : ScriptReason) (place : Place) (m n : ℕ) → tested good reason place m ≡ Ok n → (good ≡ true) × (m ≡ n)
-tested_fact true reason place m n is = (refl, cc is)
-tested_fact false reason place m n is = cc is
+-- a number that a test lets through was read, and passes it
+tested_fact : (number : Result ℕ ScriptFault) (reason : ScriptReason) (place : Place) (test : ℕ → Bool) (n : ℕ) → with number (tested reason place test) ≡ Ok n → (number ≡ Ok n) × (test n ≡ true)
+tested_fact (Err fault) reason place test n is = absurd (cc is)
+tested_fact (Ok m) reason place test n is = let (same, good) = by (test m) refl is in (ap Ok same, good)
+  where
+    by : (good : Bool) → test m ≡ good → (if good then Ok m else Err (fault_at reason place)) ≡ Ok n → (m ≡ n) × (test n ≡ true)
+    by true good is = let same : m ≡ n = cc is in (same, ap test (sym same) ∙ good)
+    by false good is = absurd (cc is)
 
-below_fact : (limit : ℕ) (place : Place) (reading : Result ℕ NumberFault) (n : ℕ) → below limit place reading ≡ Ok n → n < limit
-below_fact limit place (Err NotDigit) n is = cc is
-below_fact limit place (Err TooLarge) n is = cc is
-below_fact limit place (Ok m) n is =
-    let parts = tested_fact (nat_lt m limit) OutOfRange place m n is in
-    rw parts.1 at (ltb-true m limit parts.0)
+limited_fact : (place : Place) (reading : Result ℕ NumberFault) (n : ℕ) → limited place reading ≡ Ok n → reading ≡ Ok n
+limited_fact place (Err NotDigit) n is = absurd (cc is)
+limited_fact place (Err TooLarge) n is = absurd (cc is)
+limited_fact place (Ok m) n is = let same : m ≡ n = cc is in ap Ok same
 
-aligned_fact : (step limit : ℕ) (place : Place) (reading : Result ℕ NumberFault) (n : ℕ) → aligned step limit place reading ≡ Ok n → IsAligned step limit n
-aligned_fact step limit place (Err fault) n is = cc is
-aligned_fact step limit place (Ok m) n is =
-    let parts = tested_fact (m % step == 0 && nat_lt m limit) OutOfRange place m n is in
-    let both = and_parts (m % step == 0) (nat_lt m limit) parts.0 in
-    let good : IsAligned step limit m = (eqb-true (m % step) 0 both.0, ltb-true m limit both.1) in
-    rw parts.1 at good
-
-multiple_fact : (step : ℕ) (place : Place) (reading : Result ℕ NumberFault) (n : ℕ) → multiple step place reading ≡ Ok n → n % step ≡ 0
-multiple_fact step place (Err fault) n is = cc is
-multiple_fact step place (Ok m) n is =
-    let parts = tested_fact (m % step == 0) OutOfRange place m n is in
-    rw parts.1 at (eqb-true (m % step) 0 parts.0)
-
-register_fact : (file : Option RegisterFile) (place : Place) (reading : Result ℕ NumberFault) (n : ℕ) → register file place reading ≡ Ok n → is_register file n ≡ true
-register_fact file place (Err fault) n is = cc is
-register_fact file place (Ok m) n is =
-    let parts = tested_fact (is_register file m) ScriptReason.UnknownRegister place m n is in
-    rw parts.1 at parts.0
+aligned_fact : (line : ℕ) (words : List (ℕ × List ℕ)) (i step limit n : ℕ) → aligned_in line words i step limit ≡ Ok n → IsAligned step limit n
+aligned_fact line words i step limit n is =
+    let both = and_parts (n % step == 0) (nat_lt n limit) (tested_fact (value_in line words i) OutOfRange (place_of line words i) (λ address. address % step == 0 && nat_lt address limit) n is).1 in
+    (eqb-true (n % step) 0 both.0, ltb-true n limit both.1)
 
 count_fact : (line : ℕ) (words : List (ℕ × List ℕ)) (i first last n : ℕ) → count_in line words i first last ≡ Ok n → (first ≤ n) × (n ≤ last)
-count_fact line words i first last n is = by (decimal_number (text_of words i) last) refl is
-  where
-    by : (reading : Result ℕ NumberFault) → decimal_number (text_of words i) last ≡ reading → at_least first (place_of line words i) reading ≡ Ok n → (first ≤ n) × (n ≤ last)
-    by (Err NotDigit) read is = cc is
-    by (Err TooLarge) read is = cc is
-    by (Ok m) read is =
-        let parts = tested_fact (nat_le first m) OutOfRange (place_of line words i) m n is in
-        let range : (first ≤ m) × (m ≤ last) = (leb-true first m parts.0, decimal_within (text_of words i) last m read) in
-        rw parts.1 at range
+count_fact line words i first last n is =
+    let place = place_of line words i in
+    let parts = tested_fact (limited place (decimal_number (text_of words i) last)) OutOfRange place (nat_le first) n is in
+    (leb-true first n parts.1, decimal_within (text_of words i) last n (limited_fact place (decimal_number (text_of words i) last) n parts.0))
 
 module _ (now : Situation) (line : ℕ) (words : List (ℕ × List ℕ)) where
   for_processor : (next : ℕ → Answer) → ((k : ℕ) → k < most_processors now → IfOk (next k) (Fits now)) → IfOk (with (processor_in now line words 1) next) (Fits now)
   for_processor next all = fits_with (Fits now) (processor_in now line words 1) next
-      (λ k is. all k (below_fact (most_processors now) (place_of line words 1) (decimal_number (text_of words 1) 0xffffffffffffffff) k is))
+      (λ k is. all k (ltb-true k (most_processors now)
+      (tested_fact (limited (place_of line words 1) (decimal_number (text_of words 1) 0xffffffffffffffff)) OutOfRange (place_of line words 1) (λ k. nat_lt k (most_processors now)) k is).1))
 
   for_aligned : (i step limit : ℕ) (next : ℕ → Answer) → ((n : ℕ) → IsAligned step limit n → IfOk (next n) (Fits now)) → IfOk (with (aligned_in line words i step limit) next) (Fits now)
   for_aligned i step limit next all = fits_with (Fits now) (aligned_in line words i step limit) next
-      (λ n is. all n (aligned_fact step limit (place_of line words i) (hex_number (text_of words i)) n is))
+      (λ n is. all n (aligned_fact line words i step limit n is))
 
   for_count : (i first last : ℕ) (next : ℕ → Answer) → ((n : ℕ) → (first ≤ n) × (n ≤ last) → IfOk (next n) (Fits now)) → IfOk (with (count_in line words i first last) next) (Fits now)
   for_count i first last next all = fits_with (Fits now) (count_in line words i first last) next
@@ -105,7 +89,7 @@ module _ (now : Situation) (line : ℕ) (words : List (ℕ × List ℕ)) where
   ram_fits stage = fits_with (Fits now) (base_in line words 1) _ (λ base is_base.
       for_count 2 1 4096 _ (λ lines range.
       fits_if (Fits now) (has_room now base lines) (Ok (command.Ram base lines)) (Err (fault_at OutOfRange (place_of line words 2)))
-      (λ room. (stage, multiple_fact 64 (place_of line words 1) (hex_number (text_of words 1)) base is_base, range.0, range.1, room))
+      (λ room. (stage, eqb-true (base % 64) 0 (tested_fact (value_in line words 1) OutOfRange (place_of line words 1) (λ base. base % 64 == 0) base is_base).1, range.0, range.1, room))
       (λ miss. tt)))
 
   load_fits : takes_commands now.stage ≡ true → IfOk (load_in now line words) (Fits now)
@@ -125,7 +109,7 @@ module _ (now : Situation) (line : ℕ) (words : List (ℕ × List ℕ)) where
 
   msr_fits : takes_commands now.stage ≡ true → IfOk (msr_in now line words) (Fits now)
   msr_fits stage = for_processor _ (λ k known. fits_with (Fits now) (register_in now line words 2) _ (λ msr is.
-      ((stage, known), register_fact (file_of now) (place_of line words 2) (hex_number (text_of words 2)) msr is)))
+      ((stage, known), (tested_fact (value_in line words 2) ScriptReason.UnknownRegister (place_of line words 2) (is_register (file_of now)) msr is).1)))
 
   one_fits : (make : ℕ → Command) → takes_commands now.stage ≡ true → ((k : ℕ) → IsFor now k → Fits now (make k)) → IfOk (with (processor_in now line words 1) (λ k. Ok (make k))) (Fits now)
   one_fits make stage fits = for_processor _ (λ k known. fits k (stage, known))

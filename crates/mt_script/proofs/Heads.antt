@@ -1,44 +1,37 @@
 -- What a line leads to.
 use Rattle.std.proofs.Common.{◌≡◌, refl, ℕ, Bool, true, false, List, [], ◌∷◌, Option, None, Some, Result, Ok, Err}
 use Rattle.std.specs.Prelude.{if◌then◌else◌, ⊤}
-use Rattle.std.specs.Option.{option_map}
+use Rattle.std.specs.Option.{option_map_or}
 use Rattle.std.specs.Result.{IfOk}
 use Rattle.mt_text.specs.Text.{is_too_long, words_of}
+use Rattle.mt_text.specs.declared.place.Place.{Place}
 use Rattle.mt_dump.specs.Dumps.{Dump}
 use Rattle.mt_dump.specs.ForProcessors.{has_each}
 use Rattle.mt_dump.specs.Line.{Reading, said_of}
 use Rattle.mt_dump.specs.Dump.{ShownBy, offence_of}
-use Rattle.mt_dump.specs.Reader.{IsClean, dump_in, onto}
+use Rattle.mt_dump.specs.Reader.{IsClean, onto, read_from}
 use Rattle.mt_dump.specs.declared.fault.DumpFault.{DumpFault}
+use Rattle.mt_dump.proofs.Ends.{shows_all}
 use Rattle.mt_dump.proofs.OneLine.{is_sane}
 use Rattle.mt_script.specs.Situation.{Situation}
 use Rattle.mt_script.specs.Stages.{is_in_dump}
 use Rattle.mt_script.specs.Words.{place_of}
+use Rattle.mt_script.specs.Numbers.{fault_at}
 use Rattle.mt_script.specs.Kept.{IsSituation}
 use Rattle.mt_script.specs.Accept.{Fits, accepted}
 use Rattle.mt_script.specs.Commands.{command_of, in_stage, is_end}
-use Rattle.mt_script.specs.Head.{HeadStep, end_offence, ends_dump, goes_on, head_step, is_end_command, offends, shows, step_in_dump, step_of_answer, step_of_command, step_shown, step_unless}
+use Rattle.mt_script.specs.Head.{HeadStep, end_step, ends_dump, goes_on, head_step, is_end_command, offends, shows, step_in_dump, step_of_answer, step_of_command}
 use Rattle.mt_script.specs.declared.command.Stage.{Stage}
 use Rattle.mt_script.specs.declared.command.Stage.TheVariants.{NeedCpus, NeedDump, InDump, Rams, Commands, InUpdate, InBegin}
 use Rattle.mt_script.specs.declared.command.Command.{Command}
 use Rattle.mt_script.specs.declared.command.Command.TheVariants as command
 use Rattle.mt_script.specs.declared.fault.ScriptFault.{ScriptFault}
-use Rattle.mt_script.specs.declared.fault.Offence.{Offence}
+use Rattle.mt_script.specs.declared.fault.ScriptReason.TheVariants.{OutOfRange}
 use Rattle.mt_script.specs.declared.fault.Offence.TheVariants as offence
-use Rattle.mt_script.proofs.Ends.{ended, ends_well, leads_to}
 use Rattle.mt_script.proofs.Fitting.{command_fits}
 use Rattle.mt_script.proofs.Keeping.{accepted_is}
 
 module _ (now : Situation) (before : List Reading) (number : ℕ) (line : List ℕ) where
-  shown_step : (dump : Dump) (o : Option Offence) → o ≡ None → (found : Option Dump) → found ≡ Some dump → step_unless o (step_shown now before found) ≡ shows dump
-  shown_step dump o is found led = rw (is, led) refl
-
-  pub dump_shows : (dump : Dump) → IsClean before → ends_dump line ≡ true → ShownBy (onto before []) dump → has_each now.cpus dump ≡ true
-      → step_in_dump now before number line (ends_dump line) ≡ shows dump
-  dump_shows dump clean ends shown each =
-      let place = place_of number (words_of line) 0 in
-      rw ends (shown_step dump (end_offence now place before) (ends_well now place before dump clean shown each) (dump_in before) (leads_to before dump clean shown))
-
   -- in the dump each line is one of the dump
   pub head_in_dump : is_in_dump now.stage ≡ true → head_step now before number line ≡ step_in_dump now before number line (ends_dump line)
   head_in_dump dump = of_stage now.stage dump
@@ -107,19 +100,24 @@ accepted_dump now (command.Register msr value) = refl
 accepted_dump now command.End = refl
 
 module _ (now : Situation) (before : List Reading) (clean : IsClean before) (number : ℕ) (line : List ℕ) where
-  end_is : is_in_dump now.stage ≡ true → (o : Option Offence) → end_offence now (place_of number (words_of line) 0) before ≡ o → IsStep now before (step_unless o (step_shown now before (dump_in before)))
-  end_is stage (Some o) is = tt
-  end_is stage None is = by (ended now (place_of number (words_of line) 0) before clean is)
-    where
-      by : (dump : Dump) × (dump_in before ≡ Some dump) × ShownBy (onto before []) dump × (has_each now.cpus dump ≡ true) → IsStep now before (step_shown now before (dump_in before))
-      by (dump, led, shown, each) = rw led (record { stage = stage; shown = shown; each = each })
+  abbrev place : Place
+  place = place_of number (words_of line) 0
 
-  line_is : (fault : Option DumpFault) → offence_of before (said_of number line) ≡ fault → IsStep now before (step_unless (option_map offence.Dump fault) (goes_on now (said_of number line ∷ before)))
+  end_is : is_in_dump now.stage ≡ true → (answer : Result Dump DumpFault) → read_from place before [] ≡ answer → IsStep now before (end_step now.cpus place answer)
+  end_is stage (Err fault) is = tt
+  end_is stage (Ok dump) is = by (has_each now.cpus dump) refl
+    where
+      by : (each : Bool) → has_each now.cpus dump ≡ each → IsStep now before (if each then shows dump else offends (offence.Script (fault_at OutOfRange place)))
+      by true each = record { stage = stage; shown = shows_all place before [] dump clean tt is; each = each }
+      by false each = tt
+
+  line_is : (fault : Option DumpFault) → offence_of before (said_of number line) ≡ fault
+      → IsStep now before (option_map_or (λ fault. offends (offence.Dump fault)) fault (goes_on now (said_of number line ∷ before)))
   line_is (Some fault) is = tt
   line_is None is = record { clean = (is_sane number line, is, clean); same_dump = refl; is = λ was. was }
 
   dump_is : is_in_dump now.stage ≡ true → (end : Bool) → IsStep now before (step_in_dump now before number line end)
-  dump_is stage true = end_is stage (end_offence now (place_of number (words_of line) 0) before) refl
+  dump_is stage true = end_is stage (read_from place before []) refl
   dump_is stage false = line_is (offence_of before (said_of number line)) refl
 
   command_is : (c : Command) → Fits now c → (dump : Bool) → is_in_dump now.stage ≡ dump → IsStep now before (step_of_command now before number line c dump)

@@ -69,29 +69,16 @@ accepted now (command.Cpus n) = record now { stage = NeedDump; cpus = n }
 accepted now command.Dump = record now { stage = InDump }
 accepted now (command.Ram base lines) = record now { windows = now.windows ++ (base, lines) ∷ [] }
 accepted now (command.Selfsnoop k) = now
-accepted now (command.Load k address) = in_commands now
-accepted now (command.Store k address value) = in_commands now
-accepted now (command.Fence k) = in_commands now
-accepted now (command.Map k address physical index global) = in_commands now
-accepted now (command.Invlpg k address) = in_commands now
-accepted now (command.Cr3 k) = in_commands now
-accepted now (command.Pge k on) = in_commands now
-accepted now (command.Cd k on) = in_commands now
 accepted now command.Update = in_section_of InUpdate now
 accepted now command.Begin = in_section_of InBegin now
-accepted now command.Go = in_commands now
-accepted now command.Cancel = in_commands now
-accepted now command.Report = in_commands now
-accepted now (command.Step k) = in_commands now
 accepted now command.Up = in_motion now
 accepted now command.Join = in_motion now
 accepted now command.Retire = in_motion now
-accepted now (command.Word address) = in_commands now
-accepted now (command.Msr k msr) = in_commands now
 accepted now command.Blank = now
 accepted now command.DumpLine = now
 accepted now (command.Register msr value) = record now { seen = now.seen ++ msr ∷ [] }
 accepted now command.End = in_section_of Commands now
+accepted now other = in_commands now
 
 abbrev pub finished : Situation → Dump → Situation
 finished now dump = record now { stage = Rams; dump = Some dump; seen = [] }

@@ -2,6 +2,7 @@
 --     command_of now line bytes      the answer for the line of this number, by what stands set up
 --     end_fault stage place      the fault where the text ends in this stage
 use Rattle.std.specs.Prelude.{ℕ, ◌==◌, nat_eq, nat_lt, codes, Bool, false, List, length, if◌then◌else◌, Option, Some, None, Result, Ok, Err}
+use Rattle.std.specs.Option.{option_map_or}
 use Rattle.std.specs.Set.{is_member}
 use Rattle.mt_kinds.specs.Sizes.{most_lines, page_bytes}
 use Rattle.mt_text.specs.Text.{is_too_long, past_limit, words_of, without_ending}
@@ -9,12 +10,12 @@ use Rattle.mt_text.specs.Number.{hex_number}
 use Rattle.mt_text.specs.declared.place.Place.{Place}
 use Rattle.mt_script.specs.Situation.{Situation, file_of}
 use Rattle.mt_script.specs.Words.{text_of, place_of}
-use Rattle.mt_script.specs.Numbers.{fault_at, any, count_in, processor_in, value_in, virtual_in, physical_in, register_in, base_in, has_room, is_writable}
-use Rattle.mt_script.specs.Rows.{is_word, row_of, stands}
-use Rattle.mt_script.specs.Stages.{takes_commands}
+use Rattle.mt_script.specs.Numbers.{fault_at, any, with, count_in, processor_in, value_in, virtual_in, physical_in, register_in, base_in, has_room, is_writable}
+use Rattle.mt_script.specs.Rows.{is_word, row_of}
+use Rattle.mt_script.specs.Stages.{stands, takes_commands}
 use Rattle.mt_script.specs.Shape.{shape_fault}
 use Rattle.mt_script.specs.declared.command.Stage.{Stage}
-use Rattle.mt_script.specs.declared.command.Stage.TheVariants.{NeedCpus, NeedDump, InDump, Rams, Commands, InUpdate, InBegin}
+use Rattle.mt_script.specs.declared.command.Stage.TheVariants.{InDump, InUpdate, InBegin}
 use Rattle.mt_script.specs.declared.command.Command.{Command}
 use Rattle.mt_script.specs.declared.command.Command.TheVariants as command
 use Rattle.mt_script.specs.declared.row.Row.{Row}
@@ -25,16 +26,6 @@ use Rattle.mt_script.specs.declared.fault.ScriptFault.{ScriptFault}
 
 abbrev pub Answer : Type 0
 Answer = Result Command ScriptFault
-
--- what a good number leads to
-abbrev pub with : Result ℕ ScriptFault → (ℕ → Answer) → Answer
-with (Err fault) next = Err fault
-with (Ok number) next = next number
-
--- a fault, or else another answer
-abbrev pub unless : Option ScriptFault → Answer → Answer
-unless (Some fault) answer = Err fault
-unless None answer = answer
 
 -- The numbers of a line of each verb, from left to right, and the command that it asks for.
 abbrev pub cpus_in : ℕ → List (ℕ × List ℕ) → Answer
@@ -111,7 +102,7 @@ verb_answer now line words verb.Msr = msr_in now line words
 abbrev pub row_line : Situation → ℕ → List (ℕ × List ℕ) → Option Row → Answer
 row_line now line words None = Err (fault_at BadLine (place_of line words 0))
 row_line now line words (Some row) =
-    unless (shape_fault line words row)
+    option_map_or (λ fault. Err fault) (shape_fault line words row)
     (if stands row.turn now.stage then verb_answer now line words row.verb else Err (fault_at NotNow (place_of line words 0)))
 
 -- a line outside the sections
@@ -159,10 +150,7 @@ abbrev pub in_stage : Situation → ℕ → List ℕ → Stage → Answer
 in_stage now line bytes InDump = in_dump bytes
 in_stage now line bytes InUpdate = not_too_long line bytes (in_section now line (words_of bytes))
 in_stage now line bytes InBegin = not_too_long line bytes (in_section now line (words_of bytes))
-in_stage now line bytes NeedCpus = not_too_long line bytes (outside now line (words_of bytes))
-in_stage now line bytes NeedDump = not_too_long line bytes (outside now line (words_of bytes))
-in_stage now line bytes Rams = not_too_long line bytes (outside now line (words_of bytes))
-in_stage now line bytes Commands = not_too_long line bytes (outside now line (words_of bytes))
+in_stage now line bytes other = not_too_long line bytes (outside now line (words_of bytes))
 
 abbrev pub command_of : Situation → ℕ → List ℕ → Answer
 command_of now line bytes = in_stage now line bytes now.stage

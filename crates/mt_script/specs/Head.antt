@@ -1,15 +1,15 @@
 -- What one line of a script leads to (own).
 --     head_step now before number line      by the situation and the dump's lines so far, of which the last stands first
---     end_offence now place before      the offence of the dump's end, which is the word `end` at this place
-use Rattle.std.specs.Prelude.{ℕ, ◌≡◌, Bool, true, false, List, [], ◌∷◌, if◌then◌else◌, Option, Some, None, Result, Ok, Err, MatchOption, MatchResult}
-use Rattle.std.specs.Option.{option_map}
+--     end_step cpus place answer      at the dump's end, by what its lines are read as
+use Rattle.std.specs.Prelude.{ℕ, ◌≡◌, Bool, true, false, List, [], ◌∷◌, if◌then◌else◌, Option, Result, Ok, Err, MatchOption, MatchResult}
+use Rattle.std.specs.Option.{option_map_or}
 use Rattle.mt_text.specs.Text.{is_too_long, words_of}
 use Rattle.mt_text.specs.declared.place.Place.{Place}
 use Rattle.mt_dump.specs.Dumps.{Dump}
 use Rattle.mt_dump.specs.ForProcessors.{has_each}
 use Rattle.mt_dump.specs.Line.{Reading, said_of}
-use Rattle.mt_dump.specs.Dump.{offence_of, offence_at_end}
-use Rattle.mt_dump.specs.Reader.{HasRead, State, dump_in, onto}
+use Rattle.mt_dump.specs.Dump.{offence_of}
+use Rattle.mt_dump.specs.Reader.{HasRead, State, read_from}
 use Rattle.mt_dump.specs.declared.fault.DumpFault.{DumpFault}
 use Rattle.mt_script.specs.Situation.{Situation}
 use Rattle.mt_script.specs.Stages.{is_in_dump}
@@ -30,38 +30,17 @@ pub data HeadStep : Type 0 where
   shows : Dump → HeadStep
   offends : Offence → HeadStep
 
--- ---- the dump's end
-
--- the number of sections of a dump of version 2 isn't that of the processors
-abbrev pub sections_offence : ℕ → Place → Option Dump → Option Offence
-sections_offence cpus place None = None
-sections_offence cpus place (Some dump) = if has_each cpus dump then None else Some (offence.Script (fault_at OutOfRange place))
-
-abbrev pub or_sections : Option DumpFault → Option Offence → Option Offence
-or_sections (Some fault) other = Some (offence.Dump fault)
-or_sections None other = other
-
--- 0FEH must have been given; then the sections are counted
-abbrev pub end_offence : Situation → Place → List Reading → Option Offence
-end_offence now place before = or_sections (offence_at_end place (onto before [])) (sections_offence now.cpus place (dump_in before))
-
--- ---- a line
-
-abbrev pub step_unless : Option Offence → HeadStep → HeadStep
-step_unless (Some o) step = offends o
-step_unless None step = step
-
--- The dump's end has no offence: its lines then show a dump.
-abbrev pub step_shown : Situation → List Reading → Option Dump → HeadStep
-step_shown now before None = goes_on now before
-step_shown now before (Some dump) = shows dump
+-- The dump's end, which is the word `end` at this place. A dump of version 2 must have a section for each processor.
+abbrev pub end_step : ℕ → Place → Result Dump DumpFault → HeadStep
+end_step cpus place (Err fault) = offends (offence.Dump fault)
+end_step cpus place (Ok dump) = if has_each cpus dump then shows dump else offends (offence.Script (fault_at OutOfRange place))
 
 -- a line of the dump, which ends it where the last argument is true
 abbrev pub step_in_dump : Situation → List Reading → ℕ → List ℕ → Bool → HeadStep
 step_in_dump now before number line true =
-    step_unless (end_offence now (place_of number (words_of line) 0) before) (step_shown now before (dump_in before))
+    end_step now.cpus (place_of number (words_of line) 0) (read_from (place_of number (words_of line) 0) before [])
 step_in_dump now before number line false =
-    step_unless (option_map offence.Dump (offence_of before (said_of number line))) (goes_on now (said_of number line ∷ before))
+    option_map_or (λ fault. offends (offence.Dump fault)) (offence_of before (said_of number line)) (goes_on now (said_of number line ∷ before))
 
 -- the line's only word is `end`, and it isn't too long
 abbrev pub ends_dump : List ℕ → Bool
@@ -73,33 +52,8 @@ dump_step now before number line = step_in_dump now before number line (ends_dum
 
 -- the command ends a section
 abbrev pub is_end_command : Command → Bool
-is_end_command (command.Cpus n) = false
-is_end_command command.Dump = false
-is_end_command (command.Ram base lines) = false
-is_end_command (command.Selfsnoop k) = false
-is_end_command (command.Load k address) = false
-is_end_command (command.Store k address value) = false
-is_end_command (command.Fence k) = false
-is_end_command (command.Map k address physical index global) = false
-is_end_command (command.Invlpg k address) = false
-is_end_command (command.Cr3 k) = false
-is_end_command (command.Pge k on) = false
-is_end_command (command.Cd k on) = false
-is_end_command command.Update = false
-is_end_command command.Begin = false
-is_end_command command.Go = false
-is_end_command command.Cancel = false
-is_end_command command.Report = false
-is_end_command (command.Step k) = false
-is_end_command command.Up = false
-is_end_command command.Join = false
-is_end_command command.Retire = false
-is_end_command (command.Word address) = false
-is_end_command (command.Msr k msr) = false
-is_end_command command.Blank = false
-is_end_command command.DumpLine = false
-is_end_command (command.Register msr value) = false
 is_end_command command.End = true
+is_end_command other = false
 
 abbrev pub step_of_command : Situation → List Reading → ℕ → List ℕ → Command → Bool → HeadStep
 step_of_command now before number line c true = step_in_dump now before number line (is_end_command c)

@@ -17,36 +17,25 @@ use Rattle.mt_script.specs.declared.fault.ScriptFault.{ScriptFault}
 abbrev pub fault_at : ScriptReason → Place → ScriptFault
 fault_at reason place = record { reason = reason; place = place }
 
--- a number that is tested, at the place of its word
-abbrev pub tested : Bool → ScriptReason → Place → ℕ → Result ℕ ScriptFault
-tested good reason place number = if good then Ok number else Err (fault_at reason place)
-
--- a decimal number that is at least this
-abbrev pub at_least : ℕ → Place → Result ℕ NumberFault → Result ℕ ScriptFault
-at_least first place (Err NotDigit) = Err (fault_at BadNumber place)
-at_least first place (Err TooLarge) = Err (fault_at OutOfRange place)
-at_least first place (Ok number) = tested (nat_le first number) OutOfRange place number
-
--- a decimal number that is below this
-abbrev pub below : ℕ → Place → Result ℕ NumberFault → Result ℕ ScriptFault
-below limit place (Err NotDigit) = Err (fault_at BadNumber place)
-below limit place (Err TooLarge) = Err (fault_at OutOfRange place)
-below limit place (Ok number) = tested (nat_lt number limit) OutOfRange place number
+-- a decimal number up to a limit
+abbrev pub limited : Place → Result ℕ NumberFault → Result ℕ ScriptFault
+limited place (Err NotDigit) = Err (fault_at BadNumber place)
+limited place (Err TooLarge) = Err (fault_at OutOfRange place)
+limited place (Ok number) = Ok number
 
 -- a hexadecimal number
 abbrev pub any : Place → Result ℕ NumberFault → Result ℕ ScriptFault
 any place (Err fault) = Err (fault_at BadNumber place)
 any place (Ok number) = Ok number
 
--- a hexadecimal number that is a multiple of a step and below a limit
-abbrev pub aligned : ℕ → ℕ → Place → Result ℕ NumberFault → Result ℕ ScriptFault
-aligned step limit place (Err fault) = Err (fault_at BadNumber place)
-aligned step limit place (Ok number) = tested (number % step == 0 && nat_lt number limit) OutOfRange place number
+-- what a good value leads to
+abbrev pub with : {T U E : Type 0} → Result T E → (T → Result U E) → Result U E
+with (Err fault) next = Err fault
+with (Ok value) next = next value
 
--- a hexadecimal number that is a multiple of a step
-abbrev pub multiple : ℕ → Place → Result ℕ NumberFault → Result ℕ ScriptFault
-multiple step place (Err fault) = Err (fault_at BadNumber place)
-multiple step place (Ok number) = tested (number % step == 0) OutOfRange place number
+-- a number that passes a test, at the place of its word
+abbrev pub tested : ScriptReason → Place → (ℕ → Bool) → ℕ → Result ℕ ScriptFault
+tested reason place test number = if test number then Ok number else Err (fault_at reason place)
 
 -- how many bytes of addresses there are, once the dump has told it
 abbrev pub address_limit : Option RegisterFile → ℕ
@@ -62,27 +51,23 @@ is_register (Some file) number = is_some (value_at file number)
 abbrev pub is_writable : Option RegisterFile → ℕ → Bool
 is_writable file number = not (number == 0xfe) && is_register file number
 
--- a hexadecimal number of a register
-abbrev pub register : Option RegisterFile → Place → Result ℕ NumberFault → Result ℕ ScriptFault
-register file place (Err fault) = Err (fault_at BadNumber place)
-register file place (Ok number) = tested (is_register file number) UnknownRegister place number
-
 -- The numbers of a line of this number with these words, each by the number of its word.
 
 -- a decimal number from first to last
 abbrev pub count_in : ℕ → List (ℕ × List ℕ) → ℕ → ℕ → ℕ → Result ℕ ScriptFault
-count_in line words i first last = at_least first (place_of line words i) (decimal_number (text_of words i) last)
+count_in line words i first last = with (limited (place_of line words i) (decimal_number (text_of words i) last)) (tested OutOfRange (place_of line words i) (nat_le first))
 
 -- the number of a processor
 abbrev pub processor_in : Situation → ℕ → List (ℕ × List ℕ) → ℕ → Result ℕ ScriptFault
-processor_in now line words i = below (most_processors now) (place_of line words i) (decimal_number (text_of words i) 0xffffffffffffffff)
+processor_in now line words i =
+    with (limited (place_of line words i) (decimal_number (text_of words i) 0xffffffffffffffff)) (tested OutOfRange (place_of line words i) (λ k. nat_lt k (most_processors now)))
 
 abbrev pub value_in : ℕ → List (ℕ × List ℕ) → ℕ → Result ℕ ScriptFault
 value_in line words i = any (place_of line words i) (hex_number (text_of words i))
 
 -- a multiple of a step below a limit
 abbrev pub aligned_in : ℕ → List (ℕ × List ℕ) → ℕ → ℕ → ℕ → Result ℕ ScriptFault
-aligned_in line words i step limit = aligned step limit (place_of line words i) (hex_number (text_of words i))
+aligned_in line words i step limit = with (value_in line words i) (tested OutOfRange (place_of line words i) (λ address. address % step == 0 && nat_lt address limit))
 
 -- a virtual address
 abbrev pub virtual_in : ℕ → List (ℕ × List ℕ) → ℕ → ℕ → Result ℕ ScriptFault
@@ -93,11 +78,11 @@ abbrev pub physical_in : Situation → ℕ → List (ℕ × List ℕ) → ℕ �
 physical_in now line words i step = aligned_in line words i step (address_limit (file_of now))
 
 abbrev pub register_in : Situation → ℕ → List (ℕ × List ℕ) → ℕ → Result ℕ ScriptFault
-register_in now line words i = register (file_of now) (place_of line words i) (hex_number (text_of words i))
+register_in now line words i = with (value_in line words i) (tested UnknownRegister (place_of line words i) (is_register (file_of now)))
 
 -- the base of a window
 abbrev pub base_in : ℕ → List (ℕ × List ℕ) → ℕ → Result ℕ ScriptFault
-base_in line words i = multiple 64 (place_of line words i) (hex_number (text_of words i))
+base_in line words i = with (value_in line words i) (tested OutOfRange (place_of line words i) (λ base. base % 64 == 0))
 
 -- two windows share no byte
 abbrev pub are_apart : ℕ → ℕ → ℕ × ℕ → Bool

@@ -1,11 +1,8 @@
 -- The table of the lines that may stand outside the sections (own).
 --     table      each first word with its row
 --     row_of word      the row whose first word this is
---     stands turn stage      lines of this turn may stand in this stage
 use Rattle.std.specs.Prelude.{ℕ, ◌||◌, Bool, true, nat_eq, codes, List, [], ◌∷◌, if◌then◌else◌, Option, Some, None}
 use Rattle.std.specs.Cmp.Lexicographic.{pointwise}
-use Rattle.mt_script.specs.declared.command.Stage.{Stage}
-use Rattle.mt_script.specs.Stages.{takes_cpus, takes_dump, takes_windows, takes_commands}
 use Rattle.mt_script.specs.declared.row.Verb.{Verb}
 use Rattle.mt_script.specs.declared.row.Verb.TheVariants as verb
 use Rattle.mt_script.specs.declared.row.Last.{Last}
@@ -56,12 +53,6 @@ row_in word (entry ∷ entries) = if is_word entry.0 word then Some entry.1 else
 
 abbrev pub row_of : List ℕ → Option Row
 row_of word = row_in word table
-
-abbrev pub stands : Turn → Stage → Bool
-stands Cpus stage = takes_cpus stage
-stands Dump stage = takes_dump stage
-stands Windows stage = takes_windows stage
-stands Commands stage = takes_commands stage
 
 -- the word is `on` or `off`
 abbrev pub is_switch : List ℕ → Bool

@@ -2,6 +2,7 @@
 --     script_offence text      the first offence of a whole text, with its reason and place, whatever the files of its dump are
 --     IsGoodScript text      each line is accepted in its turn, the dump shows a file for each processor or in version 1 one for all, and the text may end where it ends
 use Rattle.std.specs.Prelude.{ℕ, ◌≡◌, ◌+◌, ◌∷◌, List, [], Bool, true, false, Option, Some, None, Ok}
+use Rattle.std.specs.Option.{option_map}
 use Rattle.mt_text.specs.Text.{lines_of, end_of}
 use Rattle.mt_text.specs.declared.place.Place.{Place}
 use Rattle.mt_dump.specs.Dumps.{Dump}
@@ -15,7 +16,6 @@ use Rattle.mt_script.specs.Commands.{command_of, end_fault}
 use Rattle.mt_script.specs.Accept.{accepted, finished}
 use Rattle.mt_script.specs.Head.{HeadStep, goes_on, shows, offends, head_step, is_end_command}
 use Rattle.mt_script.specs.declared.command.Command.{Command}
-use Rattle.mt_script.specs.declared.fault.ScriptFault.{ScriptFault}
 use Rattle.mt_script.specs.declared.fault.Offence.{Offence}
 use Rattle.mt_script.specs.declared.fault.Offence.TheVariants.{Script}
 
@@ -33,13 +33,9 @@ offence_after now rest (offends o) = Some o
 abbrev pub offence_from : Situation → List Reading → ℕ → List ℕ → Rest → Option Offence
 offence_from now before number line rest = offence_after now rest (head_step now before number line)
 
-abbrev pub at_end : Option ScriptFault → Option Offence
-at_end None = None
-at_end (Some fault) = Some (Script fault)
-
 -- the first offence of lines, the first of which has this number, where the text ends at this place
 abbrev pub offence_in : Place → ℕ → List (List ℕ) → Rest
-offence_in end number [] now before = at_end (end_fault now.stage end)
+offence_in end number [] now before = option_map Script (end_fault now.stage end)
 offence_in end number (line ∷ lines) now before =
     offence_from now before number line (offence_in end (number + 1) lines)
 

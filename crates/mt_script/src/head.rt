@@ -1,11 +1,10 @@
 ghost use Rattle.std.specs.Prelude.{◌≡◌, true, ◌∷◌, [], List, Some, None, IfOk, IfSome, MatchOption, MatchResult};
 ghost use Rattle.mt_dump.specs.ForProcessors.{has_each};
 ghost use Rattle.mt_dump.specs.Line.{Reading};
-ghost use Rattle.mt_dump.specs.Dump.{ShownBy};
-ghost use Rattle.mt_dump.specs.Reader.{HasRead, onto};
+ghost use Rattle.mt_dump.specs.Reader.{HasRead, read_from};
 ghost use Rattle.mt_script.specs.Situation.{Situation, at_start};
 ghost use Rattle.mt_script.specs.Stages.{is_in_dump};
-ghost use Rattle.mt_script.specs.Head.{TakesLine, dump_step, end_offence, head_step};
+ghost use Rattle.mt_script.specs.Head.{TakesLine, dump_step, end_step, head_step, offends, shows};
 
 use crate::name::is_in_dump;
 use crate::number::fault;
@@ -28,9 +27,9 @@ pub struct Head {
 // What the lines of a dump show to so many processors. Its last line has the word `end` at this place.
 fn end_dump(dump: &mut DumpReader, cpus: u32, at: Place) -> Result<Dump, Offence>
     ensures each { IfOk result (λ d. has_each cpus d ≡ true) }
-    ensures shown { (now : Situation) (before : List Reading) → now.cpus ≡ cpus → HasRead dump.old before → MatchResult result
-        (λ d. ShownBy (onto before []) d × HasRead dump.new [])
-        (λ offence. end_offence now at before ≡ Some offence) }
+    ensures step { (before : List Reading) → HasRead dump.old before → MatchResult result
+        (λ d. HasRead dump.new [] × (end_step cpus at (read_from at before []) ≡ shows d))
+        (λ offence. end_step cpus at (read_from at before []) ≡ offends offence) }
 {
     match mem::replace(dump, DumpReader::new()).finish(at) {
         Ok(d) if d.has_each(cpus) => Ok(d),

@@ -1,6 +1,6 @@
 ghost use Rattle.std.specs.Prelude.{◌≡◌, codes};
-ghost use Rattle.mt_script.specs.Rows.{row_of, is_word, plain, stands};
-ghost use Rattle.mt_script.specs.Stages.{is_in_dump, takes_commands};
+ghost use Rattle.mt_script.specs.Rows.{row_of, is_word, plain};
+ghost use Rattle.mt_script.specs.Stages.{is_in_dump, stands, takes_commands};
 
 use crate::Stage;
 use crate::row::{Last, Row, Turn, Verb};

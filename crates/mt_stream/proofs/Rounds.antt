@@ -10,7 +10,8 @@ use Rattle.mt_text.specs.declared.fault.FeedFault.{FeedFault}
 use Rattle.mt_text.specs.declared.fault.FeedFault.TheVariants as fault
 use Rattle.mt_text.proofs.Feeding.{front_within}
 use Rattle.mt_text.proofs.Fronts.{long_front}
-use Rattle.mt_stream.specs.Lines.{Closes, CutShort, cut_status}
+use Rattle.mt_stream.specs.Lines.{Closes, CutShort, Leads, cut_status}
+use Rattle.mt_output.specs.Ports.{Held, Port, Waiting, change, read}
 use Rattle.mt_stream.specs.Runs.{EndsAs, RunsAs}
 use Rattle.mt_stream.specs.Told.{Telling, Told}
 use Rattle.mt_stream.specs.declared.running.Cut.{Cut}
@@ -57,22 +58,22 @@ pub never_much : (status : Status) (before now : ℕ) (feed : Feeding) → statu
 never_much status before now feed other given long none = (λ is. absurd (other is), λ much. absurd (not_much feed long none (omega (arith, given, much))))
 
 -- which statuses a run ends with
-pub ends_as : (t : Told) (start : Telling) (early bytes : List ℕ) (left a b : Option (List ℕ)) (status : Status) → RunsAs t start early bytes left a b status → EndsAs t.status status
-ends_as t start early bytes left a b Done runs = inl runs.status_is
-ends_as t start early bytes left a b Refused runs = inl runs.status_is
-ends_as t start early bytes left a b Usage runs = absurd runs
-ends_as t start early bytes left a b BadText runs = inl runs.status_is
-ends_as t start early bytes left a b ReadFault runs = inr (inl refl)
-ends_as t start early bytes left a b WriteFault runs = inr (inr (inl refl))
-ends_as t start early bytes left a b NoMemory runs = inr (inr (inr (inl refl)))
-ends_as t start early bytes left a b TooLong runs = inr (inr (inr (inr refl)))
-ends_as t start early bytes left a b TooFew runs = absurd runs
-ends_as t start early bytes left a b Disabled runs = absurd runs
+pub ends_as : (leads : Leads) (start : Telling) (source : Held) (sink : Port) (status : Status) → RunsAs leads start source sink status → EndsAs leads.tells.status status
+ends_as leads start source sink Done runs = inl runs.status_is
+ends_as leads start source sink Refused runs = inl runs.status_is
+ends_as leads start source sink Usage runs = absurd runs
+ends_as leads start source sink BadText runs = inl runs.status_is
+ends_as leads start source sink ReadFault runs = inr (inl refl)
+ends_as leads start source sink WriteFault runs = inr (inr (inl refl))
+ends_as leads start source sink NoMemory runs = inr (inr (inr (inl refl)))
+ends_as leads start source sink TooLong runs = inr (inr (inr (inr refl)))
+ends_as leads start source sink TooFew runs = absurd runs
+ends_as leads start source sink Disabled runs = absurd runs
 
 -- ---- cuts
 
-module _ (old new : Feeding) (more waiting left : List ℕ) (a b : Option (List ℕ)) (first before now : ℕ) (given : before ≡ first + taken old) (rises : now ≡ before + length more) (long : IsLong new) (none : old.fault ≡ None) where
-  pub cut_long : (why : Cut) → CutShort old new (old.pending ++ more) waiting left a b why → (cut_status why ≡ TooLong) ↔ GaveTooMuch first now
+module _ (old new : Feeding) (more : List ℕ) (after : Option (List ℕ)) (writer : Waiting) (sink : Port) (first before now : ℕ) (given : before ≡ first + taken old) (rises : now ≡ before + length more) (long : IsLong new) (none : old.fault ≡ None) where
+  pub cut_long : (why : Cut) → CutShort (change old new) (read more after) writer sink why → (cut_status why ≡ TooLong) ↔ GaveTooMuch first now
   cut_long cut.Write short =
       let count : length more ≡ 0 = omega (arith, ap length short.1, length-append old.pending more) in
       let kept : IsLong old = subst IsLong short.0 long in
@@ -84,9 +85,9 @@ module _ (old new : Feeding) (more waiting left : List ℕ) (a b : Option (List 
       let count = stopped_taken old new more None fault.TooLong short.0 in
       (λ is. let many = long.0 short.0.3 in omega (arith, given, rises, count, many), λ much. refl)
 
-  pub cut_enough : (why : Cut) → CutShort old new (old.pending ++ more) waiting left a b why → why ≡ cut.Feed fault.TooLong → 16777216 < taken old + length more
+  pub cut_enough : (why : Cut) → CutShort (change old new) (read more after) writer sink why → why ≡ cut.Feed fault.TooLong → 16777216 < taken old + length more
   cut_enough why short is =
-      let said : CutShort old new (old.pending ++ more) waiting left a b (cut.Feed fault.TooLong) = subst (CutShort old new (old.pending ++ more) waiting left a b) is short in
+      let said : CutShort (change old new) (read more after) writer sink (cut.Feed fault.TooLong) = subst (CutShort (change old new) (read more after) writer sink) is short in
       let count = stopped_taken old new more None fault.TooLong said.0 in
       let many = long.0 said.0.3 in
       omega (arith, count, many)

@@ -20,8 +20,9 @@ use Rattle.mt_text.proofs.Feeding.{front_within, unknown_few}
 use Rattle.mt_text.proofs.Fronts.{last_front, long_front, place_of_front}
 use Rattle.mt_stream.specs.Known.{known_part, known_text}
 use Rattle.mt_stream.specs.Laws.{AreLaws, IsLongLed}
-use Rattle.mt_stream.specs.Lines.{Closes, CutShort, Ends, Fails, GoesOn, Leads, Leaves, Path, Running, Wants, closed_status, cut_status, early_of, from_line, leads_behind, stop_status, tells_of}
+use Rattle.mt_stream.specs.Lines.{AtLine, Closes, CutShort, Ends, Fails, GoesOn, LastLine, Leads, Leaves, Path, Running, Wants, at_line, closed_status, cut_status, early_of, last_line, leads_behind, stop_status, tells_of}
 use Rattle.mt_stream.specs.Handling.{RunsOn}
+use Rattle.mt_output.specs.Ports.{Port, Read, change, held, read}
 use Rattle.mt_stream.specs.Runs.{RefusedAtLine}
 use Rattle.mt_stream.specs.Told.{Telling, Told, behind, transcript}
 use Rattle.mt_stream.specs.declared.ending.End.{End}
@@ -75,19 +76,19 @@ wants_memory stopped.Refused is = cc is
 wants_memory stopped.BadText is = cc is
 wants_memory stopped.NoMemory is = refl
 
-pub refused_line : (stop : Stop) (last : Bool) (more : List ℕ) (left : Option (List ℕ)) (waiting : List ℕ) (a b : Option (List ℕ)) (result : Status) → Leaves stop last more left waiting a b result → result ≡ NoMemory → stop ≡ stopped.NoMemory
-refused_line stop last more left waiting a b result (inl unwritten) is = let e : NoMemory ≡ WriteFault = sym is ∙ unwritten.0 in absurd (cc e)
-refused_line stop last more left waiting a b result (inr (put, inl kept)) is = wants_memory stop (sym kept.0 ∙ is)
-refused_line stop last more left waiting a b result (inr (put, inr (going, other, inl all))) is = wants_memory stop (sym all.0 ∙ is)
-refused_line stop last more left waiting a b result (inr (put, inr (going, other, inr (inl read)))) is = let e : NoMemory ≡ ReadFault = sym is ∙ read in absurd (cc e)
-refused_line stop last more left waiting a b result (inr (put, inr (going, other, inr (inr much)))) is = let e : NoMemory ≡ TooLong = sym is ∙ much in absurd (cc e)
+pub refused_line : (line : LastLine) (source : Read) (waiting : List ℕ) (sink : Port) (result : Status) → Leaves line source waiting sink result → result ≡ NoMemory → line.stop ≡ stopped.NoMemory
+refused_line line source waiting sink result (inl unwritten) is = let e : NoMemory ≡ WriteFault = sym is ∙ unwritten.0 in absurd (cc e)
+refused_line line source waiting sink result (inr (put, inl kept)) is = wants_memory line.stop (sym kept.0 ∙ is)
+refused_line line source waiting sink result (inr (put, inr (going, other, inl all))) is = wants_memory line.stop (sym all.0 ∙ is)
+refused_line line source waiting sink result (inr (put, inr (going, other, inr (inl failed)))) is = let e : NoMemory ≡ ReadFault = sym is ∙ failed in absurd (cc e)
+refused_line line source waiting sink result (inr (put, inr (going, other, inr (inr much)))) is = let e : NoMemory ≡ TooLong = sym is ∙ much in absurd (cc e)
 
 -- all that waited went to the sink then, and nothing more was read
-refused_leaves : (stop : Stop) (last : Bool) (more : List ℕ) (left : Option (List ℕ)) (waiting : List ℕ) (a b : Option (List ℕ)) (result : Status) → Leaves stop last more left waiting a b result → result ≡ NoMemory → stop ≡ stopped.NoMemory
-    → Appends a b waiting × (more ≡ [])
-refused_leaves stop last more left waiting a b result (inl unwritten) is wants = let e : NoMemory ≡ WriteFault = sym is ∙ unwritten.0 in absurd (cc e)
-refused_leaves stop last more left waiting a b result (inr (put, inl kept)) is wants = (put, kept.2)
-refused_leaves stop last more left waiting a b result (inr (put, inr (going, other, rest))) is wants = absurd (other wants)
+refused_leaves : (line : LastLine) (source : Read) (waiting : List ℕ) (sink : Port) (result : Status) → Leaves line source waiting sink result → result ≡ NoMemory → line.stop ≡ stopped.NoMemory
+    → Appends sink.old sink.new waiting × (source.more ≡ [])
+refused_leaves line source waiting sink result (inl unwritten) is wants = let e : NoMemory ≡ WriteFault = sym is ∙ unwritten.0 in absurd (cc e)
+refused_leaves line source waiting sink result (inr (put, inl kept)) is wants = (put, kept.2)
+refused_leaves line source waiting sink result (inr (put, inr (going, other, rest))) is wants = absurd (other wants)
 
 -- another line that ends a run tells so
 told_so : (stop : Stop) → stop ≢ stopped.NoMemory → (stop_status stop ≡ Done) ⊎ (stop_status stop ≡ Refused) ⊎ (stop_status stop ≡ BadText)
@@ -232,8 +233,8 @@ module _ (R : Running) (start : Path) (laws : AreLaws R) where
   -- ---- the line leads on
 
   module _ (bytes : List ℕ) (source : Option (List ℕ)) (feed : Feeding) (now : R.Run) (waiting : List ℕ) (a b : Option (List ℕ)) (h : HasLine R start bytes source feed now waiting a b) where
-    abbrev Leading : Option Place → List (List ℕ) → Leads
-    Leading = from_line feed.line.number feed.line.bytes h.point
+    abbrev here : AtLine
+    here = at_line feed.line.number feed.line.bytes h.text h.point
 
     case : ((is_last feed ≡ false) × (known_front h.seen ≡ Some h.front)) ⊎ ((is_last feed ≡ true) × (known_front h.seen ≡ None) × IsAtEnd source × (1 ≤ length h.seen) × (h.front ≡ (length h.seen, false)))
     case = which feed h.lent h.seen source h.front h.is h.line h.from h.offset
@@ -257,10 +258,10 @@ module _ (R : Running) (start : Path) (laws : AreLaws R) where
         omega (arith, size, many)
 
     -- the lines that are left begin with it
-    first_from : (known_front h.seen ≡ Some h.front) → (end : Option Place) (x : List ℕ) → (lines : List (List ℕ)) × (told_lines end feed.line.number (lines_of (h.seen ++ x)) h.point ≡ Leading end lines)
+    first_from : (known_front h.seen ≡ Some h.front) → (end : Option Place) (x : List ℕ) → (lines : List (List ℕ)) × (told_lines end feed.line.number (lines_of (h.seen ++ x)) h.point ≡ here.leads end lines)
     first_from known end x = by h.front refl known
       where
-        by : (front : ℕ × Bool) → h.front ≡ front → known_front h.seen ≡ Some front → (lines : List (List ℕ)) × (told_lines end feed.line.number (lines_of (h.seen ++ x)) h.point ≡ Leading end lines)
+        by : (front : ℕ × Bool) → h.front ≡ front → known_front h.seen ≡ Some front → (lines : List (List ℕ)) × (told_lines end feed.line.number (lines_of (h.seen ++ x)) h.point ≡ here.leads end lines)
         by (count, true) is known = (
           lines_of (drop (count + 1) h.seen ++ x),
           ap (λ l. told_lines end feed.line.number l h.point)
@@ -273,10 +274,10 @@ module _ (R : Running) (start : Path) (laws : AreLaws R) where
                   ∙ sym (long_told.is feed.line.bytes end [] (long_line count known is)),
             )
 
-    first_known : (known_front h.seen ≡ Some h.front) → (x : List ℕ) → (lines : List (List ℕ)) × (told_lines None feed.line.number (lines_of (known_part (h.seen ++ x))) h.point ≡ Leading None lines)
+    first_known : (known_front h.seen ≡ Some h.front) → (x : List ℕ) → (lines : List (List ℕ)) × (told_lines None feed.line.number (lines_of (known_part (h.seen ++ x))) h.point ≡ here.leads None lines)
     first_known known x = by h.front refl known
       where
-        by : (front : ℕ × Bool) → h.front ≡ front → known_front h.seen ≡ Some front → (lines : List (List ℕ)) × (told_lines None feed.line.number (lines_of (known_part (h.seen ++ x))) h.point ≡ Leading None lines)
+        by : (front : ℕ × Bool) → h.front ≡ front → known_front h.seen ≡ Some front → (lines : List (List ℕ)) × (told_lines None feed.line.number (lines_of (known_part (h.seen ++ x))) h.point ≡ here.leads None lines)
         by (count, true) is known =
             let rest = drop (count + 1) h.seen ++ x in (
               lines_of (known_part rest),
@@ -292,7 +293,7 @@ module _ (R : Running) (start : Path) (laws : AreLaws R) where
             )
 
     -- the whole text leads on from it
-    pub all_from : (end : Option Place) → (lines : List (List ℕ)) × (told_of start end bytes ≡ leads_behind h.text (Leading end lines))
+    pub all_from : (end : Option Place) → (lines : List (List ℕ)) × (told_of start end bytes ≡ leads_behind h.text (here.leads end lines))
     all_from end = elim case [
       | inl more ↦
           let from = first_from more.1 end h.rest in
@@ -307,7 +308,7 @@ module _ (R : Running) (start : Path) (laws : AreLaws R) where
     ]
 
     -- a run doesn't go on behind a line too long
-    long_never_goes : (later : R.Run) (left : List ℕ) (c : Option (List ℕ)) → GoesOn (R.At later) Leading (feed.line.number + 1) h.text waiting left b c → 4096 < length feed.line.bytes → ⊥
+    long_never_goes : (later : R.Run) (left : List ℕ) (c : Option (List ℕ)) → GoesOn (R.At later) here (change waiting left) (change b c) → 4096 < length feed.line.bytes → ⊥
     long_never_goes later left c g long =
         let none = laws.unknown later (h.text ++ g.text) g.next (feed.line.number + 1) g.at in
         let e : BadText ≡ Done = sym long_told.bad ∙ ap (λ (t : Leads). t.tells.status) (sym (long_told.is feed.line.bytes None [] long) ∙ g.goes None []) ∙ ap (λ (t : Told). t.status) none in
@@ -315,7 +316,7 @@ module _ (R : Running) (start : Path) (laws : AreLaws R) where
 
     -- ---- it goes on
 
-    module _ (later : R.Run) (left : List ℕ) (c : Option (List ℕ)) (g : GoesOn (R.At later) Leading (feed.line.number + 1) h.text waiting left b c) where
+    module _ (later : R.Run) (left : List ℕ) (c : Option (List ℕ)) (g : GoesOn (R.At later) here (change waiting left) (change b c)) where
       goes_ended : (count : ℕ) → h.front ≡ (count, true) → known_front h.seen ≡ Some (count, true) → UnderWay R start bytes source feed later left a c
       goes_ended count is known =
           let ended : List ℕ = take (count + 1) h.seen in
@@ -356,7 +357,7 @@ module _ (R : Running) (start : Path) (laws : AreLaws R) where
   -- ---- the text ends
 
   module _ (bytes : List ℕ) (source : Option (List ℕ)) (feed : Feeding) (now : R.Run) (waiting : List ℕ) (a b : Option (List ℕ)) (h : HasLine R start bytes source feed now waiting a b)
-      (later : R.Run) (left : List ℕ) (c : Option (List ℕ)) (g : GoesOn (R.At later) (from_line feed.line.number feed.line.bytes h.point) (feed.line.number + 1) h.text waiting left b c) where
+      (later : R.Run) (left : List ℕ) (c : Option (List ℕ)) (g : GoesOn (R.At later) (at_line feed.line.number feed.line.bytes h.text h.point) (change waiting left) (change b c)) where
     last_ends : IsAtEnd source → known_front h.seen ≡ None → 1 ≤ length h.seen → h.front ≡ (length h.seen, false) → AtEnd R start bytes source feed.place later left a c
     last_ends end unknown some front =
         let none : h.rest ≡ [] = none_left source h.rest h.is_left end in
@@ -403,12 +404,12 @@ module _ (R : Running) (start : Path) (laws : AreLaws R) where
 
   module _ (bytes text : List ℕ) (left a b : Option (List ℕ)) (t : Told) (is : transcript (tells_of start) bytes ≡ behind text t) (put : Appends a b (text ++ t.text)) (read : left ≡ Some []) where
     -- all is told, with this status
-    pub tells_all : (status : Status) → status ≡ t.status → (status ≡ Done) ⊎ (status ≡ Refused) ⊎ (status ≡ BadText) → RunsOn start bytes left a b status
+    pub tells_all : (status : Status) → status ≡ t.status → (status ≡ Done) ⊎ (status ≡ Refused) ⊎ (status ≡ BadText) → RunsOn start (held bytes left) (change a b) status
     tells_all status same one = elim one [
-      | inl done ↦ subst (RunsOn start bytes left a b) (sym done) (record { status_is = sym done ∙ same ∙ sym (ap (λ (x : Told). x.status) is); taken = taken; read = read })
+      | inl done ↦ subst (RunsOn start (held bytes left) (change a b)) (sym done) (record { status_is = sym done ∙ same ∙ sym (ap (λ (x : Told). x.status) is); taken = taken; read = read })
       | inr other ↦ elim other [
-        | inl refused ↦ subst (RunsOn start bytes left a b) (sym refused) (record { status_is = sym refused ∙ same ∙ sym (ap (λ (x : Told). x.status) is); taken = taken; read = read })
-        | inr bad ↦ subst (RunsOn start bytes left a b) (sym bad) (record { status_is = sym bad ∙ same ∙ sym (ap (λ (x : Told). x.status) is); taken = taken; read = read })
+        | inl refused ↦ subst (RunsOn start (held bytes left) (change a b)) (sym refused) (record { status_is = sym refused ∙ same ∙ sym (ap (λ (x : Told). x.status) is); taken = taken; read = read })
+        | inr bad ↦ subst (RunsOn start (held bytes left) (change a b)) (sym bad) (record { status_is = sym bad ∙ same ∙ sym (ap (λ (x : Told). x.status) is); taken = taken; read = read })
       ]
     ]
       where
@@ -416,7 +417,7 @@ module _ (R : Running) (start : Path) (laws : AreLaws R) where
         taken = subst (Appends a b) (sym (ap (λ (x : Told). x.text) is)) put
 
   pub closes : (bytes : List ℕ) (source : Option (List ℕ)) (place : Place) (now : R.Run) (waiting : List ℕ) (a b c : Option (List ℕ)) (result : Result End Failed) → AtEnd R start bytes source place now waiting a b
-      → Closes (R.ends now place) waiting b c result → RunsOn start bytes source a c (closed_status result)
+      → Closes (R.ends now place) waiting (change b c) result → RunsOn start (held bytes source) (change a c) (closed_status result)
   closes bytes source place now waiting a b c (Ok text_end.Done) h all =
       tells_all bytes h.text source a c (R.ends now place) h.tells (passes_then h.text waiting (R.ends now place).text a b c h.passed all.1) h.is_left Done all.0 (inl refl)
   closes bytes source place now waiting a b c (Ok text_end.BadText) h all =
@@ -432,16 +433,16 @@ module _ (R : Running) (start : Path) (laws : AreLaws R) where
     front_text : (rest : List ℕ) × ((transcript (tells_of start) bytes).text ≡ h.text ++ rest)
     front_text =
         let from = all_from bytes source feed now waiting a b h (Some (end_of bytes)) in
-        ((from_line feed.line.number feed.line.bytes h.point (Some (end_of bytes)) from.0).tells.text, ap (λ (x : Leads). x.tells.text) from.1)
+        ((h.point (Some (end_of bytes)) feed.line.number (feed.line.bytes ∷ from.0)).tells.text, ap (λ (x : Leads). x.tells.text) from.1)
 
-    pub line_fails : (c : Option (List ℕ)) → Fails (from_line feed.line.number feed.line.bytes h.point) waiting b c → AppendsFront a c (transcript (tells_of start) bytes).text
+    pub line_fails : (c : Option (List ℕ)) → Fails (at_line feed.line.number feed.line.bytes h.text h.point) waiting (change b c) → AppendsFront a c (transcript (tells_of start) bytes).text
     line_fails c f =
         let from = all_from bytes source feed now waiting a b h (Some (end_of bytes)) in
         let (rest, cut) = f.front (Some (end_of bytes)) from.0 in
         subst (AppendsFront a c) (ap (λ l. h.text ++ l) (sym cut) ∙ sym (ap (λ (x : Leads). x.tells.text) from.1)) (fails_then h.text waiting f.text rest a b c h.passed f.failed)
 
     module _ (stop : Stop) (result : Status) (more left : List ℕ) (source_after c d : Option (List ℕ)) (takes : Consumes source source_after more) (long : result ≡ TooLong → 16777216 < taken feed + length more)
-        (leaves : Leaves stop (is_last feed) more source_after left c d result) where
+        (leaves : Leaves (last_line stop (is_last feed)) (read more source_after) left (change c d) result) where
       took : (rest : List ℕ) × (source_after ≡ Some rest) × (h.rest ≡ more ++ rest)
       took = consumed h.rest more source_after (subst (λ o. Consumes o source_after more) h.is_left takes)
 
@@ -461,12 +462,12 @@ module _ (R : Running) (start : Path) (laws : AreLaws R) where
           ]
 
       -- memory was refused
-      pub line_wants : Wants (from_line feed.line.number feed.line.bytes h.point) h.text waiting left b c stop → RunsOn start bytes source_after a d result
+      pub line_wants : Wants (at_line feed.line.number feed.line.bytes h.text h.point) (change waiting left) (change b c) stop → RunsOn start (held bytes source_after) (change a d) result
       line_wants w = elim leaves [
-        | inl unwritten ↦ subst (RunsOn start bytes source_after a d) (sym unwritten.0) (subst (AppendsFront a d) (sym front_text.1) (fails_out h.text left front_text.0 a c d passed unwritten.1))
+        | inl unwritten ↦ subst (RunsOn start (held bytes source_after) (change a d)) (sym unwritten.0) (subst (AppendsFront a d) (sym front_text.1) (fails_out h.text left front_text.0 a c d passed unwritten.1))
         | inr written ↦ elim written.1 [
           | inl kept ↦
-              subst (RunsOn start bytes source_after a d) (sym (kept.0 ∙ ap stop_status w.refused))
+              subst (RunsOn start (held bytes source_after) (change a d)) (sym (kept.0 ∙ ap stop_status w.refused))
               (before_early (passes_out h.text left a c d passed written.0), subst (AppendsFront a d) (sym front_text.1) (front_of h.text front_text.0 a d (passes_out h.text left a c d passed written.0)))
           | inr dropped ↦ absurd (dropped.1 w.refused)
         ]
@@ -483,10 +484,10 @@ module _ (R : Running) (start : Path) (laws : AreLaws R) where
 
       -- it was refused at this line
       pub line_refused : (Asks : Telling → ℕ → List ℕ → Type 0) → result ≡ NoMemory → stop ≡ stopped.NoMemory → left ≡ waiting → c ≡ b → Asks (tells_of h.point) feed.line.number feed.line.bytes
-          → RefusedAtLine (tells_of start) Asks bytes source_after a d
-      line_refused Asks none wants waits kept asks = by (refused_leaves stop (is_last feed) more source_after left c d result leaves none wants)
+          → RefusedAtLine (tells_of start) Asks (held bytes source_after) (change a d)
+      line_refused Asks none wants waits kept asks = by (refused_leaves (last_line stop (is_last feed)) (read more source_after) left (change c d) result leaves none wants)
         where
-          by : Appends c d left × (more ≡ []) → RefusedAtLine (tells_of start) Asks bytes source_after a d
+          by : Appends c d left × (more ≡ []) → RefusedAtLine (tells_of start) Asks (held bytes source_after) (change a d)
           by (put, no_more) =
               let rest : h.rest ≡ took.0 = took.2 ∙ ap (λ (l : List ℕ). l ++ took.0) no_more in
               let is_left : source_after ≡ Some h.rest = took.1 ∙ ap Some (sym rest) in
@@ -506,7 +507,7 @@ module _ (R : Running) (start : Path) (laws : AreLaws R) where
               }
 
       -- an offence or a refused dump
-      module _ (e : Ends (from_line feed.line.number feed.line.bytes h.point) waiting left b c stop) where
+      module _ (e : Ends (at_line feed.line.number feed.line.bytes h.text h.point) (change waiting left) (change b c) stop) where
         abbrev t : Told
         t = e.telling
 
@@ -519,7 +520,7 @@ module _ (R : Running) (start : Path) (laws : AreLaws R) where
         unwritten : AppendsFront c d left → AppendsFront a d (transcript (tells_of start) bytes).text
         unwritten put = subst (AppendsFront a d) (append-nil (h.text ++ t.text) ∙ sym (ap (λ (x : Told). x.text) is)) (fails_out (h.text ++ t.text) left [] a c d passed put)
 
-        ended : Appends c d left → result ≡ stop_status stop → source_after ≡ Some [] → RunsOn start bytes source_after a d result
+        ended : Appends c d left → result ≡ stop_status stop → source_after ≡ Some [] → RunsOn start (held bytes source_after) (change a d) result
         ended put same read = tells_all bytes h.text source_after a d t is (passes_out (h.text ++ t.text) left a c d passed put) read result (same ∙ e.status_is) (subst (λ s. (s ≡ Done) ⊎ (s ≡ Refused) ⊎ (s ≡ BadText)) (sym same) (told_so stop e.last))
 
         known : is_last feed ≡ false → known_text (tells_of start) (h.lent ++ (h.seen ++ more)) ≡ h.text ++ t.text
@@ -532,11 +533,11 @@ module _ (R : Running) (start : Path) (laws : AreLaws R) where
         ]
 
         pub ends_with_memory : result ≡ NoMemory → ⊥
-        ends_with_memory none = e.last (refused_line stop (is_last feed) more source_after left c d result leaves none)
+        ends_with_memory none = e.last (refused_line (last_line stop (is_last feed)) (read more source_after) left (change c d) result leaves none)
 
-        pub line_ends : RunsOn start bytes source_after a d result
+        pub line_ends : RunsOn start (held bytes source_after) (change a d) result
         line_ends = elim leaves [
-          | inl failed ↦ subst (RunsOn start bytes source_after a d) (sym failed.0) (unwritten failed.1)
+          | inl failed ↦ subst (RunsOn start (held bytes source_after) (change a d)) (sym failed.0) (unwritten failed.1)
           | inr written ↦ elim written.1 [
             | inl kept ↦ elim kept.1 [
               | inl last ↦ ended written.0 kept.0 (nothing_left kept.2 last)
@@ -545,14 +546,14 @@ module _ (R : Running) (start : Path) (laws : AreLaws R) where
             | inr dropped ↦ elim dropped.2 [
               | inl all ↦ ended written.0 all.0 (took.1 ∙ ap Some (none_left source_after took.0 took.1 all.1))
               | inr cut ↦ elim cut [
-                | inl read ↦ subst (RunsOn start bytes source_after a d) (sym read) (record {
+                | inl failed ↦ subst (RunsOn start (held bytes source_after) (change a d)) (sym failed) (record {
                   front = h.lent ++ (h.seen ++ more);
                   rest = took.0;
                   cut = h.cut ∙ ap (λ l. h.lent ++ (h.seen ++ l)) took.2 ∙ ap (λ l. h.lent ++ l) (sym (append_assoc h.seen more took.0)) ∙ sym (append_assoc h.lent (h.seen ++ more) took.0);
                   is_left = took.1;
                   taken = subst (Appends a d) (sym (known dropped.0)) (passes_out (h.text ++ t.text) left a c d passed written.0);
                 })
-                | inr much ↦ subst (RunsOn start bytes source_after a d) (sym much)
+                | inr much ↦ subst (RunsOn start (held bytes source_after) (change a d)) (sym much)
                     (enough much, subst (AppendsFront a d) (append-nil (h.text ++ t.text) ∙ sym (ap (λ (x : Told). x.text) is)) (front_of (h.text ++ t.text) [] a d (passes_out (h.text ++ t.text) left a c d passed written.0)))
               ]
             ]
@@ -568,7 +569,7 @@ module _ (R : Running) (start : Path) (laws : AreLaws R) where
   -- ---- there is no next line
 
   pub cuts : (bytes more : List ℕ) (source left : Option (List ℕ)) (old new : Feeding) (now : R.Run) (waiting later : List ℕ) (a b c : Option (List ℕ)) (why : Cut) → UnderWay R start bytes source old now waiting a b → Consumes source left more
-      → CutShort old new (old.pending ++ more) waiting later b c why → old.fault ≡ None → (why ≡ cut.Feed fault.TooLong → 16777216 < taken old + length more) → RunsOn start bytes left a c (cut_status why)
+      → CutShort (change old new) (read more left) (change waiting later) (change b c) why → old.fault ≡ None → (why ≡ cut.Feed fault.TooLong → 16777216 < taken old + length more) → RunsOn start (held bytes left) (change a c) (cut_status why)
   cuts bytes more source left old new now waiting later a b c cut.Write h takes short none long =
       let all : told_of start (Some (end_of bytes)) bytes ≡ leads_behind h.text (told_lines (Some (end_of bytes)) old.place.line (lines_of (old.pending ++ h.rest)) h.point) = ap (told_of start (Some (end_of bytes))) h.cut ∙ h.led (Some (end_of bytes)) (old.pending ++ h.rest) in
       subst (AppendsFront a c) (sym (ap (λ (x : Leads). x.tells.text) all)) (fails_out h.text waiting (told_lines (Some (end_of bytes)) old.place.line (lines_of (old.pending ++ h.rest)) h.point).tells.text a b c h.passed short.2)

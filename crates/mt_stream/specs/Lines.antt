@@ -4,13 +4,14 @@ use Rattle.std.specs.Io.KnownBytes.{Appends, IsAtEnd}
 use Rattle.mt_text.specs.Text.{end_of, lines_of}
 use Rattle.mt_text.specs.Feed.{Feeding, Moves, Stops}
 use Rattle.mt_text.specs.declared.place.Place.{Place}
-use Rattle.mt_text.specs.declared.fault.FeedFault.TheVariants as feed
+use Rattle.mt_text.specs.declared.fault.FeedFault.TheVariants as feed_fault
 use Rattle.mt_ports.specs.Causes.{Rose}
 use Rattle.mt_ports.specs.Puts.{AppendsFront}
 use Rattle.mt_ports.specs.declared.status.Failed.{Failed}
 use Rattle.mt_ports.specs.declared.status.Status.{Status}
 use Rattle.mt_ports.specs.declared.status.Status.TheVariants.{BadText, Done, NoMemory, ReadFault, Refused, TooLong, WriteFault}
 use Rattle.mt_output.specs.Writing.{Passes}
+use Rattle.mt_output.specs.Ports.{Change, Port, Read, Waiting}
 use Rattle.mt_stream.specs.Told.{Telling, Told, behind}
 use Rattle.mt_stream.specs.declared.ending.End.{End}
 use Rattle.mt_stream.specs.declared.ending.End.TheVariants as text_end
@@ -61,13 +62,22 @@ Leading = Option Place → List (List ℕ) → Leads
 abbrev pub from_line : ℕ → List ℕ → Path → Leading
 from_line number line was end lines = was end number (line ∷ lines)
 
--- A text is written, and the lines behind, the first of which has this number, lead on from another point.
-pub record GoesOn (At : List ℕ → Path → Type 0) (from : Leading) (number : ℕ) (so_far waiting left : List ℕ) (before after : Option (List ℕ)) : Type 0 where
+-- A run that takes a line: what the line and those behind it lead to, the number of the first of those, and what was written so far.
+pub record AtLine : Type 0 where
+  pub leads : Leading
+  pub next_number : ℕ
+  pub so_far : List ℕ
+
+abbrev pub at_line : ℕ → List ℕ → List ℕ → Path → AtLine
+at_line number line so_far was = record { leads = from_line number line was; next_number = number + 1; so_far = so_far }
+
+-- A text is written, and the lines behind lead on from another point.
+pub record GoesOn (At : List ℕ → Path → Type 0) (here : AtLine) (writer : Waiting) (sink : Port) : Type 0 where
   pub next : Path
   pub text : List ℕ
-  pub at : At (so_far ++ text) next
-  pub goes : (end : Option Place) (lines : List (List ℕ)) → from end lines ≡ leads_behind text (next end number lines)
-  pub passed : Passes waiting text left before after
+  pub at : At (here.so_far ++ text) next
+  pub goes : (end : Option Place) (lines : List (List ℕ)) → here.leads end lines ≡ leads_behind text (next end here.next_number lines)
+  pub passed : Passes writer.old text writer.new sink.old sink.new
 
 -- the status of a run that a line ends so
 abbrev pub stop_status : Stop → Status
@@ -76,38 +86,32 @@ stop_status stopped.BadText = BadText
 stop_status stopped.NoMemory = NoMemory
 
 -- The transcript ends, whatever stands behind.
-pub record Ends (from : Leading) (waiting left : List ℕ) (before after : Option (List ℕ)) (stop : Stop) : Type 0 where
+pub record Ends (here : AtLine) (writer : Waiting) (sink : Port) (stop : Stop) : Type 0 where
   pub telling : Told
-  pub stops : (end : Option Place) (lines : List (List ℕ)) → (from end lines).tells ≡ telling
+  pub stops : (end : Option Place) (lines : List (List ℕ)) → (here.leads end lines).tells ≡ telling
   pub status_is : stop_status stop ≡ telling.status
   pub last : stop ≢ stopped.NoMemory
-  pub passed : Passes waiting telling.text left before after
+  pub passed : Passes writer.old telling.text writer.new sink.old sink.new
 
 -- Memory was refused, where it may be, and nothing was written.
-pub record Wants (from : Leading) (so_far waiting left : List ℕ) (before after : Option (List ℕ)) (stop : Stop) : Type 0 where
+pub record Wants (here : AtLine) (writer : Waiting) (sink : Port) (stop : Stop) : Type 0 where
   pub refused : stop ≡ stopped.NoMemory
-  pub early : (end : Option Place) (lines : List (List ℕ)) → (rest : List ℕ) × ((from end lines).early ≡ so_far ++ rest)
-  pub waits : left ≡ waiting
-  pub kept : after ≡ before
+  pub early : (end : Option Place) (lines : List (List ℕ)) → (rest : List ℕ) × ((here.leads end lines).early ≡ here.so_far ++ rest)
+  pub waits : writer.new ≡ writer.old
+  pub kept : sink.new ≡ sink.old
 
 -- The sink failed, and took a front.
-pub record Fails (from : Leading) (waiting : List ℕ) (before after : Option (List ℕ)) : Type 0 where
+pub record Fails (here : AtLine) (waiting : List ℕ) (sink : Port) : Type 0 where
   pub text : List ℕ
-  pub front : (end : Option Place) (lines : List (List ℕ)) → (rest : List ℕ) × ((from end lines).tells.text ≡ text ++ rest)
-  pub failed : AppendsFront before after (waiting ++ text)
+  pub front : (end : Option Place) (lines : List (List ℕ)) → (rest : List ℕ) × ((here.leads end lines).tells.text ≡ text ++ rest)
+  pub failed : AppendsFront sink.old sink.new (waiting ++ text)
 
--- what a run makes of a line, where this was written so far and the run stands by `At` behind the line
-abbrev pub Takes : (List ℕ → Path → Type 0) → Leading → ℕ → List ℕ → List ℕ → List ℕ → Option (List ℕ) → Option (List ℕ) → Result (Option Stop) Failed → Type 0
-Takes At from number so_far waiting left before after result =
+-- what a run makes of a line, where it stands by `At` behind it
+abbrev pub Takes : (List ℕ → Path → Type 0) → AtLine → Waiting → Port → Result (Option Stop) Failed → Type 0
+Takes At here writer sink result =
     MatchResult result
-    (λ ended. MatchOption ended (GoesOn At from number so_far waiting left before after)
-    (λ stop. Ends from waiting left before after stop ⊎ Wants from so_far waiting left before after stop))
-    (λ _. Fails from waiting before after)
-
--- what a run makes of a line of this number, wherever it stands
-abbrev pub TakesAnywhere : (List ℕ → Path → Type 0) → (List ℕ → Path → Type 0) → ℕ → List ℕ → List ℕ → List ℕ → Option (List ℕ) → Option (List ℕ) → Result (Option Stop) Failed → Type 0
-TakesAnywhere Was At number line waiting left before after result =
-    (so_far : List ℕ) (was : Path) → Was so_far was → Takes At (from_line number line was) (number + 1) so_far waiting left before after result
+    (λ ended. MatchOption ended (GoesOn At here writer sink) (λ stop. Ends here writer sink stop ⊎ Wants here writer sink stop))
+    (λ _. Fails here writer.old sink)
 
 -- P, if the run goes on behind a line
 abbrev pub IfGoesOn : Result (Option Stop) Failed → Type 0 → Type 0
@@ -116,19 +120,23 @@ IfGoesOn result P = MatchResult result (λ ended. MatchOption ended P (λ _. Uni
 -- ---- the next line
 
 -- Why there is no next line. All that waits was written before the source was asked.
-abbrev pub CutShort : Feeding → Feeding → List ℕ → List ℕ → List ℕ → Option (List ℕ) → Option (List ℕ) → Cut → Type 0
-CutShort old new seen waiting left before after (cut.Feed fault) = Stops old new seen fault × (left ≡ []) × Appends before after waiting
-CutShort old new seen waiting left before after cut.Write = (new ≡ old) × (seen ≡ old.pending) × AppendsFront before after waiting
+abbrev pub CutShort : Change Feeding → Read → Waiting → Port → Cut → Type 0
+CutShort feed source writer sink (cut.Feed fault) =
+    Stops feed.old feed.new (feed.old.pending ++ source.more) fault × (writer.new ≡ []) × Appends sink.old sink.new writer.old
+CutShort feed source writer sink cut.Write =
+    (feed.new ≡ feed.old) × (feed.old.pending ++ source.more ≡ feed.old.pending) × AppendsFront sink.old sink.new writer.old
 
-abbrev pub Next : Feeding → Feeding → List ℕ → Option (List ℕ) → List ℕ → List ℕ → Option (List ℕ) → Option (List ℕ) → Result Bool Cut → Type 0
-Next old new seen source waiting left before after result =
-    MatchResult result (λ moved. Moves old new seen source moved × Passes waiting [] left before after) (CutShort old new seen waiting left before after)
+abbrev pub Next : Change Feeding → Read → Waiting → Port → Result Bool Cut → Type 0
+Next feed source writer sink result =
+    MatchResult result
+    (λ moved. Moves feed.old feed.new (feed.old.pending ++ source.more) source.left moved × Passes writer.old [] writer.new sink.old sink.new)
+    (CutShort feed source writer sink)
 
 -- A port that failed did so once, and the cut is its fault.
 abbrev pub SourceHasCause : {T : Type 0} → ℕ → ℕ → Result T Cut → Type 0
 SourceHasCause before after (Ok x) = after ≡ before
-SourceHasCause before after (Err (cut.Feed feed.ReadFault)) = Rose before after
-SourceHasCause before after (Err (cut.Feed feed.TooLong)) = after ≡ before
+SourceHasCause before after (Err (cut.Feed feed_fault.ReadFault)) = Rose before after
+SourceHasCause before after (Err (cut.Feed feed_fault.TooLong)) = after ≡ before
 SourceHasCause before after (Err cut.Write) = after ≡ before
 
 abbrev pub SinkHasCause : {T : Type 0} → ℕ → ℕ → Result T Cut → Type 0
@@ -139,8 +147,8 @@ SinkHasCause before after (Err cut.Write) = Rose before after
 -- the status of a cut
 abbrev pub cut_status : Cut → Status
 cut_status cut.Write = WriteFault
-cut_status (cut.Feed feed.ReadFault) = ReadFault
-cut_status (cut.Feed feed.TooLong) = TooLong
+cut_status (cut.Feed feed_fault.ReadFault) = ReadFault
+cut_status (cut.Feed feed_fault.TooLong) = TooLong
 
 -- ---- the end
 
@@ -150,18 +158,31 @@ end_status text_end.Done = Done
 end_status text_end.BadText = BadText
 
 -- the last text goes to the sink with all that waits, or a front of them
-abbrev pub Closes : Told → List ℕ → Option (List ℕ) → Option (List ℕ) → Result End Failed → Type 0
-Closes t waiting before after result =
-    MatchResult result (λ last. (end_status last ≡ t.status) × Appends before after (waiting ++ t.text)) (λ _. AppendsFront before after (waiting ++ t.text))
+abbrev pub Closes : Told → List ℕ → Port → Result End Failed → Type 0
+Closes t waiting sink result =
+    MatchResult result
+    (λ last. (end_status last ≡ t.status) × Appends sink.old sink.new (waiting ++ t.text))
+    (λ _. AppendsFront sink.old sink.new (waiting ++ t.text))
 
 abbrev pub closed_status : Result End Failed → Status
 closed_status (Ok last) = end_status last
 closed_status (Err failed) = WriteFault
 
--- All that waits is written, or a front of it. Nothing more is read behind the last line or for want of memory, and else all that is left.
-abbrev pub Leaves : Stop → Bool → List ℕ → Option (List ℕ) → List ℕ → Option (List ℕ) → Option (List ℕ) → Status → Type 0
-Leaves stop last more left waiting before after result =
-    ((result ≡ WriteFault) × AppendsFront before after waiting)
-    ⊎ (Appends before after waiting
-    × (((result ≡ stop_status stop) × ((last ≡ true) ⊎ (stop ≡ stopped.NoMemory)) × (more ≡ []))
-    ⊎ ((last ≡ false) × (stop ≢ stopped.NoMemory) × (((result ≡ stop_status stop) × IsAtEnd left) ⊎ (result ≡ ReadFault) ⊎ (result ≡ TooLong)))))
+-- how a line ends a run, and whether it is the last of the text
+pub record LastLine : Type 0 where
+  pub stop : Stop
+  pub is_last : Bool
+
+abbrev pub last_line : Stop → Bool → LastLine
+last_line stop is_last = record { stop = stop; is_last = is_last }
+
+-- Nothing more is read behind the last line or for want of memory, and else all that is left.
+abbrev pub Drops : LastLine → Read → Status → Type 0
+Drops line source result =
+    ((result ≡ stop_status line.stop) × ((line.is_last ≡ true) ⊎ (line.stop ≡ stopped.NoMemory)) × (source.more ≡ []))
+    ⊎ ((line.is_last ≡ false) × (line.stop ≢ stopped.NoMemory) × (((result ≡ stop_status line.stop) × IsAtEnd source.left) ⊎ (result ≡ ReadFault) ⊎ (result ≡ TooLong)))
+
+-- All that waits is written, or a front of it.
+abbrev pub Leaves : LastLine → Read → List ℕ → Port → Status → Type 0
+Leaves line source waiting sink result =
+    ((result ≡ WriteFault) × AppendsFront sink.old sink.new waiting) ⊎ (Appends sink.old sink.new waiting × Drops line source result)

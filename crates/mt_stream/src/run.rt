@@ -2,6 +2,7 @@ ghost use Rattle.std.specs.Prelude.{List, ℕ};
 ghost use Rattle.mt_ports.specs.Causes.{HasCause};
 ghost use Rattle.mt_text.specs.declared.place.Place.{Place};
 ghost use Rattle.mt_stream.specs.Lines.{Closes, Path};
+ghost use Rattle.mt_output.specs.Ports.{port};
 ghost use Rattle.mt_stream.specs.Told.{Telling, Told};
 
 use crate::End;
@@ -25,6 +26,6 @@ pub trait LineRun {
 
     /// Writes what is told where the text ends, with all that waits, and returns how it ends.
     fn finish<K: Sink>(&self, end: Place, writer: &mut Writer, sink: &mut K) -> Result<End, Failed>
-        ensures bytes { Closes (ends self.now end) writer.old (K.taken sink.old) (K.taken sink.new) result }
+        ensures bytes { Closes (ends self.now end) writer.old (port K.taken sink.old sink.new) result }
         ensures cause { HasCause (K.faults sink.old) (K.faults sink.new) result };
 }

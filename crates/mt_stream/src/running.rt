@@ -1,11 +1,12 @@
-ghost use Rattle.std.specs.Prelude.{◌≡◌, ◌≢◌, ◌⊎◌, ◌≤◌, ◌<◌, ◌+◌, ◌↔◌, ◌++◌, ℕ, [], length, None, Some, Ok, IfOk};
+ghost use Rattle.std.specs.Prelude.{◌≡◌, ◌≢◌, ◌⊎◌, ◌≤◌, ◌<◌, ◌+◌, ◌↔◌, ℕ, [], length, None, Some, Ok, IfOk};
 ghost use Rattle.mt_text.specs.Text.{longest_input};
 ghost use Rattle.mt_text.specs.Feed.{GaveTooMuch, IsLong, TakesMore, taken};
 ghost use Rattle.mt_ports.specs.Causes.{HasCause, StatusHasCause};
 ghost use Rattle.mt_output.specs.Writing.{Adds};
 ghost use Rattle.mt_stream.specs.Handling.{MayTake, RefusesFrom, RunsFrom, TakesEach};
 ghost use Rattle.mt_stream.specs.Laws.{AreLaws};
-ghost use Rattle.mt_stream.specs.Lines.{Closes, Leaves, Next, Path, SinkHasCause, SourceHasCause, closed_status, cut_status, end_status, running, stop_status};
+ghost use Rattle.mt_stream.specs.Lines.{Closes, Leaves, Next, Path, SinkHasCause, SourceHasCause, closed_status, cut_status, end_status, last_line, running, stop_status};
+ghost use Rattle.mt_output.specs.Ports.{change, port, read};
 ghost use Rattle.mt_stream.specs.Told.{told};
 
 use crate::{End, LineRun, Stop};
@@ -44,7 +45,7 @@ fn next_line<S: Source, K: Sink>(
 ) -> Result<bool, Cut>
     requires { feed.old.fault ≡ None }
     ensures bytes { TakesMore (S.left source.old) (S.left source.new) (S.given source.old) (S.given source.new)
-        (λ more. Next feed.old feed.new (feed.old.pending ++ more) (S.left source.new) writer.old writer.new (K.taken sink.old) (K.taken sink.new) result) }
+        (λ more. Next (change feed.old feed.new) (read more (S.left source.new)) (change writer.old writer.new) (port K.taken sink.old sink.new) result) }
     ensures long { IsLong feed.new }
     ensures source { SourceHasCause (S.faults source.old) (S.faults source.new) result }
     ensures sink { SinkHasCause (K.faults sink.old) (K.faults sink.new) result }
@@ -89,7 +90,7 @@ pub fn close<K: Sink>(
     end: End,
 ) -> Result<End, Failed>
     requires { length text.now ≤ 224 }
-    ensures bytes { Closes (told text.now (end_status end)) writer.old (K.taken sink.old) (K.taken sink.new) result }
+    ensures bytes { Closes (told text.now (end_status end)) writer.old (port K.taken sink.old sink.new) result }
     ensures cause { HasCause (K.faults sink.old) (K.faults sink.new) result }
 {
     if let Err(failed) = writer.write(sink, text) {
@@ -142,7 +143,8 @@ fn leave<S: Source, K: Sink>(
 ) -> Status
     requires { feed.old.fault ≡ None }
     ensures bytes { TakesMore (S.left source.old) (S.left source.new) (S.given source.old) (S.given source.new)
-        (λ more. (taken feed.new ≡ taken feed.old + length more) × Leaves stop last more (S.left source.new) writer.old (K.taken sink.old) (K.taken sink.new) result) }
+        (λ more. (taken feed.new ≡ taken feed.old + length more)
+        × Leaves (last_line stop last) (read more (S.left source.new)) writer.old (port K.taken sink.old sink.new) result) }
     ensures long { (result ≡ Status.TooLong) ↔ (longest_input < taken feed.new) }
     ensures usage { result ≢ Status.Usage }
     ensures few { (result ≢ Status.TooFew) × (result ≢ Status.Disabled) }
@@ -182,9 +184,9 @@ where
     requires may { MayTake (running L.at L.ends L.asks L.ready) (F.pre take_line) }
     requires takes { TakesEach (running L.at L.ends L.asks L.ready) K.taken K.faults (F.post take_line) }
     ensures bytes { (start : Path) → L.at run.old [] start
-        → RunsFrom start (S.left source.old) (S.left source.new) (K.taken sink.old) (K.taken sink.new) result }
+        → RunsFrom start (port S.left source.old source.new) (port K.taken sink.old sink.new) result }
     ensures memory { (start : Path) → L.at run.old [] start → result ≡ Status.NoMemory
-        → RefusesFrom start (L.asks run.old) (S.left source.old) (S.left source.new) (K.taken sink.old) (K.taken sink.new) }
+        → RefusesFrom start (L.asks run.old) (port S.left source.old source.new) (port K.taken sink.old sink.new) }
     ensures read_fault { StatusHasCause Status.ReadFault (S.faults source.old) (S.faults source.new) result }
     ensures write_fault { StatusHasCause Status.WriteFault (K.faults sink.old) (K.faults sink.new) result }
     ensures too_long { (result ≡ Status.TooLong) ↔ GaveTooMuch (S.given source.old) (S.given source.new) }

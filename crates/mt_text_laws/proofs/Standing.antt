@@ -4,6 +4,7 @@ use Rattle.std.specs.Prelude.{if◌then◌else◌, IfSome, ⊤}
 use Rattle.std.specs.Set.{is_member}
 use Rattle.std.specs.Result.{IfErr}
 use Rattle.std.specs.List.{slice_get}
+use Rattle.std.specs.Option.{option_map_or}
 use Rattle.std.proofs.lemmas.Bool.{eqb-true, ltb-true}
 use Rattle.std.proofs.lemmas.Bool.Decides.{nat_tests}
 use Rattle.mt_text.specs.Number.{hex_number, decimal_number}
@@ -14,11 +15,12 @@ use Rattle.mt_text.specs.declared.place.Place.{Place}
 use Rattle.mt_regs.specs.RegisterFile.{RegisterFile}
 use Rattle.mt_script.specs.Situation.{Situation, file_of, most_processors}
 use Rattle.mt_script.specs.Words.{word_of, text_of, place_of}
-use Rattle.mt_script.specs.Numbers.{fault_at, tested, at_least, below, any, aligned, multiple, register, count_in, processor_in, value_in, aligned_in, physical_in, register_in, base_in, has_room, is_register, is_writable, address_limit}
-use Rattle.mt_script.specs.Rows.{row_of, stands, fits}
+use Rattle.mt_script.specs.Numbers.{fault_at, tested, limited, with, any, count_in, processor_in, value_in, aligned_in, physical_in, register_in, base_in, has_room, is_register, is_writable, address_limit}
+use Rattle.mt_script.specs.Rows.{row_of, fits}
 use Rattle.mt_script.specs.Shape.{bad_line, shape_fault}
+use Rattle.mt_script.specs.Stages.{stands}
 use Rattle.mt_text_laws.specs.Places.{StandsIn}
-use Rattle.mt_script.specs.Commands.{Answer, with, unless, cpus_in, ram_in, load_in, store_in, map_in, invlpg_in, msr_in, switch_in, verb_answer, row_line, outside, is_end, in_section, in_dump, not_too_long, in_stage, command_of}
+use Rattle.mt_script.specs.Commands.{Answer, cpus_in, ram_in, load_in, store_in, map_in, invlpg_in, msr_in, switch_in, verb_answer, row_line, outside, is_end, in_section, in_dump, not_too_long, in_stage, command_of}
 use Rattle.mt_script.specs.declared.command.Stage.{Stage}
 use Rattle.mt_script.specs.declared.command.Stage.TheVariants.{NeedCpus, NeedDump, InDump, Rams, Commands, InUpdate, InBegin}
 use Rattle.mt_script.specs.declared.row.Row.{Row}
@@ -46,35 +48,22 @@ word_found (word ∷ words) (suc i) within = word_found words i (omega arith)
 abbrev IsAt : Place → ScriptFault → Type 0
 IsAt place fault = fault.place ≡ place
 
-tested_at : (good : Bool) (reason : ScriptReason) (place : Place) (n : ℕ) → IfErr (tested good reason place n) (IsAt place)
-tested_at true reason place n = tt
-tested_at false reason place n = refl
+tested_at : (number : Result ℕ ScriptFault) (reason : ScriptReason) (place : Place) (test : ℕ → Bool) → IfErr number (IsAt place) → IfErr (with number (tested reason place test)) (IsAt place)
+tested_at (Err fault) reason place test at = at
+tested_at (Ok n) reason place test at = by (test n)
+  where
+    by : (good : Bool) → IfErr (if good then Ok n else Err (fault_at reason place)) (IsAt place)
+    by true = tt
+    by false = refl
 
-at_least_at : (first : ℕ) (place : Place) (reading : Result ℕ NumberFault) → IfErr (at_least first place reading) (IsAt place)
-at_least_at first place (Err NotDigit) = refl
-at_least_at first place (Err TooLarge) = refl
-at_least_at first place (Ok n) = tested_at (nat_le first n) OutOfRange place n
-
-below_at : (limit : ℕ) (place : Place) (reading : Result ℕ NumberFault) → IfErr (below limit place reading) (IsAt place)
-below_at limit place (Err NotDigit) = refl
-below_at limit place (Err TooLarge) = refl
-below_at limit place (Ok n) = tested_at (nat_lt n limit) OutOfRange place n
+limited_at : (place : Place) (reading : Result ℕ NumberFault) → IfErr (limited place reading) (IsAt place)
+limited_at place (Err NotDigit) = refl
+limited_at place (Err TooLarge) = refl
+limited_at place (Ok n) = tt
 
 any_at : (place : Place) (reading : Result ℕ NumberFault) → IfErr (any place reading) (IsAt place)
 any_at place (Err fault) = refl
 any_at place (Ok n) = tt
-
-aligned_at : (step limit : ℕ) (place : Place) (reading : Result ℕ NumberFault) → IfErr (aligned step limit place reading) (IsAt place)
-aligned_at step limit place (Err fault) = refl
-aligned_at step limit place (Ok n) = tested_at (n % step == 0 && nat_lt n limit) OutOfRange place n
-
-multiple_at : (step : ℕ) (place : Place) (reading : Result ℕ NumberFault) → IfErr (multiple step place reading) (IsAt place)
-multiple_at step place (Err fault) = refl
-multiple_at step place (Ok n) = tested_at (n % step == 0) OutOfRange place n
-
-register_at : (file : Option RegisterFile) (place : Place) (reading : Result ℕ NumberFault) → IfErr (register file place reading) (IsAt place)
-register_at file place (Err fault) = refl
-register_at file place (Ok n) = tested_at (is_register file n) UnknownRegister place n
 
 module _ (line : ℕ) (words : List (ℕ × List ℕ)) where
   -- the fault stands at one of the words
@@ -89,22 +78,32 @@ module _ (line : ℕ) (words : List (ℕ × List ℕ)) where
   word_at i reason within = (i, within, refl)
 
   count_fails : (i first last : ℕ) → i < length words → IfErr (count_in line words i first last) AtWord
-  count_fails i first last within = number_at i (count_in line words i first last) within (at_least_at first (place_of line words i) (decimal_number (text_of words i) last))
+  count_fails i first last within =
+      let place = place_of line words i in
+      let reading = decimal_number (text_of words i) last in
+      number_at i (count_in line words i first last) within (tested_at (limited place reading) OutOfRange place (nat_le first) (limited_at place reading))
 
   processor_fails : (now : Situation) → 1 < length words → IfErr (processor_in now line words 1) AtWord
-  processor_fails now within = number_at 1 (processor_in now line words 1) within (below_at (most_processors now) (place_of line words 1) (decimal_number (text_of words 1) 0xffffffffffffffff))
+  processor_fails now within =
+      let place = place_of line words 1 in
+      let reading = decimal_number (text_of words 1) 0xffffffffffffffff in
+      number_at 1 (processor_in now line words 1) within (tested_at (limited place reading) OutOfRange place (λ k. nat_lt k (most_processors now)) (limited_at place reading))
 
   value_fails : (i : ℕ) → i < length words → IfErr (value_in line words i) AtWord
   value_fails i within = number_at i (value_in line words i) within (any_at (place_of line words i) (hex_number (text_of words i)))
 
   aligned_fails : (i step limit : ℕ) → i < length words → IfErr (aligned_in line words i step limit) AtWord
-  aligned_fails i step limit within = number_at i (aligned_in line words i step limit) within (aligned_at step limit (place_of line words i) (hex_number (text_of words i)))
+  aligned_fails i step limit within =
+      number_at i (aligned_in line words i step limit) within
+      (tested_at (value_in line words i) OutOfRange (place_of line words i) (λ address. address % step == 0 && nat_lt address limit) (any_at (place_of line words i) (hex_number (text_of words i))))
 
   base_fails : 1 < length words → IfErr (base_in line words 1) AtWord
-  base_fails within = number_at 1 (base_in line words 1) within (multiple_at 64 (place_of line words 1) (hex_number (text_of words 1)))
+  base_fails within =
+      number_at 1 (base_in line words 1) within (tested_at (value_in line words 1) OutOfRange (place_of line words 1) (λ base. base % 64 == 0) (any_at (place_of line words 1) (hex_number (text_of words 1))))
 
   register_fails : (now : Situation) → 2 < length words → IfErr (register_in now line words 2) AtWord
-  register_fails now within = number_at 2 (register_in now line words 2) within (register_at (file_of now) (place_of line words 2) (hex_number (text_of words 2)))
+  register_fails now within =
+      number_at 2 (register_in now line words 2) within (tested_at (value_in line words 2) UnknownRegister (place_of line words 2) (is_register (file_of now)) (any_at (place_of line words 2) (hex_number (text_of words 2))))
 
   cpus_fails : 2 ≤ length words → IfErr (cpus_in line words) AtWord
   cpus_fails has = fails_with AtWord (count_in line words 1 1 16) _ (count_fails 1 1 16 (omega arith)) (λ n. tt)
@@ -163,11 +162,11 @@ module _ (line : ℕ) (words : List (ℕ × List ℕ)) where
       switch make has = fails_with AtWord (processor_in now line words 1) _ (processor_fails now (omega arith)) (λ k. tt)
 
   -- the words of a row, and then what follows
-  shape_fails : (row : Row) (answer : Answer) → 1 ≤ length words → (row.least ≤ length words → IfErr answer AtWord) → IfErr (unless (shape_fault line words row) answer) AtWord
+  shape_fails : (row : Row) (answer : Answer) → 1 ≤ length words → (row.least ≤ length words → IfErr answer AtWord) → IfErr (option_map_or (λ fault. Err fault) (shape_fault line words row) answer) AtWord
   shape_fails row answer has later = by (nat_lt (length words) row.least) (nat_lt row.most (length words)) (length words == row.most) (fits row.last (text_of words (row.most - 1))) refl refl refl
     where
       by : (few many full fit : Bool) → nat_lt (length words) row.least ≡ few → nat_lt row.most (length words) ≡ many → (length words == row.most) ≡ full
-          → IfErr (unless (if few then bad_line line words (length words - 1) else if many then bad_line line words row.most else if full && not fit then bad_line line words (row.most - 1) else None) answer) AtWord
+          → IfErr (option_map_or (λ fault. Err fault) (if few then bad_line line words (length words - 1) else if many then bad_line line words row.most else if full && not fit then bad_line line words (row.most - 1) else None) answer) AtWord
       by true many full fit few_is many_is full_is = word_at (length words - 1) BadLine (omega arith)
       by false true full fit few_is many_is full_is = word_at row.most BadLine (ltb-true row.most (length words) many_is)
       by false false true false few_is many_is full_is = word_at (row.most - 1) BadLine (let all = eqb-true (length words) row.most full_is in omega arith)

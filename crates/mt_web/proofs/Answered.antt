@@ -14,6 +14,7 @@ use Rattle.mt_answers.specs.declared.command.DumpCommand.{DumpCommand}
 use Rattle.mt_answers.specs.CommandLine.{command_of, threaded_of}
 use Rattle.mt_answers.specs.Help.{own_text}
 use Rattle.mt_answers.specs.Lines.{usage_line}
+use Rattle.mt_output.specs.Ports.{change, held}
 use Rattle.mt_answers.specs.Written.{AnswersInput, Makes, bad_input, good_input, no_input, writes, no_memory}
 use Rattle.mt_web.specs.Outcome.{Outcome, told_number, told_text}
 use Rattle.mt_web.specs.Answering.{AnswersFor, SerialOutput, answers, no_words, offends, own, serial, threaded, usage}
@@ -21,7 +22,7 @@ use Rattle.mt_web.specs.Placed.{on_threads}
 use Rattle.mt_web.proofs.Outcomes.{of_nothing, of_unread, of_writes}
 
 of_input : (words : List (List ℕ)) (bytes taken : List ℕ) (left : Option (List ℕ)) (asked : DumpCommand) (result : Status) → command_of words ≡ Some (Serial (Dump asked))
-    → StatusHasCause ReadFault 0 0 result → AnswersInput bytes asked left (Some []) (Some taken) result → Outcome (SerialOutput words bytes) bytes (told_text result taken) (told_number result)
+    → StatusHasCause ReadFault 0 0 result → AnswersInput asked (held bytes left) (change (Some []) (Some taken)) result → Outcome (SerialOutput words bytes) bytes (told_text result taken) (told_number result)
 of_input words bytes taken left asked result is cause (bad_input fault found end wrote) = of_writes (SerialOutput words bytes) bytes _ taken _ result (offends asked fault is found) wrote
 of_input words bytes taken left asked result is cause (good_input dump shown end (writes text status answer wrote)) =
     of_writes (SerialOutput words bytes) bytes text taken status result (answers asked dump text status is shown answer) wrote
@@ -34,7 +35,7 @@ of_own words bytes taken text command result is owns (inl wrote) = of_writes (Se
 of_own words bytes taken text command result is owns (inr (none, same)) = of_nothing (SerialOutput words bytes) bytes taken result none same
 
 pub of_serial : (words : List (List ℕ)) (bytes taken : List ℕ) (left : Option (List ℕ)) (command : SerialCommand) (result : Status) → command_of words ≡ Some (Serial command)
-    → StatusHasCause ReadFault 0 0 result → ((asked : DumpCommand) → command ≡ Dump asked → AnswersInput bytes asked left (Some []) (Some taken) result)
+    → StatusHasCause ReadFault 0 0 result → ((asked : DumpCommand) → command ≡ Dump asked → AnswersInput asked (held bytes left) (change (Some []) (Some taken)) result)
     → IfSome (own_text command) (λ text. Makes text (Some []) (Some taken) result) → Outcome (SerialOutput words bytes) bytes (told_text result taken) (told_number result)
 of_serial words bytes taken left (Dump asked) result is cause answer makes = of_input words bytes taken left asked result is cause (answer asked refl)
 of_serial words bytes taken left (Make n) result is cause answer makes = of_own words bytes taken _ (Make n) result is refl makes
@@ -51,11 +52,11 @@ answers_usage words bytes old new text number result is empty wrote text_is numb
 
 pub answers_serial : (words : List (List ℕ)) (bytes old new text : List ℕ) (number : ℕ) (left end : Option (List ℕ)) (command : SerialCommand) (result : Status)
     → command_of words ≡ Some (Serial command) → old ≡ [] → left ≡ Some bytes → StatusHasCause ReadFault 0 0 result
-    → ((asked : DumpCommand) (bs : List ℕ) → command ≡ Dump asked → left ≡ Some bs → AnswersInput bs asked end (Some old) (Some new) result)
+    → ((asked : DumpCommand) (bs : List ℕ) → command ≡ Dump asked → left ≡ Some bs → AnswersInput asked (held bs end) (change (Some old) (Some new)) result)
     → IfSome (own_text command) (λ t. Makes t (Some old) (Some new) result) → text ≡ told_text result new → number ≡ told_number result → AnswersFor words bytes text number
 answers_serial words bytes old new text number left end command result is empty given cause answer makes text_is number_is =
     let input = λ (asked : DumpCommand) (says : command ≡ Dump asked).
-    subst (λ (o : List ℕ). AnswersInput bytes asked end (Some o) (Some new) result) empty (answer asked bytes says given) in
+    subst (λ (o : List ℕ). AnswersInput asked (held bytes end) (change (Some o) (Some new)) result) empty (answer asked bytes says given) in
     let own = subst (λ (o : List ℕ). IfSome (own_text command) (λ t. Makes t (Some o) (Some new) result)) empty makes in
     rw (text_is, number_is) (serial _ _ (ap threaded_of is) (of_serial words bytes new end command result is cause input own))
 

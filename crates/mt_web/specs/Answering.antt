@@ -5,7 +5,8 @@ use Rattle.mt_ports.specs.declared.status.Status.{Status}
 use Rattle.mt_ports.specs.declared.status.Status.TheVariants.{Done, Usage, BadText, NoMemory}
 use Rattle.mt_ports.specs.Exit.{code}
 use Rattle.mt_dump.specs.Dumps.{Dump as ShownDump}
-use Rattle.mt_dump.specs.Dump.{Shown, dump_offence}
+use Rattle.mt_dump.specs.Dump.{Shown}
+use Rattle.mt_dump.specs.Reader.{dump_offence}
 use Rattle.mt_dump.specs.declared.fault.DumpFault.{DumpFault}
 use Rattle.mt_output.specs.Lines.{bad_text_line}
 use Rattle.mt_answers.specs.declared.command.Command.TheVariants.{Serial}

@@ -3,6 +3,7 @@ use Rattle.std.proofs.Common.{◌≡◌, ◌≢◌, ◌⊎◌, ◌↔◌, ◌∙
 use Rattle.std.specs.List.{All}
 use Rattle.std.specs.Prelude.{if◌then◌else◌}
 use Rattle.std.proofs.lemmas.List.{append_assoc}
+use Rattle.std.specs.Option.{option_map}
 use Rattle.mt_text.specs.Text.{lines_of, end_of}
 use Rattle.mt_text.specs.declared.place.Place.{Place}
 use Rattle.mt_ports.specs.declared.status.Status.{Status}
@@ -15,7 +16,7 @@ use Rattle.mt_script.specs.Situation.{Situation}
 use Rattle.mt_script.specs.Stages.{is_in_dump}
 use Rattle.mt_script.specs.Commands.{command_of, end_fault}
 use Rattle.mt_script.specs.Head.{step_of_answer, step_of_command}
-use Rattle.mt_script.specs.Script.{at_end, offence_after, offence_in, script_offence}
+use Rattle.mt_script.specs.Script.{offence_after, offence_in, script_offence}
 use Rattle.mt_script.specs.declared.command.Command.{Command}
 use Rattle.mt_script.specs.declared.fault.ScriptFault.{ScriptFault}
 use Rattle.mt_script.specs.declared.fault.ScriptReason.TheVariants.{NoEnd}
@@ -46,7 +47,7 @@ ends_behind : (text : List ℕ) (t : Told) (first : Option Offence) → Ends t f
 ends_behind text t None h = h
 ends_behind text t (Some o) h = (h.0, (text ++ h.1.0, ap (λ rest. text ++ rest) h.1.1 ∙ sym (append_assoc text h.1.0 (offence_line o))))
 
-ends_at_end : (fault : Option ScriptFault) → Ends (told_at_end fault) (at_end fault)
+ends_at_end : (fault : Option ScriptFault) → Ends (told_at_end fault) (option_map offence.Script fault)
 ends_at_end None = refl
 ends_at_end (Some fault) = (refl, ([], refl))
 

@@ -20,6 +20,7 @@ use Rattle.mt_replay.specs.Heads.{end_after, head_end}
 use Rattle.mt_replay.specs.Kept.{IsReplayState}
 use Rattle.mt_replay.specs.ReplayState.{ReplayState, first_state, state_after}
 use Rattle.mt_replay.specs.Running.{CarriesOut, IsAt}
+use Rattle.mt_output.specs.Ports.{Port, Waiting, change}
 use Rattle.mt_replay.specs.Transcript.{Point, in_body, in_head}
 use Rattle.mt_replay.specs.Summary.{last_from}
 use Rattle.mt_replay.specs.Summing.{Begins, Lasts, LastsHere, LastsOn, last_lines, state_in}
@@ -75,14 +76,14 @@ module _ (now : Situation) (before : List Reading) (number : ℕ) (line : List �
 -- ---- commands
 
 module _ (s new : ReplayState) (c : Command) (number : ℕ) (line : List ℕ) (is : IsReplayState s) (fits : Fits s.now c) (asked : command_of s.now number line ≡ Ok c) where
-  pub command_lasts : (waiting left : List ℕ) (a b : Option (List ℕ)) (result : Result (Option Stop) Failed) → CarriesOut s new c waiting left a b result → Lasts number line (in_body s) (run.Body new) result
-  command_lasts waiting left a b (Ok None) does = record {
+  pub command_lasts : (writer : Waiting) (sink : Port) (result : Result (Option Stop) Failed) → CarriesOut (change s new) c writer sink result → Lasts number line (in_body s) (run.Body new) result
+  command_lasts writer sink (Ok None) does = record {
     next = in_body (state_after s c);
     at = (does.1, (state_kept s c is fits).past);
     same = λ lines. ap (λ r. Some (last_of s (steps_of s number (steps_in (number + 1) lines) r))) asked;
   }
-  command_lasts waiting left a b (Ok (Some stop)) does = λ other. absurd (other does.0)
-  command_lasts waiting left a b (Err failed) does = tt
+  command_lasts writer sink (Ok (Some stop)) does = λ other. absurd (other does.0)
+  command_lasts writer sink (Err failed) does = tt
 
 pub fault_lasts : (s : ReplayState) (number : ℕ) (line : List ℕ) (fault : ScriptFault) → command_of s.now number line ≡ Err fault → LastsHere number line (in_body s) (run.Body s)
 fault_lasts s number line fault asked lines = ap (λ r. Some (last_of s (steps_of s number (steps_in (number + 1) lines) r))) asked

@@ -10,8 +10,9 @@ use Rattle.mt_script.specs.Situation.{at_start}
 use Rattle.mt_script.specs.Commands.{end_fault}
 use Rattle.mt_script.specs.declared.fault.ScriptFault.{ScriptFault}
 use Rattle.mt_script.specs.declared.fault.Offence.TheVariants.{Script}
-use Rattle.mt_replay.specs.Running.{IsAt, StandsAt, from_line, leading, setup_of}
+use Rattle.mt_replay.specs.Running.{IsAt, StandsAt, from_line, line_at, setup_of}
 use Rattle.mt_stream.specs.Lines.{Ends, GoesOn, Leads, Path}
+use Rattle.mt_output.specs.Ports.{change}
 use Rattle.mt_replay.specs.Summary.{last_state, summary, totals, updates_in}
 use Rattle.mt_replay.specs.Summing.{LastsHere, LastsOn, last_lines, no_totals, state_in, with_memory, with_text}
 use Rattle.mt_replay.specs.Transcript.{Point, in_body, in_head, told_at_end, told_lines, transcript}
@@ -67,7 +68,7 @@ module _ (source : List ℕ) (at next number : ℕ) (bytes : List ℕ) (now : Ru
   from_here = h.led ∙ ap (λ ls. behind h.text (told_lines (Some (end_of source)) number ls h.point)) cut
 
   module _ (later : Run) where
-    pub summed_on : (so_far : List ℕ) → GoesOn (StandsAt later) (leading false so_far number bytes h.point) (number + 1) so_far waiting left (Some []) (Some []) → LastsOn number bytes h.last_point later → at + 1 ≤ next → Summed source next (number + 1) later (with_text t left)
+    pub summed_on : (so_far : List ℕ) → GoesOn (StandsAt later) (line_at false so_far number bytes h.point) (change waiting left) (change (Some []) (Some [])) → LastsOn number bytes h.last_point later → at + 1 ≤ next → Summed source next (number + 1) later (with_text t left)
     summed_on so_far g lasts on =
         let (next_point, came, stands, quiet, same) = g.at in
         let goes : (end : Option Place) (lines : List (List ℕ)) → from_line number bytes h.point end lines ≡ behind g.text (told_lines end (number + 1) lines next_point) =
@@ -88,7 +89,7 @@ module _ (source : List ℕ) (at next number : ℕ) (bytes : List ℕ) (now : Ru
           last = h.last ∙ ap (λ ls. last_lines number ls h.last_point) cut ∙ lasts.same (lines_of (drop next source));
         }
 
-    pub summed_ends : (so_far : List ℕ) (stop : Stop) → Ends (leading false so_far number bytes h.point) waiting left (Some []) (Some []) stop → LastsHere number bytes h.last_point later → at + 1 < 2 ^ 64
+    pub summed_ends : (so_far : List ℕ) (stop : Stop) → Ends (line_at false so_far number bytes h.point) (change waiting left) (change (Some []) (Some [])) stop → LastsHere number bytes h.last_point later → at + 1 < 2 ^ 64
         → with_memory (with_text t left) (state_in later) ≡ summary source
     summed_ends so_far stop e lasts low =
         let writes : Writes 1 e.telling.text = subst (λ (x : Told). Writes 1 x.text) (e.stops None []) (line_writes number bytes now h.point h.stands) in

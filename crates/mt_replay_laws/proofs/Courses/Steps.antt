@@ -1,7 +1,7 @@
 -- The course of a text: its transcript is what the steps write, and each step finds what the one before it left.
 use Rattle.std.proofs.Common.{◌≡◌, ◌⊎◌, ◌∙◌, ap, sym, refl, subst, inl, inr, ℕ, ◌+◌, Bool, true, false, List, [], ◌∷◌, ◌++◌, Option, None, Some, Result, Ok, Err}
 use Rattle.std.specs.Prelude.{IsSome}
-use Rattle.std.specs.Option.{option_map_or}
+use Rattle.std.specs.Option.{option_map, option_map_or}
 use Rattle.std.proofs.lemmas.List.{append_assoc}
 use Rattle.mt_text.specs.Text.{lines_of, end_of}
 use Rattle.mt_text.specs.declared.place.Place.{Place}
@@ -16,7 +16,7 @@ use Rattle.mt_script.specs.declared.fault.ScriptReason.TheVariants.{NoEnd}
 use Rattle.mt_script.specs.Commands.{command_of, end_fault}
 use Rattle.mt_script.specs.Accept.{Fits}
 use Rattle.mt_script.specs.Head.{step_of_answer, step_of_command}
-use Rattle.mt_script.specs.Script.{at_end, offence_after, offence_in, script_offence}
+use Rattle.mt_script.specs.Script.{offence_after, offence_in, script_offence}
 use Rattle.mt_script.specs.declared.command.Command.{Command}
 use Rattle.mt_script.specs.declared.fault.ScriptFault.{ScriptFault}
 use Rattle.mt_script.specs.declared.fault.Offence.{Offence}
@@ -74,7 +74,7 @@ kept_behind (step ∷ steps) s h on = kept_behind steps (left step) (state_kept 
 written_behind : (a b : List ℕ) (t : Told) → behind a (behind b t) ≡ behind (a ++ b) t
 written_behind a b t = λ i. record { text = sym (append_assoc a b t.text) i; status = t.status }
 
-ends_with : (fault : Option ScriptFault) → told_at_end fault ≡ ending (at_end fault)
+ends_with : (fault : Option ScriptFault) → told_at_end fault ≡ ending (option_map Script fault)
 ends_with None = refl
 ends_with (Some fault) = refl
 
@@ -163,7 +163,7 @@ transcript_is_of_the_course text some = one (beginning text) (whole text) some
         ∙ ap (λ (o : Option Offence). behind accepted_line (behind (joined (steps_in b.number b.lines b.state)) (ending o))) (sym h.follows)
 
 pub replays_are_of_the_course : ReplaysAreOfTheCourse
-replays_are_of_the_course text left before after status some h = subst (λ (t : Told). ReplaysAs t text left before after status) (transcript_is_of_the_course text some) h
+replays_are_of_the_course source sink status some h = subst (λ (t : Told). ReplaysAs t source sink status) (transcript_is_of_the_course source.bytes some) h
 
 pub transcript_is_one_line : TranscriptIsOneLine
 transcript_is_one_line text none = subst (Leads (end_of text) (script_offence text) (transcript text)) none (whole text)

@@ -1,5 +1,6 @@
 use Rattle.std.proofs.Common.{List, Some, arith, inl, refl, subst, ℕ}
 use Rattle.mt_ports.specs.declared.status.Status.TheVariants.{Done}
+use Rattle.mt_output.specs.Ports.{held, port}
 use Rattle.mt_output.specs.Written.{Writes}
 use Rattle.mt_answers.specs.declared.command.Command.TheVariants.{Serial}
 use Rattle.mt_answers.specs.declared.command.DumpCommand.{DumpCommand}
@@ -15,7 +16,7 @@ returns-in-Dump g c =
     let answer = c.answer_input.ensures in
     record {
       bytes = λ asked bytes says is.
-          subst (λ (d : DumpCommand). AnswersInput bytes d (g.S.Source.left c.answer_input.new.source) (g.K.Sink.taken c.args.sink.now) (g.K.Sink.taken c.answer_input.new.sink) c.answer_input.result)
+          subst (λ (d : DumpCommand). AnswersInput d (held bytes (g.S.Source.left c.answer_input.new.source)) (port g.K.Sink.taken c.args.sink.now c.answer_input.new.sink) c.answer_input.result)
           (one_dump c.args.command c.in-Dump.command asked c.in-Dump.is says) (answer.bytes bytes is);
       text = rw c.in-Dump.is tt;
       unread = rw c.in-Dump.is (λ not. absurd (cc not));

@@ -6,7 +6,7 @@ use Rattle.mt_script.specs.Newcomers.{IsWithoutNewcomers}
 use Rattle.mt_replay.specs.Transcript.{transcript}
 use Rattle.mt_answers.specs.Lines.{usage_line}
 use Rattle.mt_cli.specs.Output.{Output, usage, bad_text, answered, printed, replayed, summed, measured, requested}
-use Rattle.mt_cli.specs.Tool.{Starved}
+use Rattle.mt_cli.specs.Tool.{Starved, took}
 use Rattle.mt_cli_laws.proofs.outputs_worked.worked_endings.Goals as goal
 
 -- without words the output is one line
@@ -100,7 +100,7 @@ of_replay bytes _ _ (measured cpus n accesses is) = cc is
 of_replay bytes _ _ (requested cpus is) = cc is
 of_replay bytes _ _ (replayed is) = refl
 
-more : (bytes : List ℕ) → IsWithoutNewcomers bytes → Starved (codes "replay" ∷ []) bytes [] (Some (codes "accepted\nok\n")) → ⊥
+more : (bytes : List ℕ) → IsWithoutNewcomers bytes → Starved (codes "replay" ∷ []) bytes (took [] (Some (codes "accepted\nok\n"))) → ⊥
 more bytes without (inl is) = omega (arith, ap (λ b. length (taken b)) is)
 more bytes without (inr (is, first_line, short)) =
     let (front, back, cut, grows) = first_line without in
@@ -113,7 +113,7 @@ returns-clause-more_without_memory c = more
 abbrev joins : List ℕ
 joins = codes "cpus 1\ndump\n0fe 0\nend\ncr3 0\njoin\n"
 
-other_behind : Starved (codes "replay" ∷ []) joins [] (Some (codes "x")) → ⊥
+other_behind : Starved (codes "replay" ∷ []) joins (took [] (Some (codes "x"))) → ⊥
 other_behind (inl is) = omega (arith, ap (λ b. length (taken b)) is)
 other_behind (inr (is, first_line, short)) =
     begins short.front short.back 97 120 (ap first (sym short.cut ∙ of_replay joins short.text short.status short.output)) (sym (ap (λ b. first (taken b)) short.taken)) (omega arith) (omega arith)

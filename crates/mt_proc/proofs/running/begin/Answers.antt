@@ -9,6 +9,7 @@ use Rattle.mt_dump.specs.ForProcessors.{files_for}
 use Rattle.mt_output.specs.Lines.{dump_refused_line}
 use Rattle.mt_output.specs.Writing.{Adds}
 use Rattle.mt_output.proofs.Writing.{passes_nothing}
+use Rattle.mt_output.specs.Ports.{change, port}
 use Rattle.mt_proc.specs.After.{at_first}
 use Rattle.mt_proc.specs.Proc.{begins, in_requests}
 use Rattle.mt_machine.specs.Machine.{Machine}
@@ -27,19 +28,21 @@ new-requires-clause-start g c =
     subst AreStartFiles (sym c.as_slice-2.ensures.value) (c.files_for-files.ensures.start (each_accepted c.args.dump.now.files none))
 
 pub returns-in-Some-clause-bytes : goal.returns-in-Some-clause-bytes
-returns-in-Some-clause-bytes g c = λ from number leads.
+returns-in-Some-clause-bytes g c = λ at leads.
+    let here = record at { so_far = [] } in
     let k : ℕ = c.in-Some.k in
     let fault = c.in-Some.fault in
     let dump = c.args.dump.now in
     let line : c.as_slice-in-Some.result.now ≡ dump_refused_line dump.version k fault =
     c.as_slice-in-Some.ensures.value ∙ c.dump_refused_line-line.ensures ∙ ap (λ (d : Dump). dump_refused_line d.version k fault) c.dump.view_is in
     let refused : first_refusal dump.files ≡ Some (k, fault) = ap first_refusal (sym (c.as_slice.ensures.value ∙ ap (λ (d : Dump). d.files) c.dump.view_is)) ∙ sym c.in-Some.ensures.refusal in
-    ends c.args.cpus from number [] c.args.run.now c.args.writer.now c.tell.new.writer (g.K.Sink.taken c.args.sink.now) (g.K.Sink.taken c.tell.new.sink) (dump_refused_line dump.version k fault) Refused c.tell.result
-    (leads_as c.args.cpus from number (begins dump (first_refusal dump.files)) (begins dump (Some (k, fault))) (ap (begins dump) refused) leads) (λ is. cc is)
+    ends c.args.cpus here c.args.run.now (change c.args.writer.now c.tell.new.writer) (port g.K.Sink.taken c.args.sink.now c.tell.new.sink) (dump_refused_line dump.version k fault) Refused c.tell.result
+    (leads_as c.args.cpus here (begins dump (first_refusal dump.files)) (begins dump (Some (k, fault))) (ap (begins dump) refused) leads) (λ is. cc is)
     (subst (λ l. Adds c.args.writer.now l c.tell.new.writer (g.K.Sink.taken c.args.sink.now) (g.K.Sink.taken c.tell.new.sink) c.tell.result) line c.tell.ensures.bytes) c.tell.ensures.stop
 
 pub returns-clause-bytes : goal.returns-clause-bytes
-returns-clause-bytes g c = λ from number leads.
+returns-clause-bytes g c = λ there leads.
+    let here = record there { so_far = [] } in
     let dump = c.args.dump.now in
     let none : first_refusal dump.files ≡ None = ap first_refusal (sym (c.as_slice.ensures.value ∙ ap (λ (d : Dump). d.files) c.dump.view_is)) ∙ sym c.first_refusal.ensures.refusal ∙ c.in_default.is in
     let files : c.as_slice-2.result.now ≡ files_for c.args.cpus dump = c.as_slice-2.ensures.value ∙ c.files_for-files.ensures.files in
@@ -51,8 +54,8 @@ returns-clause-bytes g c = λ from number leads.
     let start = subst AreStartFiles (sym c.as_slice-2.ensures.value) (c.files_for-files.ensures.start (each_accepted dump.files none)) in
     let serves : Serves c.in-Ok.processors =
     subst Serves (sym c.in-Ok.ensures) (serves_idling c.as_slice-2.result.now (omega (arith, count, c.requires.some)) (omega (arith, count, c.requires.few)) start) in
-    goes c.args.cpus from number [] (run.Requests c.in-Ok.processors) c.args.writer.now c.args.writer.now (g.K.Sink.taken c.args.sink.now) (g.K.Sink.taken c.args.sink.now) [] (in_requests (at_first (first_file dump)))
-    (leads_as c.args.cpus from number (begins dump (first_refusal dump.files)) (begins dump None) (ap (begins dump) none) leads) at tt (each, serves)
+    goes c.args.cpus here (run.Requests c.in-Ok.processors) (change c.args.writer.now c.args.writer.now) (port g.K.Sink.taken c.args.sink.now c.args.sink.now) [] (in_requests (at_first (first_file dump)))
+    (leads_as c.args.cpus here (begins dump (first_refusal dump.files)) (begins dump None) (ap (begins dump) none) leads) at tt (each, serves)
     (passes_nothing c.args.writer.now (g.K.Sink.taken c.args.sink.now))
 
 -- the run is in the dump still

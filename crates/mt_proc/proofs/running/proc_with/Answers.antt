@@ -1,4 +1,5 @@
 use Rattle.std.proofs.Common.{inr, refl, []}
+use Rattle.mt_output.specs.Ports.{held, port}
 use Rattle.mt_stream.proofs.Rounds.{ends_as}
 use Rattle.mt_proc.specs.Proc.{in_dump, proc_told, proc_transcript}
 use Rattle.mt_proc.specs.Running.{path_from}
@@ -13,7 +14,7 @@ returns-clause-bytes g c = c.run_lines.ensures.bytes (path_from c.args.cpus (in_
 
 pub returns-clause-complete : goal.returns-clause-complete
 returns-clause-complete g c = λ bytes known.
-    ends_as (proc_transcript c.args.cpus bytes) (proc_told c.args.cpus) [] bytes (g.S.Source.left c.run_lines.new.source) (g.K.Sink.taken c.args.sink.now) (g.K.Sink.taken c.run_lines.new.sink) c.run_lines.result
+    ends_as (record { tells = proc_transcript c.args.cpus bytes; early = [] }) (proc_told c.args.cpus) (held bytes (g.S.Source.left c.run_lines.new.source)) (port g.K.Sink.taken c.args.sink.now c.run_lines.new.sink) c.run_lines.result
     (c.run_lines.ensures.bytes (path_from c.args.cpus (in_dump [])) (in_dump [], c.new-2.ensures, refl, refl, tt) bytes known)
 
 pub returns-clause-memory : goal.returns-clause-memory

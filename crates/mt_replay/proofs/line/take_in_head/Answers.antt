@@ -3,9 +3,10 @@ use Rattle.mt_stream.specs.declared.ending.Stop.TheVariants.{BadText, NoMemory}
 use Rattle.mt_output.specs.Lines.{offence_line}
 use Rattle.mt_script.specs.Head.{offends}
 use Rattle.mt_script.specs.Situation.{Situation}
-use Rattle.mt_replay.specs.Running.{AsksAt, IsQuiet, StandsAt, leading, leading_dump}
+use Rattle.mt_replay.specs.Running.{AsksAt, IsQuiet, StandsAt, dump_at, line_at}
 use Rattle.mt_replay.specs.Transcript.{Point, in_head}
 use Rattle.mt_stream.specs.Lines.{Takes}
+use Rattle.mt_output.specs.Ports.{change, port}
 use Rattle.mt_replay.specs.declared.line.Run.{Run}
 use Rattle.mt_replay.specs.declared.line.Run.TheVariants as run
 use Rattle.mt_replay.proofs.Taking.{dump_leads, head_takes, in_the_head}
@@ -20,9 +21,9 @@ returns-in-Ok-None-clause-bytes g c = λ came so_far was at quiet.
     let (before, read, is) = in_the_head c.args.run.now c.in-Head.head was c.in-Head.is at in
     let none : (so_far ≡ []) × (came ≡ false) = subst (λ (r : Run). IsQuiet r came so_far) c.in-Head.is quiet in
     let (after, holds, step) = rw c.in-Ok-None.field-0-is at (c.in-Ok-None.ensures.step before read) in
-    subst
-    (λ (p : Point). Takes (StandsAt (run.Head c.take.new.self)) (leading came so_far c.args.line.now.number c.args.line.now.bytes.now p) (c.args.line.now.number + 1) so_far c.args.writer.now c.args.writer.now (g.K.Sink.taken c.args.sink.now) (g.K.Sink.taken c.args.sink.now) (Ok None))
-    (sym is)
+    let writer = change c.args.writer.now c.args.writer.now in
+    let sink = port g.K.Sink.taken c.args.sink.now c.args.sink.now in
+    subst (λ (p : Point). Takes (StandsAt (run.Head c.take.new.self)) (line_at came so_far c.args.line.now.number c.args.line.now.bytes.now p) writer sink (Ok None)) (sym is)
     (head_takes c.in-Head.head.setup c.take.new.self.setup before after c.args.line.now.number c.args.line.now.bytes.now came so_far c.args.writer.now c.take.new.self (g.K.Sink.taken c.args.sink.now) step (refl, holds) none)
 
 pub returns-in-Ok-Some-clause-bytes : goal.returns-in-Ok-Some-clause-bytes
@@ -32,30 +33,24 @@ returns-in-Ok-Some-clause-bytes g c = λ came so_far was at quiet.
     let (holds, step) = rw c.in-Ok-Some.field-0-is at (c.in-Ok-Some.ensures.step before read) in
     let same = (rw c.in-Ok-Some.field-0-is at c.in-Ok-Some.ensures.shown).1 in
     let setup : c.replace-setup.result ≡ c.in-Head.head.setup = c.replace-setup.ensures.value ∙ same in
-    let begun =
-    subst
-    (λ (now : Situation). Takes (StandsAt c.begin.new.run) (leading_dump now c.in-Ok-Some.dump (c.args.line.now.number + 1)) (c.args.line.now.number + 1) [] c.args.writer.now c.begin.new.writer (g.K.Sink.taken c.args.sink.now) (g.K.Sink.taken c.begin.new.sink) c.begin.result)
-    setup (c.begin.ensures.bytes (c.args.line.now.number + 1)) in
-    let here =
-    subst
-    (λ (l : List ℕ). Takes (StandsAt c.begin.new.run) (leading_dump c.in-Head.head.setup c.in-Ok-Some.dump (c.args.line.now.number + 1)) (c.args.line.now.number + 1) l c.args.writer.now c.begin.new.writer (g.K.Sink.taken c.args.sink.now) (g.K.Sink.taken c.begin.new.sink) c.begin.result)
-    (sym none.0) begun in
-    subst
-    (λ (p : Point). Takes (StandsAt c.begin.new.run) (leading came so_far c.args.line.now.number c.args.line.now.bytes.now p) (c.args.line.now.number + 1) so_far c.args.writer.now c.begin.new.writer (g.K.Sink.taken c.args.sink.now) (g.K.Sink.taken c.begin.new.sink) c.begin.result)
-    (sym is)
-    (takes_same (StandsAt c.begin.new.run) (leading_dump c.in-Head.head.setup c.in-Ok-Some.dump (c.args.line.now.number + 1)) (leading came so_far c.args.line.now.number c.args.line.now.bytes.now (in_head c.in-Head.head.setup before)) (c.args.line.now.number + 1) so_far
-    c.args.writer.now c.begin.new.writer (g.K.Sink.taken c.args.sink.now) (g.K.Sink.taken c.begin.new.sink) c.begin.result
-    (dump_leads c.in-Head.head.setup c.in-Ok-Some.dump before c.args.line.now.number c.args.line.now.bytes.now came so_far step none) here)
+    let number = c.args.line.now.number in
+    let writer = change c.args.writer.now c.begin.new.writer in
+    let sink = port g.K.Sink.taken c.args.sink.now c.begin.new.sink in
+    let begun = subst (λ (now : Situation). Takes (StandsAt c.begin.new.run) (dump_at now c.in-Ok-Some.dump (number + 1)) writer sink c.begin.result) setup (c.begin.ensures.bytes (number + 1)) in
+    let here = dump_at c.in-Head.head.setup c.in-Ok-Some.dump (number + 1) in
+    let takes = subst (λ (l : List ℕ). Takes (StandsAt c.begin.new.run) (record here { so_far = l }) writer sink c.begin.result) (sym none.0) begun in
+    subst (λ (p : Point). Takes (StandsAt c.begin.new.run) (line_at came so_far number c.args.line.now.bytes.now p) writer sink c.begin.result) (sym is)
+    (takes_same (StandsAt c.begin.new.run) (record here { so_far = so_far }) (line_at came so_far number c.args.line.now.bytes.now (in_head c.in-Head.head.setup before)).leads writer sink c.begin.result
+    (dump_leads c.in-Head.head.setup c.in-Ok-Some.dump before number c.args.line.now.bytes.now came so_far step none) takes)
 
 pub returns-in-Err-clause-bytes : goal.returns-in-Err-clause-bytes
 returns-in-Err-clause-bytes g c = λ came so_far was at quiet.
     let (before, read, is) = in_the_head c.args.run.now c.in-Head.head was c.in-Head.is at in
     let step = c.in-Err.ensures.step before read in
-    subst
-    (λ (p : Point). Takes (StandsAt (run.Head c.take.new.self)) (leading came so_far c.args.line.now.number c.args.line.now.bytes.now p) (c.args.line.now.number + 1) so_far c.args.writer.now c.tell_offence.new.writer (g.K.Sink.taken c.args.sink.now) (g.K.Sink.taken c.tell_offence.new.sink) c.tell_offence.result)
-    (sym is)
-    (takes_last (StandsAt (run.Head c.take.new.self)) (leading came so_far c.args.line.now.number c.args.line.now.bytes.now (in_head c.in-Head.head.setup before)) (c.args.line.now.number + 1) so_far (offence_line c.in-Err.offence) c.args.writer.now c.tell_offence.new.writer BadText
-    (g.K.Sink.taken c.args.sink.now) (g.K.Sink.taken c.tell_offence.new.sink) c.tell_offence.result
+    let writer = change c.args.writer.now c.tell_offence.new.writer in
+    let sink = port g.K.Sink.taken c.args.sink.now c.tell_offence.new.sink in
+    subst (λ (p : Point). Takes (StandsAt (run.Head c.take.new.self)) (line_at came so_far c.args.line.now.number c.args.line.now.bytes.now p) writer sink c.tell_offence.result) (sym is)
+    (takes_last (StandsAt (run.Head c.take.new.self)) (line_at came so_far c.args.line.now.number c.args.line.now.bytes.now (in_head c.in-Head.head.setup before)) (offence_line c.in-Err.offence) writer sink BadText c.tell_offence.result
     (head_leads c.in-Head.head.setup before c.args.line.now.number c.args.line.now.bytes.now (offends c.in-Err.offence) step) (λ is. cc is)
     c.tell_offence.ensures.bytes c.tell_offence.ensures.stop)
 

@@ -1,5 +1,6 @@
 use Rattle.std.proofs.Common.{inr, refl, false, []}
 use Rattle.mt_script.specs.Situation.{at_start}
+use Rattle.mt_output.specs.Ports.{held, port}
 use Rattle.mt_stream.proofs.Rounds.{ends_as}
 use Rattle.mt_replay.specs.Newcomers.{early_text}
 use Rattle.mt_replay.specs.Running.{path_from}
@@ -15,7 +16,7 @@ returns-clause-bytes g c = c.run_lines.ensures.bytes (path_from false [] (in_hea
 
 pub returns-clause-complete : goal.returns-clause-complete
 returns-clause-complete g c = λ bytes known.
-    ends_as (transcript bytes) replay_told (early_text bytes) bytes (g.S.Source.left c.run_lines.new.source) (g.K.Sink.taken c.args.sink.now) (g.K.Sink.taken c.run_lines.new.sink) c.run_lines.result
+    ends_as (record { tells = transcript bytes; early = early_text bytes }) replay_told (held bytes (g.S.Source.left c.run_lines.new.source)) (port g.K.Sink.taken c.args.sink.now c.run_lines.new.sink) c.run_lines.result
     (c.run_lines.ensures.bytes (path_from false [] (in_head at_start [])) (in_head at_start [], false, (c.new-2.ensures.setup, c.new-2.ensures.dump), (refl, refl), refl) bytes known)
 
 pub returns-clause-memory : goal.returns-clause-memory

@@ -4,6 +4,7 @@ use Rattle.mt_ports.specs.declared.status.Status.TheVariants.{WriteFault}
 use Rattle.mt_text.specs.Feed.{Feeding, IsLong, Moves, taken}
 use Rattle.mt_stream.specs.Handling.{RunsOn}
 use Rattle.mt_stream.specs.Lines.{running}
+use Rattle.mt_output.specs.Ports.{change, held, port}
 use Rattle.mt_stream.proofs.Loops.{ends, fails, goes_last, goes_on, refuses}
 use Rattle.mt_stream.proofs.Rounds.{cut_enough, cut_long, few_taken, moved_taken, never_much}
 use Rattle.mt_stream.proofs.Telling.{UnderWay, closes, cut_has_memory, cuts, no_line, starts}
@@ -29,7 +30,7 @@ pub returns-in-Ok-false-clause-bytes : goal.returns-in-Ok-false-clause-bytes
 returns-in-Ok-false-clause-bytes g c = λ start at bytes known.
     let (more, takes, rises, next) = c.in-Ok-false.ensures.bytes in
     let moves = subst (Moves c.lines.feed c.next_line.new.feed (c.lines.feed.pending ++ more) (g.S.Source.left c.next_line.new.source)) c.in-Ok-false.field-0-test next.0 in
-    subst (RunsOn start bytes (g.S.Source.left c.next_line.new.source) (g.K.Sink.taken c.args.sink.now) (g.K.Sink.taken c.finish.new.sink)) (sym c.closed_status.ensures.value)
+    subst (RunsOn start (held bytes (g.S.Source.left c.next_line.new.source)) (port g.K.Sink.taken c.args.sink.now c.finish.new.sink)) (sym c.closed_status.ensures.value)
     (closes _ start c.requires.laws bytes _ _ _ _ _ _ (g.K.Sink.taken c.finish.new.sink) c.finish.result
     (no_line _ start c.requires.laws bytes more _ (g.S.Source.left c.next_line.new.source) _ c.next_line.new.feed _ _ c.next_line.new.writer _ _ (g.K.Sink.taken c.next_line.new.sink) (c.lines.invariant.told start at bytes known) takes moves next.1)
     (rw c.end.ensures at c.finish.ensures.bytes))
@@ -45,9 +46,9 @@ pub returns-in-Err-clause-bytes : goal.returns-in-Err-clause-bytes
 returns-in-Err-clause-bytes g c = λ start at bytes known.
     let (more, takes, rises, short) = c.in-Err.ensures.bytes in
     let enough =
-    cut_enough c.lines.feed c.next_line.new.feed more c.lines.writer c.next_line.new.writer (g.K.Sink.taken c.lines.sink) (g.K.Sink.taken c.next_line.new.sink) (g.S.Source.given c.args.source.now) (g.S.Source.given c.lines.source) (g.S.Source.given c.next_line.new.source)
+    cut_enough c.lines.feed c.next_line.new.feed more (g.S.Source.left c.next_line.new.source) (change c.lines.writer c.next_line.new.writer) (port g.K.Sink.taken c.lines.sink c.next_line.new.sink) (g.S.Source.given c.args.source.now) (g.S.Source.given c.lines.source) (g.S.Source.given c.next_line.new.source)
     c.lines.invariant.given rises c.in-Err.ensures.long c.lines.invariant.no_fault c.in-Err.cut short in
-    subst (RunsOn start bytes (g.S.Source.left c.next_line.new.source) (g.K.Sink.taken c.args.sink.now) (g.K.Sink.taken c.next_line.new.sink)) (sym c.cut_status.ensures.value)
+    subst (RunsOn start (held bytes (g.S.Source.left c.next_line.new.source)) (port g.K.Sink.taken c.args.sink.now c.next_line.new.sink)) (sym c.cut_status.ensures.value)
     (cuts _ start c.requires.laws bytes more _ (g.S.Source.left c.next_line.new.source) _ c.next_line.new.feed _ _ c.next_line.new.writer _ _ (g.K.Sink.taken c.next_line.new.sink) c.in-Err.cut (c.lines.invariant.told start at bytes known) takes short c.lines.invariant.no_fault enough)
 
 pub returns-in-Err-clause-memory : goal.returns-in-Err-clause-memory
@@ -57,7 +58,7 @@ pub returns-in-Err-clause-too_long : goal.returns-in-Err-clause-too_long
 returns-in-Err-clause-too_long g c =
     let (more, takes, rises, short) = c.in-Err.ensures.bytes in
     let long =
-    cut_long c.lines.feed c.next_line.new.feed more c.lines.writer c.next_line.new.writer (g.K.Sink.taken c.lines.sink) (g.K.Sink.taken c.next_line.new.sink) (g.S.Source.given c.args.source.now) (g.S.Source.given c.lines.source) (g.S.Source.given c.next_line.new.source)
+    cut_long c.lines.feed c.next_line.new.feed more (g.S.Source.left c.next_line.new.source) (change c.lines.writer c.next_line.new.writer) (port g.K.Sink.taken c.lines.sink c.next_line.new.sink) (g.S.Source.given c.args.source.now) (g.S.Source.given c.lines.source) (g.S.Source.given c.next_line.new.source)
     c.lines.invariant.given rises c.in-Err.ensures.long c.lines.invariant.no_fault c.in-Err.cut short in
     (λ is. long.0 (sym c.cut_status.ensures.value ∙ is), λ much. c.cut_status.ensures.value ∙ long.1 much)
 
@@ -70,7 +71,7 @@ pub returns-then-last-clause-bytes : goal.returns-then-last-clause-bytes
 returns-then-last-clause-bytes g c = λ start at bytes known.
     let (more, takes, rises, next) = c.in-Ok-true.ensures.bytes in
     let line = c.requires.takes _ _ _ _ _ _ _ _ c.in-Ok-None.ensures in
-    subst (RunsOn start bytes (g.S.Source.left c.next_line.new.source) (g.K.Sink.taken c.args.sink.now) (g.K.Sink.taken c.finish-then-last.new.sink)) (sym c.closed_status-then-last.ensures.value)
+    subst (RunsOn start (held bytes (g.S.Source.left c.next_line.new.source)) (port g.K.Sink.taken c.args.sink.now c.finish-then-last.new.sink)) (sym c.closed_status-then-last.ensures.value)
     (goes_last _ start c.requires.laws bytes more _ (g.S.Source.left c.next_line.new.source) _ c.next_line.new.feed _ _ c.next_line.new.writer _ _ (g.K.Sink.taken c.next_line.new.sink) (c.lines.invariant.told start at bytes known) takes _ c.in-Ok-true.field-0-test next
     c.take_line.new.arg2 c.take_line.new.arg4 (g.K.Sink.taken c.take_line.new.arg5)
     (λ so_far was stands. rw (c.in-Ok-None.field-0-is, c.current.ensures.bytes, c.current.ensures.number) at (line.bytes so_far was stands))

@@ -2,7 +2,7 @@ use Rattle.std.proofs.Common.{◌∙◌, sym, subst, ap, arith}
 use Rattle.mt_dump.specs.Reader.{HasRead}
 use Rattle.mt_dump.specs.Seen.{state_of}
 use Rattle.mt_dump.specs.Reader.{with_width}
-use Rattle.mt_dump.proofs.Held.{no_file_at_end, shown_at_end, dump_at_end, few_files, width_bounds}
+use Rattle.mt_dump.proofs.Held.{no_file_at_end, read_at_end, dump_at_end, few_files, width_bounds}
 use Rattle.mt_dump.proofs.reader.DumpReader.finish.Goals as goal
 
 pub returns-in_default : goal.returns-in_default
@@ -24,4 +24,4 @@ unreachable-requires c =
 
 pub returns : goal.returns
 returns c = λ before read.
-    rw (c.push.ensures.items, c.in-Ok.ensures.ok ∙ ap (λ f. with_width f c.self.inside.width) c.in-Some.file-is) (shown_at_end (state_of c.self.inside) before c.in-Some.file (subst (λ s. HasRead s before) (sym c.self.view_is) read) c.in-Some.is)
+    rw (c.push.ensures.items, c.in-Ok.ensures.ok ∙ ap (λ f. with_width f c.self.inside.width) c.in-Some.file-is) (read_at_end (state_of c.self.inside) before c.args.at c.in-Some.file (subst (λ s. HasRead s before) (sym c.self.view_is) read) c.in-Some.is)

@@ -4,6 +4,7 @@ use Rattle.mt_ports.specs.declared.status.Status.TheVariants.{Done}
 use Rattle.mt_output.specs.Writing.{Passes}
 use Rattle.mt_output.proofs.Writing.{fails_longer}
 use Rattle.mt_stream.specs.Lines.{Closes}
+use Rattle.mt_output.specs.Ports.{change}
 use Rattle.mt_stream.specs.Told.{told}
 use Rattle.mt_stream.proofs.Taking.{closes_after}
 use Rattle.mt_proc.specs.After.{era_line}
@@ -22,8 +23,8 @@ returns-in-Ok-clause-bytes g c =
     let list : listing c.file.result.now ≡ listing now.file = ap listing c.file.ensures in
     let era : c.as_slice-in-Ok.result.now ≡ era_line now.count = c.as_slice-in-Ok.ensures.value ∙ c.era_line.ensures ∙ ap era_line c.count.ensures in
     let passed : Passes c.args.writer.now (listing now.file) c.write_listing.new.writer a b = subst (λ (l : List ℕ). Passes c.args.writer.now l c.write_listing.new.writer a b) list c.in-Ok.ensures.bytes in
-    let closes : Closes (told (era_line now.count) Done) c.write_listing.new.writer b d c.close-in-Ok.result = subst (λ (l : List ℕ). Closes (told l Done) c.write_listing.new.writer b d c.close-in-Ok.result) era c.close-in-Ok.ensures.bytes in
-    subst (λ (r : Run). Closes (end_of_run r c.args.end) c.args.writer.now a d c.close-in-Ok.result) (sym c.in-Requests.is)
+    let closes : Closes (told (era_line now.count) Done) c.write_listing.new.writer (change b d) c.close-in-Ok.result = subst (λ (l : List ℕ). Closes (told l Done) c.write_listing.new.writer (change b d) c.close-in-Ok.result) era c.close-in-Ok.ensures.bytes in
+    subst (λ (r : Run). Closes (end_of_run r c.args.end) c.args.writer.now (change a d) c.close-in-Ok.result) (sym c.in-Requests.is)
     (closes_after c.args.writer.now (listing now.file) c.write_listing.new.writer (era_line now.count) Done c.close-in-Ok.result a b d passed closes)
 
 pub returns-in-Err-clause-bytes : goal.returns-in-Err-clause-bytes
@@ -32,5 +33,5 @@ returns-in-Err-clause-bytes g c =
     let a = g.K.Sink.taken c.args.sink.now in
     let b = g.K.Sink.taken c.write_listing.new.sink in
     let failed : AppendsFront a b (c.args.writer.now ++ listing now.file) = subst (λ (l : List ℕ). AppendsFront a b (c.args.writer.now ++ l)) (ap listing c.file.ensures) c.in-Err.ensures.bytes in
-    subst (λ (r : Run). Closes (end_of_run r c.args.end) c.args.writer.now a b (Err c.in-Err.failed)) (sym c.in-Requests.is)
+    subst (λ (r : Run). Closes (end_of_run r c.args.end) c.args.writer.now (change a b) (Err c.in-Err.failed)) (sym c.in-Requests.is)
     (fails_longer c.args.writer.now (listing now.file) (era_line now.count) a b failed)
