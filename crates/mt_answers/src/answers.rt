@@ -1,4 +1,4 @@
-ghost use Rattle.std.specs.Prelude.{◌≡◌, ◌≢◌, ◌<◌, ◌≤◌, ◌^◌, ◌⊎◌, ◌↔◌, ℕ, List, None, Some};
+ghost use Rattle.std.specs.Prelude.{◌≡◌, ◌≢◌, ◌<◌, ◌≤◌, ◌^◌, ◌⊎◌, ◌↔◌, ℕ, List, None, Some, IfSome};
 ghost use Rattle.mt_ports.specs.Causes.{StatusHasCause};
 ghost use Rattle.mt_regs.specs.Faults.{IsAccepted};
 ghost use Rattle.mt_regs.specs.Agreement.{first_refusal};
@@ -26,6 +26,18 @@ use mt_text::FeedFault;
 use mt_tidy::{TidyFault, WorkArea, tidy};
 use mt_types::page_runs;
 use std::alloc::Global;
+
+// The first file that isn't accepted, for a command that wants each to be: every one but `show`.
+fn refusal(d: &Dump, command: DumpCommand) -> Option<(u32, Fault)>
+    ensures found { command ≢ Show → result ≡ first_refusal d.now.files }
+    ensures show { command ≡ Show → result ≡ None }
+    ensures short { IfSome result (λ found. HasThreeDigits found.1.msr) }
+{
+    if let DumpCommand::Show = command {
+        return None;
+    }
+    first_refusal(d.files.as_slice())
+}
 
 // Names the first file that isn't accepted, and its register at fault.
 fn refuse<K: Sink>(d: &Dump, k: u32, fault: &Fault, sink: &mut K, command: DumpCommand) -> Status
@@ -140,9 +152,10 @@ fn grained<K: Sink>(
     }
 }
 
-// Answers a command about a dump whose files are all accepted: but for `check` and `show`, about processor 0's file.
+// Answers a command about a dump whose files are all accepted, unless it is `show`: but for `check` and `show`, about
+// processor 0's file.
 fn answer_accepted<K: Sink>(alloc: Global, command: DumpCommand, d: &Dump, sink: &mut K) -> Status
-    requires accepted { first_refusal d.now.files ≡ None }
+    requires accepted { command ≢ Show → first_refusal d.now.files ≡ None }
     requires command { IsSound command }
     ensures bytes { Answers (Answer d.now command) (K.taken sink.old) (K.taken sink.new) result }
     ensures no_memory { result ≡ Status.NoMemory → MayTakeMemory (Serial (OfDump command)) }
@@ -167,10 +180,7 @@ pub fn answer<K: Sink>(alloc: Global, command: DumpCommand, d: &Dump, sink: &mut
     ensures no_memory { result ≡ Status.NoMemory → MayTakeMemory (Serial (OfDump command)) }
     ensures cause { StatusHasCause Status.WriteFault (K.faults sink.old) (K.faults sink.new) result }
 {
-    if let DumpCommand::Show = command {
-        return show(d, sink);
-    }
-    match first_refusal(d.files.as_slice()) {
+    match refusal(d, command) {
         None => answer_accepted(alloc, command, d, sink),
         Some((k, fault)) => refuse(d, k, &fault, sink, command),
     }

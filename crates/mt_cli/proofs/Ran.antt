@@ -6,11 +6,11 @@ use Rattle.mt_ports.specs.declared.status.Status.{Status}
 use Rattle.mt_ports.specs.declared.status.Status.TheVariants.{Done, Usage, ReadFault, WriteFault, NoMemory, TooLong, TooFew, Disabled}
 use Rattle.mt_text.specs.Feed.{GaveTooMuch}
 use Rattle.mt_output.specs.Written.{Writes}
-use Rattle.mt_output.specs.Ports.{change, held, port}
+use Rattle.mt_output.specs.Ports.{SinkRun, SourceRun, change, held, port, sink_run, source_run}
 use Rattle.mt_stream.specs.Runs.{Runs}
 use Rattle.mt_proc.specs.Proc.{proc_told}
-use Rattle.mt_proc.specs.Running.{OutOfMemory as ProcOutOfMemory}
-use Rattle.mt_replay.specs.Running.{OutOfMemory as ReplayOutOfMemory, Replays}
+use Rattle.mt_proc.specs.Running.{IsProc}
+use Rattle.mt_replay.specs.Running.{IsReplay, Replays}
 use Rattle.mt_answers.specs.declared.command.Command.{Command}
 use Rattle.mt_answers.specs.declared.command.Command.TheVariants.{Serial, Threaded}
 use Rattle.mt_answers.specs.declared.command.SerialCommand.{SerialCommand}
@@ -22,7 +22,7 @@ use Rattle.mt_answers.specs.Generator.{make_text}
 use Rattle.mt_answers.specs.Help.{help_text, own_text, version_text}
 use Rattle.mt_answers.specs.Lines.{usage_line}
 use Rattle.mt_cli.specs.Output.{Output, printed, usage}
-use Rattle.mt_cli.specs.Runs.{IsRun, IsToolRun, SinkRun, SourceRun, sink_run, source_run}
+use Rattle.mt_cli.specs.Runs.{IsRun, IsToolRun}
 use Rattle.mt_answers.specs.Statuses.{MayEnd}
 use Rattle.mt_cli.specs.Tool.{Leaves, OutOfMemory, Reads, took}
 use Rattle.mt_answers.specs.Written.{AnswersInput, Makes}
@@ -184,39 +184,25 @@ serial_ran words Version source sink result says answers makes unread never ends
 
 -- a script
 pub replay_ran : {S K : Type 0} (words : List (List ℕ)) (source : SourceRun S) (sink : SinkRun K) (result : Status)
-    → command_of words ≡ Some (Threaded Replay)
-    → ((bytes : List ℕ) → source.left source.old ≡ Some bytes → Replays (held bytes (source.left source.new)) (port sink.taken sink.old sink.new) result)
-    → ((bytes : List ℕ) → source.left source.old ≡ Some bytes → result ≡ NoMemory → ReplayOutOfMemory (held bytes (source.left source.new)) (port sink.taken sink.old sink.new))
-    → result ≢ Usage → (result ≢ TooFew) × (result ≢ Disabled)
-    → StatusHasCause ReadFault (source.faults source.old) (source.faults source.new) result
-    → StatusHasCause WriteFault (sink.faults sink.old) (sink.faults sink.new) result
-    → ((result ≡ TooLong) ↔ GaveTooMuch (source.given source.old) (source.given source.new))
-    → IsToolRun words source sink result
-replay_ran words source sink result says replays refused never few failed cause long =
+    → command_of words ≡ Some (Threaded Replay) → IsReplay source sink result → IsToolRun words source sink result
+replay_ran words source sink result says run =
     reading_ran words (Threaded Replay) source sink result says refl
     (λ bytes before is taken.
     replays_leave words bytes result (source.left source.new) before (sink.taken sink.new) says
-    (subst (λ (o : Option (List ℕ)). Replays (held bytes (source.left source.new)) (change o (sink.taken sink.new)) result) taken (replays bytes is)))
-    (λ bytes is. replays_read words bytes result (source.left source.new) (sink.taken sink.old) (sink.taken sink.new) says (replays bytes is))
-    (run_ends words (Threaded Replay) result says refl few) never (λ is. tt) refused failed cause long
+    (subst (λ (o : Option (List ℕ)). Replays (held bytes (source.left source.new)) (change o (sink.taken sink.new)) result) taken (run.bytes bytes is)))
+    (λ bytes is. replays_read words bytes result (source.left source.new) (sink.taken sink.old) (sink.taken sink.new) says (run.bytes bytes is))
+    (run_ends words (Threaded Replay) result says refl (run.others.1, run.others.2)) run.others.0 (λ is. tt) run.memory run.read_fault run.write_fault run.too_long
 
 -- requests
 pub proc_ran : {S K : Type 0} (words : List (List ℕ)) (cpus : ℕ) (source : SourceRun S) (sink : SinkRun K) (result : Status)
-    → command_of words ≡ Some (Threaded (Proc cpus))
-    → ((bytes : List ℕ) → source.left source.old ≡ Some bytes → Runs (proc_told cpus) [] (held bytes (source.left source.new)) (port sink.taken sink.old sink.new) result)
-    → ((bytes : List ℕ) → source.left source.old ≡ Some bytes → result ≡ NoMemory → ProcOutOfMemory cpus (held bytes (source.left source.new)) (port sink.taken sink.old sink.new))
-    → result ≢ Usage → (result ≢ TooFew) × (result ≢ Disabled)
-    → StatusHasCause ReadFault (source.faults source.old) (source.faults source.new) result
-    → StatusHasCause WriteFault (sink.faults sink.old) (sink.faults sink.new) result
-    → ((result ≡ TooLong) ↔ GaveTooMuch (source.given source.old) (source.given source.new))
-    → IsToolRun words source sink result
-proc_ran words cpus source sink result says runs refused never few failed cause long =
+    → command_of words ≡ Some (Threaded (Proc cpus)) → IsProc cpus source sink result → IsToolRun words source sink result
+proc_ran words cpus source sink result says run =
     reading_ran words (Threaded (Proc cpus)) source sink result says refl
     (λ bytes before is taken.
     proc_leaves words bytes cpus result (source.left source.new) before (sink.taken sink.new) says
-    (subst (λ (o : Option (List ℕ)). Runs (proc_told cpus) [] (held bytes (source.left source.new)) (change o (sink.taken sink.new)) result) taken (runs bytes is)))
-    (λ bytes is. proc_reads words bytes cpus result (source.left source.new) (sink.taken sink.old) (sink.taken sink.new) says (runs bytes is))
-    (run_ends words (Threaded (Proc cpus)) result says refl few) never (λ is. tt) refused failed cause long
+    (subst (λ (o : Option (List ℕ)). Runs (proc_told cpus) [] (held bytes (source.left source.new)) (change o (sink.taken sink.new)) result) taken (run.bytes bytes is)))
+    (λ bytes is. proc_reads words bytes cpus result (source.left source.new) (sink.taken sink.old) (sink.taken sink.new) says (run.bytes bytes is))
+    (run_ends words (Threaded (Proc cpus)) result says refl (run.others.1, run.others.2)) run.others.0 (λ is. tt) run.memory run.read_fault run.write_fault run.too_long
 
 -- ---- ports that a call before it left as they were
 

@@ -9,29 +9,8 @@ use Rattle.mt_text.specs.Feed.{GaveTooMuch}
 use Rattle.mt_answers.specs.declared.command.Command.{Command}
 use Rattle.mt_answers.specs.CommandLine.{MayTakeMemory, command_of, reads_input}
 use Rattle.mt_answers.specs.Statuses.{MayEnd}
-use Rattle.mt_output.specs.Ports.{held, port}
+use Rattle.mt_output.specs.Ports.{SinkRun, SourceRun, held, port}
 use Rattle.mt_cli.specs.Tool.{Leaves, OutOfMemory, Reads, took}
-
--- a source before a run and after it, with what it tells of itself
-pub record SourceRun (S : Type 0) : Type 0 where
-  pub old : S
-  pub new : S
-  pub left : S → Option (List ℕ)
-  pub faults : S → ℕ
-  pub given : S → ℕ
-
-abbrev pub source_run : {S : Type 0} → (S → Option (List ℕ)) → (S → ℕ) → (S → ℕ) → S → S → SourceRun S
-source_run left faults given old new = record { old = old; new = new; left = left; faults = faults; given = given }
-
--- the same of a sink
-pub record SinkRun (K : Type 0) : Type 0 where
-  pub old : K
-  pub new : K
-  pub taken : K → Option (List ℕ)
-  pub faults : K → ℕ
-
-abbrev pub sink_run : {K : Type 0} → (K → Option (List ℕ)) → (K → ℕ) → K → K → SinkRun K
-sink_run taken faults old new = record { old = old; new = new; taken = taken; faults = faults }
 
 pub record IsRun {S K : Type 0} (words : List (List ℕ)) (source : SourceRun S) (sink : SinkRun K) (status : Status) : Type 0 where
   -- Where the source and the sink tell their bytes, the sink took the output for the words and the bytes, or after a failure a front of it.

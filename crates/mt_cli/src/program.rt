@@ -4,7 +4,8 @@ ghost use Rattle.std.specs.Process.{exit_status};
 ghost use Rattle.mt_ports.specs.Exit.{code};
 ghost use Rattle.mt_output.specs.Program.{Exits, words_of};
 ghost use Rattle.mt_answers.specs.CommandLine.{command_of};
-ghost use Rattle.mt_cli.specs.Runs.{IsRun, sink_run, source_run};
+ghost use Rattle.mt_output.specs.Ports.{sink_run, source_run};
+ghost use Rattle.mt_cli.specs.Runs.{IsRun};
 
 use crate::tool;
 use mt_output::{exit_code, words_behind_name};

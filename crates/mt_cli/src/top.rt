@@ -1,7 +1,8 @@
 ghost use Rattle.std.specs.Prelude.{◌≡◌, ℕ, List, Some, None, map, string_bytes, IfOk, OnErr, MatchResult};
 ghost use Rattle.mt_answers.specs.declared.command.Command.TheVariants.{Threaded};
 ghost use Rattle.mt_answers.specs.CommandLine.{IsSoundThreaded, command_of, threaded_of};
-ghost use Rattle.mt_cli.specs.Runs.{IsToolRun, sink_run, source_run};
+ghost use Rattle.mt_output.specs.Ports.{sink_run, source_run};
+ghost use Rattle.mt_cli.specs.Runs.{IsToolRun};
 
 use crate::callers::Callers;
 use crate::sums::{big, private};

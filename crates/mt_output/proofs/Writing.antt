@@ -1,5 +1,5 @@
 -- Many texts that go through a writer, one after the other.
-use Rattle.std.proofs.Common.{◌≡◌, ℕ, List, [], ◌++◌, Option, Result, Ok, Err, sym, ap, ◌∙◌, subst, append_assoc, append-nil}
+use Rattle.std.proofs.Common.{◌≡◌, ℕ, List, [], ◌++◌, Option, Result, Ok, Err, refl, sym, ap, ◌∙◌, subst, append_assoc, append-nil}
 use Rattle.std.proofs.KnownBytes.{Appends-nil, Appends-trans}
 use Rattle.mt_ports.specs.Puts.{AppendsFront}
 use Rattle.mt_output.specs.Writing.{Adds, Passes}
@@ -49,3 +49,31 @@ pub adds_after : {T E : Type 0} (waiting first middle second left : List ℕ) (a
 adds_after waiting first middle second left a b c (Ok done) p q = passes_both waiting first middle second left a b c p q
 adds_after waiting first middle second left a b c (Err error) p q =
     subst (AppendsFront a c) (append-nil (waiting ++ first ++ second) ∙ append_assoc waiting first second) (fails_after waiting first middle second [] a b c p q)
+
+-- ---- a text in parts
+
+-- A part of a text was passed on, and these bytes of it weren't yet.
+pub record HasPassed (whole rest waiting left : List ℕ) (before after : Option (List ℕ)) : Type 0 where
+  pub text : List ℕ
+  pub cut : whole ≡ text ++ rest
+  pub passed : Passes waiting text left before after
+
+pub none_passed : (whole waiting : List ℕ) (known : Option (List ℕ)) → HasPassed whole whole waiting waiting known known
+none_passed whole waiting known = record { text = []; cut = refl; passed = passes_nothing waiting known }
+
+-- the next part
+module _ (whole rest part later waiting middle : List ℕ) (a b c : Option (List ℕ)) (next : rest ≡ part ++ later) (has : HasPassed whole rest waiting middle a b) where
+  further : whole ≡ (has.text ++ part) ++ later
+  further = has.cut ∙ ap (λ (l : List ℕ). has.text ++ l) next ∙ sym (append_assoc has.text part later)
+
+  pub part_passed : (left : List ℕ) → Passes middle part left b c → HasPassed whole later waiting left a c
+  part_passed left passed = record { text = has.text ++ part; cut = further; passed = passes_both waiting has.text middle part left a b c has.passed passed }
+
+  pub part_failed : AppendsFront b c (middle ++ part) → AppendsFront a c (waiting ++ whole)
+  part_failed failed =
+      let joined : ((waiting ++ has.text) ++ part) ++ later ≡ waiting ++ whole =
+      ap (λ (l : List ℕ). l ++ later) (append_assoc waiting has.text part) ∙ append_assoc waiting (has.text ++ part) later ∙ ap (λ (l : List ℕ). waiting ++ l) (sym further) in
+      subst (AppendsFront a c) joined (fails_after waiting has.text middle part later a b c has.passed failed)
+
+pub all_passed : (whole rest waiting left : List ℕ) (a b : Option (List ℕ)) → rest ≡ [] → HasPassed whole rest waiting left a b → Passes waiting whole left a b
+all_passed whole rest waiting left a b none has = subst (λ (l : List ℕ). Passes waiting l left a b) (sym (has.cut ∙ ap (λ (l : List ℕ). has.text ++ l) none ∙ append-nil has.text)) has.passed

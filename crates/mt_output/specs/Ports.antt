@@ -3,6 +3,7 @@
 --     port bytes old new      the bytes that a source has left, or that a sink took, where it tells them
 --     held bytes left      a source that held these bytes, and what it has left of them
 --     read more left      the bytes that a call took off a source, and what it has left
+--     source_run left faults given old new, sink_run taken faults old new      a port whatever it tells of itself
 use Rattle.std.specs.Prelude.{ℕ, List, Option}
 
 pub record Change (A : Type 0) : Type 0 where
@@ -36,3 +37,24 @@ pub record Read : Type 0 where
 
 abbrev pub read : List ℕ → Option (List ℕ) → Read
 read more left = record { more = more; left = left }
+
+-- a source, with what it tells of itself
+pub record SourceRun (S : Type 0) : Type 0 where
+  pub old : S
+  pub new : S
+  pub left : S → Option (List ℕ)
+  pub faults : S → ℕ
+  pub given : S → ℕ
+
+abbrev pub source_run : {S : Type 0} → (S → Option (List ℕ)) → (S → ℕ) → (S → ℕ) → S → S → SourceRun S
+source_run left faults given old new = record { old = old; new = new; left = left; faults = faults; given = given }
+
+-- a sink, with what it tells of itself
+pub record SinkRun (K : Type 0) : Type 0 where
+  pub old : K
+  pub new : K
+  pub taken : K → Option (List ℕ)
+  pub faults : K → ℕ
+
+abbrev pub sink_run : {K : Type 0} → (K → Option (List ℕ)) → (K → ℕ) → K → K → SinkRun K
+sink_run taken faults old new = record { old = old; new = new; taken = taken; faults = faults }

@@ -5,8 +5,10 @@ use Rattle.mt_regs.specs.Agreement.{first_refusal}
 use Rattle.mt_dump.specs.Dumps.{Dump}
 use Rattle.mt_dump.specs.Reader.{HasRead}
 use Rattle.mt_script.specs.Head.{ends_dump, shows, step_in_dump}
+use Rattle.mt_ports.specs.declared.status.Status.{Status}
+use Rattle.mt_output.specs.Ports.{Held, Port, SinkRun, SourceRun}
+use Rattle.mt_stream.specs.Handling.{IsRunOfLines}
 use Rattle.mt_stream.specs.Lines.{AtLine, Path, Running, early_at, running}
-use Rattle.mt_output.specs.Ports.{Held, Port}
 use Rattle.mt_stream.specs.Runs.{AsksBy, RefusesMemory}
 use Rattle.mt_stream.specs.Told.{Told, told_step}
 use Rattle.mt_proc.specs.declared.running.ProcRun.{ProcRun}
@@ -81,3 +83,9 @@ HasCpus now = (0 < now.cpus) × (now.cpus ≤ 16)
 abbrev pub proc_running : Running
 proc_running =
     running (λ now. StandsAt now.cpus now.run) (λ now. end_of_run now.run) (λ now. AsksBy (from_point now.cpus) (AsksAt now.cpus)) (λ most now. HasCount most now.run × HasCpus now)
+
+-- ---- what is proved
+
+-- For want of memory nothing was written.
+abbrev pub IsProc : {S K : Type 0} → ℕ → SourceRun S → SinkRun K → Status → Type 0
+IsProc cpus source sink status = IsRunOfLines (path_from cpus (in_dump [])) (AsksBy (from_point cpus) (AsksAt cpus)) source sink status

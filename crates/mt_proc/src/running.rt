@@ -1,6 +1,5 @@
 ghost use Rattle.std.specs.Prelude.{◌≡◌, ◌≢◌, ◌≤◌, ◌<◌, ◌+◌, ◌-◌, ◌^◌, ◌↔◌, ◌⊎◌, ℕ, List, [], true, length, None, Ok, Some};
-ghost use Rattle.mt_text.specs.Feed.{GaveTooMuch};
-ghost use Rattle.mt_ports.specs.Causes.{HasCause, StatusHasCause};
+ghost use Rattle.mt_ports.specs.Causes.{HasCause};
 ghost use Rattle.mt_output.specs.Lines.{bad_text};
 ghost use Rattle.mt_output.specs.Writing.{Adds};
 ghost use Rattle.mt_regs.specs.Faults.{IsAccepted};
@@ -9,13 +8,12 @@ ghost use Rattle.mt_dump.specs.ForProcessors.{files_for, has_each};
 ghost use Rattle.mt_machine.specs.Machine.{Machine};
 ghost use Rattle.mt_stream.specs.Handling.{Taken};
 ghost use Rattle.mt_stream.specs.Lines.{AtLine, IfGoesOn, Path, Takes, at_line};
-ghost use Rattle.mt_output.specs.Ports.{change, held, port};
-ghost use Rattle.mt_stream.specs.Runs.{EndsAs, Runs};
+ghost use Rattle.mt_output.specs.Ports.{change, port, sink_run, source_run};
 ghost use Rattle.mt_proc.specs.After.{era_line};
 ghost use Rattle.mt_proc.specs.Listing.{listing};
-ghost use Rattle.mt_proc.specs.Proc.{Point, begins, no_end, of_request, proc_told, proc_transcript, reason_text, request_fault_line};
+ghost use Rattle.mt_proc.specs.Proc.{Point, begins, no_end, of_request, reason_text, request_fault_line};
 ghost use Rattle.mt_proc.specs.Requests.{request_of};
-ghost use Rattle.mt_proc.specs.Running.{AllServe, AsksAt, HasCount, HasCpus, HasRoom, IsAt, IsDump, LeadsBy, OutOfMemory, StandsAt, proc_running};
+ghost use Rattle.mt_proc.specs.Running.{AllServe, AsksAt, HasCount, HasCpus, HasRoom, IsAt, IsDump, IsProc, LeadsBy, StandsAt, proc_running};
 ghost use Rattle.mt_proc.specs.Serving.{idling, served};
 
 use crate::listing::line_of;
@@ -29,7 +27,7 @@ use mt_ports::{Failed, Gate, Sink, Source, Status};
 use mt_regs::{RegFile, first_refusal};
 use mt_rendezvous::Caller;
 use mt_script::{Offence, ScriptFault, ScriptReason, take_dump_line};
-use mt_stream::{End, LineRun, Stop, close, run_lines, tell};
+use mt_stream::{End, LineRun, Stop, close, run_lines, run_status, tell};
 use mt_text::{Line, Place};
 use std::alloc::Global;
 use std::sync::Wait;
@@ -257,23 +255,7 @@ pub fn proc_with<R: Threads + Wait + Sync, S: Source, K: Sink, G: Gate>(
 ) -> Status
     requires some { 0 < cpus }
     requires few { cpus ≤ 16 }
-
-    // Where the source tells its bytes, what each status says of them and of what the sink took.
-    ensures bytes { (bytes : List ℕ) → S.left source.old ≡ Some bytes → Runs (proc_told cpus) [] (held bytes (S.left source.new)) (port K.taken sink.old sink.new) result }
-
-    // The status is the text's, unless a port fails, too much is read or memory is refused.
-    ensures complete { (bytes : List ℕ) → S.left source.old ≡ Some bytes → EndsAs (proc_transcript cpus bytes).status result }
-
-    // Memory is refused before anything is read, or at the dump's end.
-    ensures memory { (bytes : List ℕ) → S.left source.old ≡ Some bytes → result ≡ Status.NoMemory
-        → OutOfMemory cpus (held bytes (S.left source.new)) (port K.taken sink.old sink.new) }
-
-    // A port that failed did so once, and the status is its fault; at every other status none failed.
-    ensures read_fault { StatusHasCause Status.ReadFault (S.faults source.old) (S.faults source.new) result }
-    ensures write_fault { StatusHasCause Status.WriteFault (K.faults sink.old) (K.faults sink.new) result }
-    ensures too_long { (result ≡ Status.TooLong) ↔ GaveTooMuch (S.given source.old) (S.given source.new) }
-    ensures usage { result ≢ Status.Usage }
-    ensures few { (result ≢ Status.TooFew) × (result ≢ Status.Disabled) }
+    ensures { IsProc cpus (source_run S.left S.faults S.given source.old source.new) (sink_run K.taken K.faults sink.old sink.new) result }
 {
     let Ok(mut writer) = Writer::new(alloc) else {
         return Status::NoMemory;
@@ -288,7 +270,7 @@ pub fn proc_with<R: Threads + Wait + Sync, S: Source, K: Sink, G: Gate>(
             (record { line = line.now; run = change run.old run.new; writer = change writer.old writer.new; sink = port K.taken sink.old sink.new; faults = change (K.faults sink.old) (K.faults sink.new) })
             result }
     { take_line(caller, alloc, run.cpus, &mut run.run, line, writer, sink) };
-    run_lines(take, &mut run, source, &mut writer, sink)
+    run_status(run_lines(take, &mut run, source, &mut writer, sink))
 }
 
 /// Reads a dump, a line `end` and requests in the form of Linux's mtrr document, carries each request
@@ -308,23 +290,7 @@ pub fn proc<R: AllocGlobal + Threads + Wait + Sync, S: Source, K: Sink, G: Gate>
 ) -> Status
     requires some { 0 < cpus }
     requires few { cpus ≤ 16 }
-
-    // Where the source tells its bytes, what each status says of them and of what the sink took.
-    ensures bytes { (bytes : List ℕ) → S.left source.old ≡ Some bytes → Runs (proc_told cpus) [] (held bytes (S.left source.new)) (port K.taken sink.old sink.new) result }
-
-    // The status is the text's, unless a port fails, too much is read or memory is refused.
-    ensures complete { (bytes : List ℕ) → S.left source.old ≡ Some bytes → EndsAs (proc_transcript cpus bytes).status result }
-
-    // Memory is refused before anything is read, or at the dump's end.
-    ensures memory { (bytes : List ℕ) → S.left source.old ≡ Some bytes → result ≡ Status.NoMemory
-        → OutOfMemory cpus (held bytes (S.left source.new)) (port K.taken sink.old sink.new) }
-
-    // A port that failed did so once, and the status is its fault; at every other status none failed.
-    ensures read_fault { StatusHasCause Status.ReadFault (S.faults source.old) (S.faults source.new) result }
-    ensures write_fault { StatusHasCause Status.WriteFault (K.faults sink.old) (K.faults sink.new) result }
-    ensures too_long { (result ≡ Status.TooLong) ↔ GaveTooMuch (S.given source.old) (S.given source.new) }
-    ensures usage { result ≢ Status.Usage }
-    ensures few { (result ≢ Status.TooFew) × (result ≢ Status.Disabled) }
+    ensures { IsProc cpus (source_run S.left S.faults S.given source.old source.new) (sink_run K.taken K.faults sink.old sink.new) result }
 {
     proc_with(&Caller::of(rt, gate), rt.alloc(), source, sink, cpus)
 }

@@ -1,6 +1,7 @@
 -- A replay between two lines, as its code keeps it, and what it leaves in the source and the sink (own).
 --     Replays source sink status      of a source that held these bytes; ReplaysAs telling .., where this is its transcript
 --     AsksAt point number line      a line that asks for memory; OutOfMemory source sink, where it was refused
+--     IsReplay source sink status      what is proved of a replay
 use Rattle.std.specs.Prelude.{ℕ, ◌≡◌, ◌||◌, ◌++◌, Bool, true, false, List, [], ◌∷◌, ⊤, MatchOption, MatchResult, Option, Result, None, Ok}
 use Rattle.mt_text.specs.declared.place.Place.{Place}
 use Rattle.mt_ports.specs.declared.status.Status.{Status}
@@ -17,8 +18,9 @@ use Rattle.mt_script.specs.Head.{head_step, shows}
 use Rattle.mt_machine.specs.Start.{HasEraRoom}
 use Rattle.mt_regs.specs.Agreement.{first_refusal}
 use Rattle.mt_dump.specs.Dumps.{Dump}
+use Rattle.mt_stream.specs.Handling.{IsRunOfLines}
 use Rattle.mt_stream.specs.Lines.{AtLine, Path, Running, at_line, running}
-use Rattle.mt_output.specs.Ports.{Change, Held, Port, Waiting}
+use Rattle.mt_output.specs.Ports.{Change, Held, Port, SinkRun, SourceRun, Waiting}
 use Rattle.mt_stream.specs.Runs.{AsksBy, RefusesMemory, RunsAs}
 use Rattle.mt_stream.specs.Told.{Told}
 use Rattle.mt_stream.specs.declared.ending.Stop.{Stop}
@@ -132,3 +134,9 @@ HasEraRoomAt (run.Body r) = HasEraRoom r.machine
 
 abbrev pub replay_running : Running
 replay_running = running StandsAt end_of_run (λ now. AsksBy from_point AsksAt) HasErasAt
+
+-- ---- what is proved
+
+-- For want of memory at most the line `accepted` was written, unless a line `up` or `join` is read.
+abbrev pub IsReplay : {S K : Type 0} → SourceRun S → SinkRun K → Status → Type 0
+IsReplay source sink status = IsRunOfLines (path_from false [] (in_head at_start [])) (AsksBy from_point AsksAt) source sink status

@@ -1,18 +1,13 @@
-ghost use Rattle.std.specs.Prelude.{◌≡◌, ◌≢◌, ◌↔◌, ℕ, List, [], Some};
-ghost use Rattle.mt_text.specs.Feed.{GaveTooMuch};
-ghost use Rattle.mt_ports.specs.Causes.{StatusHasCause};
-ghost use Rattle.mt_replay.specs.Running.{HasEraRoomAt, OutOfMemory, Replays, replay_running};
-ghost use Rattle.mt_replay.specs.Transcript.{transcript};
+ghost use Rattle.mt_output.specs.Ports.{change, port, sink_run, source_run};
+ghost use Rattle.mt_replay.specs.Running.{HasEraRoomAt, IsReplay, replay_running};
 ghost use Rattle.mt_stream.specs.Handling.{Taken};
-ghost use Rattle.mt_output.specs.Ports.{change, held, port};
-ghost use Rattle.mt_stream.specs.Runs.{EndsAs};
 
 use crate::line::{Run, take_line};
 use mt_output::{Writer, offence_line};
 use mt_ports::{Failed, Gate, Sink, Source, Status};
 use mt_rendezvous::Caller;
 use mt_script::{Head, Offence, read_end};
-use mt_stream::{End, LineRun, close, run_lines};
+use mt_stream::{End, LineRun, close, run_lines, run_status};
 use mt_text::{Line, Place};
 use std::alloc::Global;
 use std::sync::Wait;
@@ -54,22 +49,7 @@ pub fn replay_with<R: Threads + Wait + Sync, S: Source, K: Sink, G: Gate>(
     source: &mut S,
     sink: &mut K,
 ) -> Status
-    // Where the source tells its bytes, what each status says of them and of what the sink took.
-    ensures bytes { (bytes : List ℕ) → S.left source.old ≡ Some bytes → Replays (held bytes (S.left source.new)) (port K.taken sink.old sink.new) result }
-
-    // The status is the transcript's, unless a port fails, too much is read or memory is refused.
-    ensures complete { (bytes : List ℕ) → S.left source.old ≡ Some bytes → EndsAs (transcript bytes).status result }
-
-    // Memory is refused before anything is read, or at a line that asks for some. What the lines before it write was then written.
-    ensures memory { (bytes : List ℕ) → S.left source.old ≡ Some bytes → result ≡ Status.NoMemory
-        → OutOfMemory (held bytes (S.left source.new)) (port K.taken sink.old sink.new) }
-
-    // A port that failed did so once, and the status is its fault; at every other status none failed.
-    ensures read_fault { StatusHasCause Status.ReadFault (S.faults source.old) (S.faults source.new) result }
-    ensures write_fault { StatusHasCause Status.WriteFault (K.faults sink.old) (K.faults sink.new) result }
-    ensures too_long { (result ≡ Status.TooLong) ↔ GaveTooMuch (S.given source.old) (S.given source.new) }
-    ensures usage { result ≢ Status.Usage }
-    ensures few { (result ≢ Status.TooFew) × (result ≢ Status.Disabled) }
+    ensures { IsReplay (source_run S.left S.faults S.given source.old source.new) (sink_run K.taken K.faults sink.old sink.new) result }
 {
     let Ok(mut writer) = Writer::new(alloc) else {
         return Status::NoMemory;
@@ -81,7 +61,7 @@ pub fn replay_with<R: Threads + Wait + Sync, S: Source, K: Sink, G: Gate>(
             (record { line = line.now; run = change run.old run.new; writer = change writer.old writer.new; sink = port K.taken sink.old sink.new; faults = change (K.faults sink.old) (K.faults sink.new) })
             result }
     { take_line(caller, alloc, run, line, writer, sink) };
-    run_lines(take, &mut run, source, &mut writer, sink)
+    run_status(run_lines(take, &mut run, source, &mut writer, sink))
 }
 
 /// Runs a script on one machine and writes its transcript, with the transcript's status. The script
@@ -97,22 +77,7 @@ pub fn replay<R: AllocGlobal + Threads + Wait + Sync, S: Source, K: Sink, G: Gat
     sink: &mut K,
     gate: &G,
 ) -> Status
-    // Where the source tells its bytes, what each status says of them and of what the sink took.
-    ensures bytes { (bytes : List ℕ) → S.left source.old ≡ Some bytes → Replays (held bytes (S.left source.new)) (port K.taken sink.old sink.new) result }
-
-    // The status is the transcript's, unless a port fails, too much is read or memory is refused.
-    ensures complete { (bytes : List ℕ) → S.left source.old ≡ Some bytes → EndsAs (transcript bytes).status result }
-
-    // Memory is refused before anything is read, or at a line that asks for some. What the lines before it write was then written.
-    ensures memory { (bytes : List ℕ) → S.left source.old ≡ Some bytes → result ≡ Status.NoMemory
-        → OutOfMemory (held bytes (S.left source.new)) (port K.taken sink.old sink.new) }
-
-    // A port that failed did so once, and the status is its fault; at every other status none failed.
-    ensures read_fault { StatusHasCause Status.ReadFault (S.faults source.old) (S.faults source.new) result }
-    ensures write_fault { StatusHasCause Status.WriteFault (K.faults sink.old) (K.faults sink.new) result }
-    ensures too_long { (result ≡ Status.TooLong) ↔ GaveTooMuch (S.given source.old) (S.given source.new) }
-    ensures usage { result ≢ Status.Usage }
-    ensures few { (result ≢ Status.TooFew) × (result ≢ Status.Disabled) }
+    ensures { IsReplay (source_run S.left S.faults S.given source.old source.new) (sink_run K.taken K.faults sink.old sink.new) result }
 {
     replay_with(&Caller::of(rt, gate), rt.alloc(), source, sink)
 }

@@ -4,3 +4,4 @@ pub mod Loops
 pub mod Rounds
 pub mod Taking
 pub mod Telling
+pub mod Whole

@@ -9,7 +9,7 @@ use Rattle.mt_output.specs.Writing.{Passes}
 use Rattle.mt_text.specs.Feed.{Feeding, Moves, is_last, taken}
 use Rattle.mt_stream.specs.Handling.{RunsOn}
 use Rattle.mt_stream.specs.Laws.{AreLaws}
-use Rattle.mt_stream.specs.Lines.{Closes, Leaves, Path, Running, Takes, at_line, closed_status, last_line, tells_of}
+use Rattle.mt_stream.specs.Lines.{Closes, Leaves, Path, Running, Takes, at_line, closed_run, last_line, run_status, tells_of}
 use Rattle.mt_output.specs.Ports.{change, held, read}
 use Rattle.mt_stream.specs.Runs.{RefusedAtLine}
 use Rattle.mt_stream.specs.Told.{Telling, transcript}
@@ -33,7 +33,7 @@ module _ (R : Running) (start : Path) (laws : AreLaws R) (bytes more : List ℕ)
     pub goes_on : Does run after d (Ok None) → is_last new ≡ false → UnderWay R start bytes left new run after a d
     goes_on does going = line_goes_on R start laws bytes left new now later a c here run after d (does here.text here.point here.at) going
 
-    pub goes_last : Does run after d (Ok None) → is_last new ≡ true → (e : Option (List ℕ)) (result : Result End Failed) → Closes (R.ends run new.place) after (change d e) result → RunsOn start (held bytes left) (change a e) (closed_status result)
+    pub goes_last : Does run after d (Ok None) → is_last new ≡ true → (e : Option (List ℕ)) (result : Result End Failed) → Closes (R.ends run new.place) after (change d e) result → RunsOn start (held bytes left) (change a e) (run_status (closed_run result))
     goes_last does last e result put =
         closes R start laws bytes left new.place run after a d e result (line_goes_last R start laws bytes left new now later a c here run after d (does here.text here.point here.at) last) put
 

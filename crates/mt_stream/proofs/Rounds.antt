@@ -1,8 +1,10 @@
 -- What a round of a loop over lines keeps, whether or not the source tells its bytes.
-use Rattle.std.proofs.Common.{◌≡◌, ◌∙◌, ap, sym, refl, subst, arith, inl, inr, ℕ, ◌+◌, ◌≤◌, ◌<◌, nat_lt, Bool, true, false, List, ◌++◌, length, Option, None, Some}
-use Rattle.std.specs.Prelude.{◌≢◌, ◌↔◌, ◌⊎◌}
+use Rattle.std.proofs.Common.{◌≡◌, ◌∙◌, ap, sym, refl, subst, arith, inl, inr, ℕ, ◌+◌, ◌≤◌, ◌<◌, nat_lt, Bool, true, false, List, ◌++◌, length, Option, None, Some, Result, Ok, Err}
+use Rattle.std.specs.Prelude.{◌≢◌, ◌↔◌}
 use Rattle.std.proofs.lemmas.Bool.Decides.{nat_tests}
 use Rattle.std.proofs.lemmas.List.{length-append, length-drop}
+use Rattle.mt_ports.specs.Causes.{HasCause}
+use Rattle.mt_ports.specs.declared.status.Failed.{Failed}
 use Rattle.mt_ports.specs.declared.status.Status.{Status}
 use Rattle.mt_ports.specs.declared.status.Status.TheVariants.{BadText, Disabled, Done, NoMemory, ReadFault, Refused, TooFew, TooLong, Usage, WriteFault}
 use Rattle.mt_text.specs.Feed.{Feeding, GaveTooMuch, IsFront, IsLong, Moves, Stops, taken, with_end}
@@ -10,12 +12,14 @@ use Rattle.mt_text.specs.declared.fault.FeedFault.{FeedFault}
 use Rattle.mt_text.specs.declared.fault.FeedFault.TheVariants as fault
 use Rattle.mt_text.proofs.Feeding.{front_within}
 use Rattle.mt_text.proofs.Fronts.{long_front}
-use Rattle.mt_stream.specs.Lines.{Closes, CutShort, Leads, cut_status}
+use Rattle.mt_stream.specs.Lines.{CutShort, Leads, SinkHasCause, SourceHasCause, closed_run, cut_status, run_status}
 use Rattle.mt_output.specs.Ports.{Held, Port, Waiting, change, read}
 use Rattle.mt_stream.specs.Runs.{EndsAs, RunsAs}
-use Rattle.mt_stream.specs.Told.{Telling, Told}
-use Rattle.mt_stream.specs.declared.running.Cut.{Cut}
-use Rattle.mt_stream.specs.declared.running.Cut.TheVariants as cut
+use Rattle.mt_stream.specs.Told.{Telling}
+use Rattle.mt_stream.specs.declared.ending.End.{End}
+use Rattle.mt_stream.specs.declared.ending.End.TheVariants as text_end
+use Rattle.mt_stream.specs.declared.ending.Cut.{Cut}
+use Rattle.mt_stream.specs.declared.ending.Cut.TheVariants as cut
 
 -- ---- how much was taken
 
@@ -56,6 +60,30 @@ few_taken feed long none = by (nat_lt 16777216 (taken feed)) refl
 
 pub never_much : (status : Status) (before now : ℕ) (feed : Feeding) → status ≢ TooLong → now ≡ before + taken feed → IsLong feed → feed.fault ≡ None → (status ≡ TooLong) ↔ GaveTooMuch before now
 never_much status before now feed other given long none = (λ is. absurd (other is), λ much. absurd (not_much feed long none (omega (arith, given, much))))
+
+-- a run that ended with its text, or whose last text failed
+pub closed_others : (r : Result End Failed) → (run_status (closed_run r) ≢ NoMemory) × (run_status (closed_run r) ≢ TooLong)
+closed_others (Ok text_end.Done) = (λ is. cc is, λ is. cc is)
+closed_others (Ok text_end.BadText) = (λ is. cc is, λ is. cc is)
+closed_others (Err failed) = (λ is. cc is, λ is. cc is)
+
+pub closed_source : (r : Result End Failed) (before now : ℕ) → now ≡ before → SourceHasCause before now (closed_run r)
+closed_source (Ok last) before now same = same
+closed_source (Err failed) before now same = same
+
+pub closed_sink : (r : Result End Failed) (before now : ℕ) → HasCause before now r → SinkHasCause before now (closed_run r)
+closed_sink (Ok last) before now cause = cause
+closed_sink (Err failed) before now cause = cause
+
+-- a cut, whatever the call returns otherwise
+pub cut_source : (T U : Type 0) (why : Cut) (before now : ℕ) → SourceHasCause {T = T} before now (Err why) → SourceHasCause {T = U} before now (Err why)
+cut_source T U (cut.Feed fault.ReadFault) before now cause = cause
+cut_source T U (cut.Feed fault.TooLong) before now cause = cause
+cut_source T U cut.Write before now cause = cause
+
+pub cut_sink : (T U : Type 0) (why : Cut) (before now : ℕ) → SinkHasCause {T = T} before now (Err why) → SinkHasCause {T = U} before now (Err why)
+cut_sink T U (cut.Feed why) before now cause = cause
+cut_sink T U cut.Write before now cause = cause
 
 -- which statuses a run ends with
 pub ends_as : (leads : Leads) (start : Telling) (source : Held) (sink : Port) (status : Status) → RunsAs leads start source sink status → EndsAs leads.tells.status status

@@ -20,7 +20,7 @@ use Rattle.mt_text.proofs.Feeding.{front_within, unknown_few}
 use Rattle.mt_text.proofs.Fronts.{last_front, long_front, place_of_front}
 use Rattle.mt_stream.specs.Known.{known_part, known_text}
 use Rattle.mt_stream.specs.Laws.{AreLaws, IsLongLed}
-use Rattle.mt_stream.specs.Lines.{AtLine, Closes, CutShort, Ends, Fails, GoesOn, LastLine, Leads, Leaves, Path, Running, Wants, at_line, closed_status, cut_status, early_of, last_line, leads_behind, stop_status, tells_of}
+use Rattle.mt_stream.specs.Lines.{AtLine, Closes, CutShort, Ends, Fails, GoesOn, LastLine, Leads, Leaves, Path, Running, Wants, at_line, closed_run, cut_status, early_of, last_line, leads_behind, run_status, stop_status, tells_of}
 use Rattle.mt_stream.specs.Handling.{RunsOn}
 use Rattle.mt_output.specs.Ports.{Port, Read, change, held, read}
 use Rattle.mt_stream.specs.Runs.{RefusedAtLine}
@@ -29,8 +29,8 @@ use Rattle.mt_stream.specs.declared.ending.End.{End}
 use Rattle.mt_stream.specs.declared.ending.End.TheVariants as text_end
 use Rattle.mt_stream.specs.declared.ending.Stop.{Stop}
 use Rattle.mt_stream.specs.declared.ending.Stop.TheVariants as stopped
-use Rattle.mt_stream.specs.declared.running.Cut.{Cut}
-use Rattle.mt_stream.specs.declared.running.Cut.TheVariants as cut
+use Rattle.mt_stream.specs.declared.ending.Cut.{Cut}
+use Rattle.mt_stream.specs.declared.ending.Cut.TheVariants as cut
 use Rattle.mt_stream.proofs.Fronts.{ended_known, ended_lines, long_lines, unknown_part}
 
 -- ---- texts
@@ -417,7 +417,7 @@ module _ (R : Running) (start : Path) (laws : AreLaws R) where
         taken = subst (Appends a b) (sym (ap (λ (x : Told). x.text) is)) put
 
   pub closes : (bytes : List ℕ) (source : Option (List ℕ)) (place : Place) (now : R.Run) (waiting : List ℕ) (a b c : Option (List ℕ)) (result : Result End Failed) → AtEnd R start bytes source place now waiting a b
-      → Closes (R.ends now place) waiting (change b c) result → RunsOn start (held bytes source) (change a c) (closed_status result)
+      → Closes (R.ends now place) waiting (change b c) result → RunsOn start (held bytes source) (change a c) (run_status (closed_run result))
   closes bytes source place now waiting a b c (Ok text_end.Done) h all =
       tells_all bytes h.text source a c (R.ends now place) h.tells (passes_then h.text waiting (R.ends now place).text a b c h.passed all.1) h.is_left Done all.0 (inl refl)
   closes bytes source place now waiting a b c (Ok text_end.BadText) h all =

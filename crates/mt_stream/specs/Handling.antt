@@ -3,19 +3,22 @@
 --     MayTake R pre, TakesEach R taken faults post      of a function that takes each line
 --     RunsFrom start source sink status      what the loop leaves, where the source tells its bytes
 --     RefusesFrom start asks source sink      where memory was refused
-use Rattle.std.specs.Prelude.{ℕ, ◌≡◌, ◌+◌, ◌≤◌, List, Option, Some, Result, Ok}
+--     IsRunOfLines start asks source sink status      what is proved of a whole run
+use Rattle.std.specs.Prelude.{ℕ, ◌≡◌, ◌≢◌, ◌↔◌, ◌+◌, ◌≤◌, List, Option, Some, Result, Ok}
 use Rattle.std.specs.Borrow.{Bor, MutBor}
 use Rattle.mt_text.specs.Text.{longest_input}
+use Rattle.mt_text.specs.Feed.{GaveTooMuch}
 use Rattle.mt_text.specs.declared.line.Line.{Line}
-use Rattle.mt_ports.specs.Causes.{HasCause}
+use Rattle.mt_ports.specs.Causes.{HasCause, StatusHasCause}
 use Rattle.mt_ports.specs.declared.status.Failed.{Failed}
 use Rattle.mt_ports.specs.declared.status.Status.{Status}
+use Rattle.mt_ports.specs.declared.status.Status.TheVariants.{Disabled, NoMemory, ReadFault, TooFew, TooLong, Usage, WriteFault}
 use Rattle.mt_stream.specs.Lines.{IfGoesOn, Path, Running, Takes, at_line, early_of, tells_of}
-use Rattle.mt_output.specs.Ports.{Change, Held, Port, Waiting, change, held, port}
-use Rattle.mt_stream.specs.Runs.{RefusedAtLine, Runs}
-use Rattle.mt_stream.specs.Told.{Telling}
+use Rattle.mt_output.specs.Ports.{Change, Held, Port, SinkRun, SourceRun, Waiting, change, held, port}
+use Rattle.mt_stream.specs.Runs.{EndsAs, RefusedAtLine, RefusesMemory, Runs}
+use Rattle.mt_stream.specs.Told.{Telling, transcript}
 use Rattle.mt_stream.specs.declared.ending.Stop.{Stop}
-use Rattle.mt_stream.specs.declared.ending.Stop.TheVariants.{NoMemory}
+use Rattle.mt_stream.specs.declared.ending.Stop.TheVariants as stopped
 
 -- ---- a line
 
@@ -31,7 +34,7 @@ pub record Taken (R : Running) (call : TakeCall R.Run) (result : Result (Option 
   pub bytes : (so_far : List ℕ) (was : Path) → R.At call.run.old so_far was
       → Takes (R.At call.run.new) (at_line call.line.number call.line.bytes.now so_far was) call.writer call.sink result
   -- memory is refused at a line that asks for some, and the lines that ask stay the same
-  pub asks : (so_far : List ℕ) (path : Path) → R.At call.run.old so_far path → result ≡ Ok (Some NoMemory) → R.Asks call.run.old (tells_of path) call.line.number call.line.bytes.now
+  pub asks : (so_far : List ℕ) (path : Path) → R.At call.run.old so_far path → result ≡ Ok (Some stopped.NoMemory) → R.Asks call.run.old (tells_of path) call.line.number call.line.bytes.now
   pub asks_stay : (told : Telling) (number : ℕ) (other : List ℕ) → R.Asks call.run.new told number other → R.Asks call.run.old told number other
   pub ready : (most : ℕ) → R.Ready most call.run.old → IfGoesOn result (R.Ready (most + 1) call.run.new)
   pub cause : HasCause call.faults.old call.faults.new result
@@ -65,3 +68,20 @@ RunsFrom start source sink status = (bytes : List ℕ) → source.old ≡ Some b
 
 abbrev pub RefusesFrom : Path → (Telling → ℕ → List ℕ → Type 0) → Port → Port → Type 0
 RefusesFrom start Asks source sink = (bytes : List ℕ) → source.old ≡ Some bytes → RefusedAtLine (tells_of start) Asks (held bytes source.new) sink
+
+-- ---- a whole run
+
+-- A run over the lines of a source that lead to this, of which some ask for memory.
+pub record IsRunOfLines {S K : Type 0} (start : Path) (Asks : Telling → ℕ → List ℕ → Type 0) (source : SourceRun S) (sink : SinkRun K) (status : Status) : Type 0 where
+  -- Where the source tells its bytes, what each status says of them and of what the sink took.
+  pub bytes : RunsFrom start (port source.left source.old source.new) (port sink.taken sink.old sink.new) status
+  -- The status is that of the text, unless a port fails, too much is read or memory is refused.
+  pub complete : (bytes : List ℕ) → source.left source.old ≡ Some bytes → EndsAs (transcript (tells_of start) bytes).status status
+  -- Memory is refused before anything is read, or at a line that asks for some. What the lines before it tell was then written.
+  pub memory : (bytes : List ℕ) → source.left source.old ≡ Some bytes → status ≡ NoMemory
+      → RefusesMemory (tells_of start) Asks (held bytes (source.left source.new)) (port sink.taken sink.old sink.new)
+  -- A port that failed did so once, and the status is its fault; at every other status none failed.
+  pub read_fault : StatusHasCause ReadFault (source.faults source.old) (source.faults source.new) status
+  pub write_fault : StatusHasCause WriteFault (sink.faults sink.old) (sink.faults sink.new) status
+  pub too_long : (status ≡ TooLong) ↔ GaveTooMuch (source.given source.old) (source.given source.new)
+  pub others : (status ≢ Usage) × (status ≢ TooFew) × (status ≢ Disabled)

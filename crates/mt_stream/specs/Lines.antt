@@ -17,8 +17,10 @@ use Rattle.mt_stream.specs.declared.ending.End.{End}
 use Rattle.mt_stream.specs.declared.ending.End.TheVariants as text_end
 use Rattle.mt_stream.specs.declared.ending.Stop.{Stop}
 use Rattle.mt_stream.specs.declared.ending.Stop.TheVariants as stopped
-use Rattle.mt_stream.specs.declared.running.Cut.{Cut}
-use Rattle.mt_stream.specs.declared.running.Cut.TheVariants as cut
+use Rattle.mt_stream.specs.declared.ending.Ended.{Ended}
+use Rattle.mt_stream.specs.declared.ending.Ended.TheVariants as ended_by
+use Rattle.mt_stream.specs.declared.ending.Cut.{Cut}
+use Rattle.mt_stream.specs.declared.ending.Cut.TheVariants as cut
 
 -- What is told of a text, and what may have been written of it where memory is refused.
 pub record Leads : Type 0 where
@@ -164,9 +166,16 @@ Closes t waiting sink result =
     (λ last. (end_status last ≡ t.status) × Appends sink.old sink.new (waiting ++ t.text))
     (λ _. AppendsFront sink.old sink.new (waiting ++ t.text))
 
-abbrev pub closed_status : Result End Failed → Status
-closed_status (Ok last) = end_status last
-closed_status (Err failed) = WriteFault
+-- a run that ended with its text, unless the last text couldn't be written
+abbrev pub closed_run : Result End Failed → Result Ended Cut
+closed_run (Ok last) = Ok (ended_by.Text last)
+closed_run (Err failed) = Err cut.Write
+
+-- the status of a run
+abbrev pub run_status : Result Ended Cut → Status
+run_status (Ok (ended_by.Text last)) = end_status last
+run_status (Ok (ended_by.Line stop)) = stop_status stop
+run_status (Err why) = cut_status why
 
 -- how a line ends a run, and whether it is the last of the text
 pub record LastLine : Type 0 where

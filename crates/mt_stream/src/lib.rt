@@ -5,6 +5,6 @@ mod ending;
 mod run;
 mod running;
 
-pub use ending::{End, Stop};
+pub use ending::{Cut, End, Ended, Stop};
 pub use run::LineRun;
-pub use running::{close, run_lines, tell};
+pub use running::{close, run_lines, run_status, tell};

@@ -1,36 +1,35 @@
-ghost use Rattle.std.specs.Prelude.{◌≡◌, ◌≢◌, ◌⊎◌, ◌≤◌, ◌<◌, ◌+◌, ◌↔◌, ℕ, [], length, None, Some, Ok, IfOk};
+ghost use Rattle.std.specs.Prelude.{◌≡◌, ◌≢◌, ◌≤◌, ◌<◌, ◌+◌, ◌↔◌, ℕ, [], length, None, Some, Ok, IfOk};
 ghost use Rattle.mt_text.specs.Text.{longest_input};
 ghost use Rattle.mt_text.specs.Feed.{GaveTooMuch, IsLong, TakesMore, taken};
 ghost use Rattle.mt_ports.specs.Causes.{HasCause, StatusHasCause};
 ghost use Rattle.mt_output.specs.Writing.{Adds};
 ghost use Rattle.mt_stream.specs.Handling.{MayTake, RefusesFrom, RunsFrom, TakesEach};
 ghost use Rattle.mt_stream.specs.Laws.{AreLaws};
-ghost use Rattle.mt_stream.specs.Lines.{Closes, Leaves, Next, Path, SinkHasCause, SourceHasCause, closed_status, cut_status, end_status, last_line, running, stop_status};
+ghost use Rattle.mt_stream.specs.Lines.{Closes, Leaves, Next, Path, SinkHasCause, SourceHasCause, closed_run, end_status, last_line, run_status, running};
 ghost use Rattle.mt_output.specs.Ports.{change, port, read};
 ghost use Rattle.mt_stream.specs.Told.{told};
 
-use crate::{End, LineRun, Stop};
+use crate::{Cut, End, Ended, LineRun, Stop};
 use mt_output::Writer;
 use mt_ports::{Failed, Sink, Source, Status};
 use mt_text::{Feed, FeedFault, Line};
 
-/// Why a run ends before its text does.
-#[derive(Drop)]
-pub(crate) enum Cut {
-    Feed(FeedFault),
-    Write,
-}
-
-// The status of a run that was cut.
-fn cut_status(cut: &Cut) -> Status
-    ensures value { result ≡ cut_status cut.now }
-    ensures usage { result ≢ Status.Usage }
-    ensures few { (result ≢ Status.TooFew) × (result ≢ Status.Disabled) }
+/// The status of a run.
+pub fn run_status(run: Result<Ended, Cut>) -> Status
+    ensures value { result ≡ run_status run }
+    ensures others { (result ≢ Status.Usage) × (result ≢ Status.TooFew) × (result ≢ Status.Disabled) }
+    ensures read_fault { (before : ℕ) (now : ℕ) → SourceHasCause before now run → StatusHasCause Status.ReadFault before now result }
+    ensures write_fault { (before : ℕ) (now : ℕ) → SinkHasCause before now run → StatusHasCause Status.WriteFault before now result }
 {
-    match cut {
-        Cut::Feed(FeedFault::ReadFault) => Status::ReadFault,
-        Cut::Feed(FeedFault::TooLong) => Status::TooLong,
-        Cut::Write => Status::WriteFault,
+    match run {
+        Ok(Ended::Text(End::Done)) => Status::Done,
+        Ok(Ended::Text(End::BadText)) => Status::BadText,
+        Ok(Ended::Line(Stop::Refused)) => Status::Refused,
+        Ok(Ended::Line(Stop::BadText)) => Status::BadText,
+        Ok(Ended::Line(Stop::NoMemory)) => Status::NoMemory,
+        Err(Cut::Feed(FeedFault::ReadFault)) => Status::ReadFault,
+        Err(Cut::Feed(FeedFault::TooLong)) => Status::TooLong,
+        Err(Cut::Write) => Status::WriteFault,
     }
 }
 
@@ -102,32 +101,13 @@ pub fn close<K: Sink>(
     }
 }
 
-// The status of a run that came to the end of its text.
-fn closed_status(closed: Result<End, Failed>) -> Status
-    ensures value { result ≡ closed_status closed }
-    ensures usage { result ≢ Status.Usage }
-    ensures few { (result ≢ Status.TooFew) × (result ≢ Status.Disabled) }
-    ensures others { (result ≢ Status.NoMemory) × (result ≢ Status.ReadFault) × (result ≢ Status.TooLong) }
-    ensures cause { (before : ℕ) (now : ℕ) → HasCause before now closed → StatusHasCause Status.WriteFault before now result }
+// How a run ends with its text.
+fn closed(closed: Result<End, Failed>) -> Result<Ended, Cut>
+    ensures { result ≡ closed_run closed }
 {
     match closed {
-        Ok(End::Done) => Status::Done,
-        Ok(End::BadText) => Status::BadText,
-        Err(_) => Status::WriteFault,
-    }
-}
-
-// The status of a run that a line ends.
-fn stop_status(stop: Stop) -> Status
-    ensures value { result ≡ stop_status stop }
-    ensures usage { result ≢ Status.Usage }
-    ensures few { (result ≢ Status.TooFew) × (result ≢ Status.Disabled) }
-    ensures faults { (result ≢ Status.ReadFault) × (result ≢ Status.WriteFault) × (result ≢ Status.TooLong) }
-{
-    match stop {
-        Stop::Refused => Status::Refused,
-        Stop::BadText => Status::BadText,
-        Stop::NoMemory => Status::NoMemory,
+        Ok(end) => Ok(Ended::Text(end)),
+        Err(_) => Err(Cut::Write),
     }
 }
 
@@ -140,27 +120,25 @@ fn leave<S: Source, K: Sink>(
     source: &mut S,
     writer: &mut Writer,
     sink: &mut K,
-) -> Status
+) -> Result<Ended, Cut>
     requires { feed.old.fault ≡ None }
     ensures bytes { TakesMore (S.left source.old) (S.left source.new) (S.given source.old) (S.given source.new)
         (λ more. (taken feed.new ≡ taken feed.old + length more)
-        × Leaves (last_line stop last) (read more (S.left source.new)) writer.old (port K.taken sink.old sink.new) result) }
-    ensures long { (result ≡ Status.TooLong) ↔ (longest_input < taken feed.new) }
-    ensures usage { result ≢ Status.Usage }
-    ensures few { (result ≢ Status.TooFew) × (result ≢ Status.Disabled) }
-    ensures read_fault { StatusHasCause Status.ReadFault (S.faults source.old) (S.faults source.new) result }
-    ensures write_fault { StatusHasCause Status.WriteFault (K.faults sink.old) (K.faults sink.new) result }
+        × Leaves (last_line stop last) (read more (S.left source.new)) writer.old (port K.taken sink.old sink.new) (run_status result)) }
+    ensures long { (run_status result ≡ Status.TooLong) ↔ (longest_input < taken feed.new) }
+    ensures source { SourceHasCause (S.faults source.old) (S.faults source.new) result }
+    ensures sink { SinkHasCause (K.faults sink.old) (K.faults sink.new) result }
 {
     feed.fault(); // a fact for the proof
     if let Err(_) = writer.flush(sink) {
-        return Status::WriteFault;
+        return Err(Cut::Write);
     }
     if last || stop == Stop::NoMemory {
-        return stop_status(stop);
+        return Ok(Ended::Line(stop));
     }
     match feed.drain(source) {
-        Ok(()) => stop_status(stop),
-        Err(fault) => cut_status(&Cut::Feed(fault)),
+        Ok(()) => Ok(Ended::Line(stop)),
+        Err(fault) => Err(Cut::Feed(fault)),
     }
 }
 
@@ -172,7 +150,7 @@ pub fn run_lines<L, S, K, F>(
     source: &mut S,
     writer: &mut Writer,
     sink: &mut K,
-) -> Status
+) -> Result<Ended, Cut>
 where
     L: LineRun,
     S: Source,
@@ -184,31 +162,29 @@ where
     requires may { MayTake (running L.at L.ends L.asks L.ready) (F.pre take_line) }
     requires takes { TakesEach (running L.at L.ends L.asks L.ready) K.taken K.faults (F.post take_line) }
     ensures bytes { (start : Path) → L.at run.old [] start
-        → RunsFrom start (port S.left source.old source.new) (port K.taken sink.old sink.new) result }
-    ensures memory { (start : Path) → L.at run.old [] start → result ≡ Status.NoMemory
+        → RunsFrom start (port S.left source.old source.new) (port K.taken sink.old sink.new) (run_status result) }
+    ensures memory { (start : Path) → L.at run.old [] start → run_status result ≡ Status.NoMemory
         → RefusesFrom start (L.asks run.old) (port S.left source.old source.new) (port K.taken sink.old sink.new) }
-    ensures read_fault { StatusHasCause Status.ReadFault (S.faults source.old) (S.faults source.new) result }
-    ensures write_fault { StatusHasCause Status.WriteFault (K.faults sink.old) (K.faults sink.new) result }
-    ensures too_long { (result ≡ Status.TooLong) ↔ GaveTooMuch (S.given source.old) (S.given source.new) }
-    ensures usage { result ≢ Status.Usage }
-    ensures few { (result ≢ Status.TooFew) × (result ≢ Status.Disabled) }
+    ensures source { SourceHasCause (S.faults source.old) (S.faults source.new) result }
+    ensures sink { SinkHasCause (K.faults sink.old) (K.faults sink.new) result }
+    ensures too_long { (run_status result ≡ Status.TooLong) ↔ GaveTooMuch (S.given source.old) (S.given source.new) }
 {
     let mut feed = Feed::new();
     'lines: loop {
         match next_line(&mut feed, source, writer, sink) {
             Ok(true) => {}
-            Ok(false) => return closed_status(run.finish(feed.end(), writer, sink)),
-            Err(cut) => return cut_status(&cut),
+            Ok(false) => return closed(run.finish(feed.end(), writer, sink)),
+            Err(cut) => return Err(cut),
         }
         let last = feed.is_last();
         match take_line(run, &feed.current(), writer, sink) {
             Ok(None) => {
                 if last {
-                    return closed_status(run.finish(feed.end(), writer, sink));
+                    return closed(run.finish(feed.end(), writer, sink));
                 }
             }
             Ok(Some(stop)) => return leave(stop, last, &mut feed, source, writer, sink),
-            Err(_) => return Status::WriteFault,
+            Err(_) => return Err(Cut::Write),
         }
     }
 }

@@ -1,27 +1,11 @@
 -- What one line of a script writes: whole lines, of which at most one says `complete`.
-use Rattle.std.proofs.Common.{◌≡◌, ap, sym, refl, subst, inl, inr, arith, ℕ, zero, suc, ◌+◌, ◌/◌, ◌%◌, ◌≤◌, ◌==◌, nat_lt, cond, Bool, true, false, not, List, [], ◌∷◌, ◌++◌, codes, decimal, drop, length, slice_index, append-nil, Option, None, Some, Result, Ok, Err}
+use Rattle.std.proofs.Common.{◌≡◌, ap, sym, refl, subst, arith, ℕ, ◌+◌, ◌≤◌, cond, Bool, true, false, List, [], ◌∷◌, ◌++◌, codes, length, append-nil, Option, None, Some, Result, Ok, Err}
 use Rattle.std.specs.Prelude.{count_by, if◌then◌else◌, is_some}
-use Rattle.std.specs.Fmt.{digit_glyph, digits, digits_onto}
-use Rattle.std.specs.Int.{to_be_bytes, w64}
-use Rattle.std.specs.List.{list_all, onto_first}
 use Rattle.std.specs.Option.{option_map_or}
-use Rattle.std.proofs.lemmas.Bool.{and_parts, cases_Bool}
-use Rattle.std.proofs.lemmas.Bool.Decides.{nat_tests}
-use Rattle.hex.specs.Hex.{encode_lower, encode_with, lower_digits}
-use Rattle.mt_kinds.specs.declared.mem_type.MemType.{MemType}
-use Rattle.mt_kinds.specs.declared.mem_type.MemType.TheVariants.{UC, WC, WT, WP, WB}
-use Rattle.mt_kinds.specs.Types.{name_of_type}
-use Rattle.mt_text.specs.Text.{is_line_end, lines_of}
-use Rattle.mt_text.specs.declared.place.Place.{Place}
 use Rattle.mt_regs.specs.RegisterFile.{RegisterFile}
 use Rattle.mt_regs.specs.declared.fault.Fault.{Fault}
-use Rattle.mt_regs.specs.declared.fault.Reason.{Reason}
-use Rattle.mt_regs.specs.declared.fault.Reason.TheVariants.{ReservedBit, UnsupportedType, BrokenMask, UndefinedOverlap}
 use Rattle.mt_regs.specs.Agreement.{first_refusal}
 use Rattle.mt_dump.specs.Dumps.{Dump}
-use Rattle.mt_dump.specs.Canon.{number_text, value_text}
-use Rattle.mt_dump.specs.declared.fault.DumpReason.{DumpReason}
-use Rattle.mt_dump.specs.declared.fault.DumpReason.TheVariants as dump
 use Rattle.mt_machine.specs.declared.done.Done.{Done}
 use Rattle.mt_machine.specs.declared.done.Done.TheVariants as done
 use Rattle.mt_machine.specs.declared.ruled.Ruled.{Ruled}
@@ -42,14 +26,13 @@ use Rattle.mt_core.specs.declared.stepped.Stepped.{Stepped}
 use Rattle.mt_core.specs.declared.stepped.Stepped.TheVariants as stepped
 use Rattle.mt_script.specs.declared.command.Command.{Command}
 use Rattle.mt_script.specs.declared.fault.ScriptFault.{ScriptFault}
-use Rattle.mt_script.specs.declared.fault.ScriptReason.{ScriptReason}
-use Rattle.mt_script.specs.declared.fault.ScriptReason.TheVariants as script
 use Rattle.mt_script.specs.declared.fault.Offence.{Offence}
 use Rattle.mt_script.specs.declared.fault.Offence.TheVariants as offence
 use Rattle.mt_script.specs.Head.{HeadStep, goes_on, head_step, offends, shows}
 use Rattle.mt_script.specs.Commands.{command_of}
 use Rattle.mt_script.specs.Situation.{Situation}
-use Rattle.mt_output.specs.Lines.{accepted_line, address_text, bad_text, dump_reason_text, dump_refused_line, line, offence_line, reason_text, refused_cpu_line, refused_line, script_reason_text}
+use Rattle.mt_output.specs.Lines.{accepted_line, dump_refused_line, line, offence_line}
+use Rattle.mt_output.proofs.Inside.{IsInside, address_inside, both, decimal_inside, number_inside, offence_is_line, one_line, plain, refused_is_line, type_inside, value_inside}
 use Rattle.mt_machine.specs.ComingAndGoing.{last_number}
 use Rattle.mt_replay.specs.declared.task.Task.{Task}
 use Rattle.mt_replay.specs.declared.task.Task.TheVariants as task
@@ -63,101 +46,11 @@ use Rattle.mt_replay.specs.ReplayState.{ReplayState, after_update, call_fault, c
 use Rattle.mt_replay.specs.Summary.{is_complete, updates_in}
 use Rattle.mt_replay.specs.Texts.{call_fault_line, called_line, cancel_line, complete_line, done_line, event_text, go_line, have_one_file, memory_line, number_at, phase_text, processor_line, processor_lines, register_line, registers_line, report_text, ruled_line, stale_count, stepped_line, switch_text, absent_line, full_line, joined_line, no_line, retired_line, under_way_line, up_line}
 use Rattle.mt_replay.specs.Transcript.{Point, body_lines, head_lines, in_body, in_head, told_command, told_dump}
-use Rattle.mt_stream.specs.Told.{Told, behind}
+use Rattle.mt_stream.specs.Told.{Told}
 use Rattle.mt_replay.specs.declared.line.Run.{Run}
 use Rattle.mt_replay.specs.declared.line.Run.TheVariants as run
 use Rattle.mt_replay.proofs.Walks.{from_body, head_leads, told_after}
 use Rattle.mt_replay.proofs.Sums.Numbers.{IsWhole, both_whole, line_whole, none_whole, updates_both}
-
--- ---- texts without an LF
-
-abbrev is_inside : ℕ → Bool
-is_inside byte = not (is_line_end byte)
-
-record IsInside (text : List ℕ) : Type 0 where
-  pub all : list_all is_inside text ≡ true
-
-said : (text : List ℕ) → list_all is_inside text ≡ true → IsInside text
-said text all = record { all = all }
-
-all_both : (a b : List ℕ) → list_all is_inside a ≡ true → list_all is_inside b ≡ true → list_all is_inside (a ++ b) ≡ true
-all_both [] b none second = second
-all_both (byte ∷ bytes) b all second = let parts = and_parts (is_inside byte) (list_all is_inside bytes) all in rw parts.0 (all_both bytes b parts.1 second)
-
-both : {a b : List ℕ} → IsInside a → IsInside b → IsInside (a ++ b)
-both {a} {b} first second = record { all = all_both a b first.all second.all }
-
--- it is one line
-one_line : (text : List ℕ) → list_all is_inside text ≡ true → lines_of (line text) ≡ text ∷ []
-one_line [] all = refl
-one_line (byte ∷ bytes) all =
-    let parts = and_parts (is_inside byte) (list_all is_inside bytes) all in
-    rw (no_end byte parts.0) (ap (onto_first byte) (one_line bytes parts.1))
-  where
-    no_end : (byte : ℕ) → is_inside byte ≡ true → is_line_end byte ≡ false
-    no_end byte other = grind (arith, nat_tests)
-
-digit_inside : (digit : ℕ) → is_inside (digit_glyph false digit) ≡ true
-digit_inside digit = elim (cases_Bool (nat_lt digit 10)) [
-  | inl low ↦ rw low (grind (arith, nat_tests))
-  | inr high ↦ rw high (grind (arith, nat_tests))
-]
-
-all_digits : (k n : ℕ) (behind : List ℕ) → list_all is_inside behind ≡ true → list_all is_inside (digits_onto k 10 false n behind) ≡ true
-all_digits zero n behind all = all
-all_digits (suc k) n behind all = elim (cases_Bool (n / 10 == 0)) [
-  | inl last ↦ rw last (rw (digit_inside (n % 10)) all)
-  | inr more ↦ rw more (all_digits k (n / 10) (digit_glyph false (n % 10) ∷ behind) (rw (digit_inside (n % 10)) all))
-]
-
-decimal_inside : (n : ℕ) → IsInside (decimal n)
-unfolding digits
-decimal_inside n = said _ (all_digits 64 n [] refl)
-
-glyph_inside : (digit : ℕ) → is_inside (slice_index lower_digits digit) ≡ true
-glyph_inside zero = refl
-glyph_inside (suc zero) = refl
-glyph_inside (suc (suc zero)) = refl
-glyph_inside (suc (suc (suc zero))) = refl
-glyph_inside (suc (suc (suc (suc zero)))) = refl
-glyph_inside (suc (suc (suc (suc (suc zero))))) = refl
-glyph_inside (suc (suc (suc (suc (suc (suc zero)))))) = refl
-glyph_inside (suc (suc (suc (suc (suc (suc (suc zero))))))) = refl
-glyph_inside (suc (suc (suc (suc (suc (suc (suc (suc zero)))))))) = refl
-glyph_inside (suc (suc (suc (suc (suc (suc (suc (suc (suc zero))))))))) = refl
-glyph_inside (suc (suc (suc (suc (suc (suc (suc (suc (suc (suc zero)))))))))) = refl
-glyph_inside (suc (suc (suc (suc (suc (suc (suc (suc (suc (suc (suc zero))))))))))) = refl
-glyph_inside (suc (suc (suc (suc (suc (suc (suc (suc (suc (suc (suc (suc zero)))))))))))) = refl
-glyph_inside (suc (suc (suc (suc (suc (suc (suc (suc (suc (suc (suc (suc (suc zero))))))))))))) = refl
-glyph_inside (suc (suc (suc (suc (suc (suc (suc (suc (suc (suc (suc (suc (suc (suc zero)))))))))))))) = refl
-glyph_inside (suc (suc (suc (suc (suc (suc (suc (suc (suc (suc (suc (suc (suc (suc (suc zero))))))))))))))) = refl
-glyph_inside (suc (suc (suc (suc (suc (suc (suc (suc (suc (suc (suc (suc (suc (suc (suc (suc digit)))))))))))))))) = refl
-
-all_encoded : (bytes : List ℕ) → list_all is_inside (encode_lower bytes) ≡ true
-unfolding encode_with
-all_encoded [] = refl
-all_encoded (byte ∷ bytes) = rw (glyph_inside (byte / 16), glyph_inside (byte % 16)) (all_encoded bytes)
-
-value_inside : (value : ℕ) → IsInside (value_text value)
-value_inside value = said _ (all_encoded (to_be_bytes w64 value))
-
-number_inside : (number : ℕ) → IsInside (number_text number)
-number_inside number = said _ (rw (glyph_inside (number / 256), glyph_inside (number / 16 % 16), glyph_inside (number % 16)) refl)
-
-all_behind : (count : ℕ) (text : List ℕ) → list_all is_inside text ≡ true → list_all is_inside (drop count text) ≡ true
-all_behind zero text all = all
-all_behind (suc count) [] all = refl
-all_behind (suc count) (byte ∷ bytes) all = all_behind count bytes (and_parts (is_inside byte) (list_all is_inside bytes) all).1
-
-address_inside : (address : ℕ) → IsInside (address_text address)
-address_inside address = said _ (all_behind 3 (value_text address) (value_inside address).all)
-
-type_inside : (kind : MemType) → IsInside (name_of_type kind)
-type_inside UC = said _ refl
-type_inside WC = said _ refl
-type_inside WT = said _ refl
-type_inside WP = said _ refl
-type_inside WB = said _ refl
 
 -- ---- what a line of a script writes
 
@@ -170,7 +63,7 @@ abbrev count_of : List ℕ → ℕ
 count_of text = cond (is_complete text) 1 0
 
 counted : (text : List ℕ) → IsInside text → updates_in (line text) ≡ 0 + count_of text
-counted text inside = ap (count_by is_complete) (one_line text inside.all)
+counted text inside = ap (count_by is_complete) (one_line text inside)
 
 at_most : (hit : Bool) → cond hit 1 0 ≤ 1
 at_most true = omega arith
@@ -193,113 +86,70 @@ more few w = record { whole = w.whole; few = omega (arith, few, w.few) }
 
 -- ---- offences and refused files
 
-script_reason_inside : (reason : ScriptReason) → IsInside (script_reason_text reason)
-script_reason_inside script.BadLine = said _ refl
-script_reason_inside script.BadNumber = said _ refl
-script_reason_inside script.UnknownRegister = said _ refl
-script_reason_inside script.OutOfRange = said _ refl
-script_reason_inside script.NoEnd = said _ refl
-script_reason_inside script.NotNow = said _ refl
-script_reason_inside script.Repeated = said _ refl
-
-dump_reason_inside : (reason : DumpReason) → IsInside (dump_reason_text reason)
-dump_reason_inside dump.BadLine = said _ refl
-dump_reason_inside dump.BadNumber = said _ refl
-dump_reason_inside dump.UnknownRegister = said _ refl
-dump_reason_inside dump.Repeated = said _ refl
-dump_reason_inside dump.NoCap = said _ refl
-dump_reason_inside dump.BadWidth = said _ refl
-dump_reason_inside dump.TooManyPairs = said _ refl
-dump_reason_inside dump.BadVersion = said _ refl
-dump_reason_inside dump.BadSection = said _ refl
-dump_reason_inside dump.Differs = said _ refl
-
-reason_inside : (reason : Reason) → IsInside (reason_text reason)
-reason_inside ReservedBit = said _ refl
-reason_inside UnsupportedType = said _ refl
-reason_inside BrokenMask = said _ refl
-reason_inside UndefinedOverlap = said _ refl
-
-bad_text_writes : (place : Place) (reason : List ℕ) → IsInside reason → Writes 0 (bad_text place reason)
-bad_text_writes place reason inside =
-    other (both (both (both (both (both (said (codes "bad text ") refl) (decimal_inside place.line)) (said (codes ":") refl)) (decimal_inside place.column)) (said (codes " ") refl)) inside) refl
-
 pub offence_writes : (o : Offence) → Writes 0 (offence_line o)
-offence_writes (offence.Script fault) = bad_text_writes fault.place (script_reason_text fault.reason) (script_reason_inside fault.reason)
-offence_writes (offence.Dump fault) = bad_text_writes fault.place (dump_reason_text fault.reason) (dump_reason_inside fault.reason)
-
-refused_writes : (fault : Fault) → Writes 0 (refused_line fault)
-refused_writes fault = other (both (both (both (said (codes "refused ") refl) (number_inside fault.msr)) (said (codes " ") refl)) (reason_inside fault.reason)) refl
-
-refused_cpu_writes : (k : ℕ) (fault : Fault) → Writes 0 (refused_cpu_line k fault)
-refused_cpu_writes k fault =
-    other (both (both (both (both (both (said (codes "refused cpu ") refl) (decimal_inside k)) (said (codes " ") refl)) (number_inside fault.msr)) (said (codes " ") refl)) (reason_inside fault.reason)) refl
+offence_writes o = let l = offence_is_line o in subst (Writes 0) (sym l.is) (other l.inside refl)
 
 dump_refused_writes : (version k : ℕ) (fault : Fault) → Writes 0 (dump_refused_line version k fault)
-dump_refused_writes version k fault = by (version == 2)
-  where
-    by : (b : Bool) → Writes 0 (if b then refused_cpu_line k fault else refused_line fault)
-    by true = refused_cpu_writes k fault
-    by false = refused_writes fault
+dump_refused_writes version k fault = let l = refused_is_line version k fault in subst (Writes 0) (sym l.is) (other l.inside refl)
 
 -- ---- commands
 
 done_writes : (d : Done) → Writes 1 (done_line d)
-done_writes (done.Value value kind) = one (both (both (both (said (codes "value ") refl) (value_inside value)) (said (codes " ") refl)) (type_inside kind))
-done_writes (done.Stored kind) = one (both (said (codes "stored ") refl) (type_inside kind))
-done_writes done.Fenced = one (said (codes "fenced") refl)
-done_writes done.Unmapped = one (said (codes "unmapped") refl)
-done_writes done.NoRam = one (said (codes "no ram") refl)
-done_writes done.Busy = one (said (codes "busy") refl)
+done_writes (done.Value value kind) = one (both (both (both (plain (codes "value ") refl) (value_inside value)) (plain (codes " ") refl)) (type_inside kind))
+done_writes (done.Stored kind) = one (both (plain (codes "stored ") refl) (type_inside kind))
+done_writes done.Fenced = one (plain (codes "fenced") refl)
+done_writes done.Unmapped = one (plain (codes "unmapped") refl)
+done_writes done.NoRam = one (plain (codes "no ram") refl)
+done_writes done.Busy = one (plain (codes "busy") refl)
 
 ruled_writes : (r : Ruled) → Writes 1 (ruled_line r)
-ruled_writes ruled.Okay = one (said (codes "ok") refl)
-ruled_writes ruled.Full = one (said (codes "full") refl)
-ruled_writes ruled.Busy = one (said (codes "busy") refl)
+ruled_writes ruled.Okay = one (plain (codes "ok") refl)
+ruled_writes ruled.Full = one (plain (codes "full") refl)
+ruled_writes ruled.Busy = one (plain (codes "busy") refl)
 
 go_writes : (yes : Bool) → Writes 1 (go_line yes)
-go_writes true = one (said (codes "go") refl)
-go_writes false = one (said (codes "no") refl)
+go_writes true = one (plain (codes "go") refl)
+go_writes false = one (plain (codes "no") refl)
 
 cancel_writes : (yes : Bool) → Writes 1 (cancel_line yes)
-cancel_writes true = one (said (codes "cancelled") refl)
-cancel_writes false = one (said (codes "no") refl)
+cancel_writes true = one (plain (codes "cancelled") refl)
+cancel_writes false = one (plain (codes "no") refl)
 
 event_inside : (f : RegisterFile) (e : Event) → IsInside (event_text f e)
-event_inside f event.Take = said _ refl
-event_inside f event.Arrive = said _ refl
-event_inside f event.Leave = said _ refl
-event_inside f event.Pass = said _ refl
-event_inside f event.SetNoFill = said _ refl
-event_inside f (event.WriteBack address value) = both (said (codes "write-back ") refl) (address_inside address)
-event_inside f event.DropLines = said _ refl
-event_inside f event.FlushTlb = said _ refl
-event_inside f event.Disable = said _ refl
-event_inside f (event.Write i) = both (said (codes "write ") refl) (number_inside (number_at f i))
-event_inside f event.Enable = said _ refl
-event_inside f event.SetNormal = said _ refl
-event_inside f event.RestorePge = said _ refl
-event_inside f event.ArriveAgain = said _ refl
-event_inside f event.Release = said _ refl
+event_inside f event.Take = plain _ refl
+event_inside f event.Arrive = plain _ refl
+event_inside f event.Leave = plain _ refl
+event_inside f event.Pass = plain _ refl
+event_inside f event.SetNoFill = plain _ refl
+event_inside f (event.WriteBack address value) = both (plain (codes "write-back ") refl) (address_inside address)
+event_inside f event.DropLines = plain _ refl
+event_inside f event.FlushTlb = plain _ refl
+event_inside f event.Disable = plain _ refl
+event_inside f (event.Write i) = both (plain (codes "write ") refl) (number_inside (number_at f i))
+event_inside f event.Enable = plain _ refl
+event_inside f event.SetNormal = plain _ refl
+event_inside f event.RestorePge = plain _ refl
+event_inside f event.ArriveAgain = plain _ refl
+event_inside f event.Release = plain _ refl
 
 step_writes : (f : RegisterFile) (answer : Stepped) → Writes 1 (stepped_line f answer)
 step_writes f (stepped.Did e) = one (event_inside f e)
-step_writes f (stepped.Waits arrived awaited) = one (both (both (both (said (codes "waits ") refl) (decimal_inside arrived)) (said (codes " of ") refl)) (decimal_inside awaited))
-step_writes f stepped.NoUpdate = one (said (codes "no update") refl)
+step_writes f (stepped.Waits arrived awaited) = one (both (both (both (plain (codes "waits ") refl) (decimal_inside arrived)) (plain (codes " of ") refl)) (decimal_inside awaited))
+step_writes f stepped.NoUpdate = one (plain (codes "no update") refl)
 
 memory_writes : (word : Option ℕ) → Writes 1 (memory_line word)
-memory_writes None = one (said (codes "no ram") refl)
-memory_writes (Some value) = one (both (said (codes "memory ") refl) (value_inside value))
+memory_writes None = one (plain (codes "no ram") refl)
+memory_writes (Some value) = one (both (plain (codes "memory ") refl) (value_inside value))
 
 register_writes : (number value : ℕ) → Writes 1 (register_line number value)
-register_writes number value = one (both (both (number_inside number) (said (codes " ") refl)) (value_inside value))
+register_writes number value = one (both (both (number_inside number) (plain (codes " ") refl)) (value_inside value))
 
 fault_writes : (fault : CallFault) → Writes 1 (call_fault_line fault)
-fault_writes (call.Refused fault) = more (omega arith) (refused_writes fault)
-fault_writes call.UnderWay = one (said (codes "under way") refl)
+fault_writes (call.Refused fault) = more (omega arith) (dump_refused_writes 1 0 fault)
+fault_writes call.UnderWay = one (plain (codes "under way") refl)
 
 complete_writes : (era : ℕ) → Writes 1 (complete_line era)
-complete_writes era = one (both (said (codes "complete ") refl) (decimal_inside era))
+complete_writes era = one (both (plain (codes "complete ") refl) (decimal_inside era))
 
 call_writes : (otherwise : List ℕ) (fault : Option CallFault) → Writes 1 otherwise → Writes 1 (option_map_or call_fault_line fault otherwise)
 call_writes otherwise None w = w
@@ -308,36 +158,36 @@ call_writes otherwise (Some fault) w = fault_writes fault
 -- ---- reports
 
 phase_inside : (p : Phase) → IsInside (phase_text p)
-phase_inside phase.Running = said _ refl
-phase_inside phase.Taken = said _ refl
-phase_inside phase.Arrived = said _ refl
-phase_inside phase.Passed = said _ refl
-phase_inside phase.NoFill = said _ refl
-phase_inside phase.Flushed = said _ refl
-phase_inside phase.TlbFlushed = said _ refl
-phase_inside (phase.Writing i) = said _ refl
-phase_inside phase.Enabled = said _ refl
-phase_inside phase.Flushed2 = said _ refl
-phase_inside phase.TlbFlushed2 = said _ refl
-phase_inside phase.Normal = said _ refl
-phase_inside phase.Restored = said _ refl
-phase_inside phase.Arrived2 = said _ refl
+phase_inside phase.Running = plain _ refl
+phase_inside phase.Taken = plain _ refl
+phase_inside phase.Arrived = plain _ refl
+phase_inside phase.Passed = plain _ refl
+phase_inside phase.NoFill = plain _ refl
+phase_inside phase.Flushed = plain _ refl
+phase_inside phase.TlbFlushed = plain _ refl
+phase_inside (phase.Writing i) = plain _ refl
+phase_inside phase.Enabled = plain _ refl
+phase_inside phase.Flushed2 = plain _ refl
+phase_inside phase.TlbFlushed2 = plain _ refl
+phase_inside phase.Normal = plain _ refl
+phase_inside phase.Restored = plain _ refl
+phase_inside phase.Arrived2 = plain _ refl
 
 switch_inside : (on : Bool) → IsInside (switch_text on)
-switch_inside true = said _ refl
-switch_inside false = said _ refl
+switch_inside true = plain _ refl
+switch_inside false = plain _ refl
 
 processor_writes : (k : ℕ) (p : Processor) → Writes 0 (processor_line k p)
 processor_writes k p =
-    let named = both (both (both (said (codes "cpu ") refl) (decimal_inside k)) (said (codes " ") refl)) (phase_inside p.phase) in
-    let era = both (both named (said (codes " era ") refl)) (decimal_inside p.era) in
-    let lines = both (both era (said (codes " lines ") refl)) (decimal_inside (length p.lines)) in
-    let dirty = both (both lines (said (codes " dirty ") refl)) (decimal_inside (dirty_count p.lines)) in
-    let buffers = both (both dirty (said (codes " buffers ") refl)) (decimal_inside (length p.buffers)) in
-    let entries = both (both buffers (said (codes " entries ") refl)) (decimal_inside (length p.entries)) in
-    let stale = both (both entries (said (codes " stale ") refl)) (decimal_inside (stale_count p)) in
-    let cd = both (both stale (said (codes " cd ") refl)) (switch_inside p.cache_disabled) in
-    let pge = both (both cd (said (codes " pge ") refl)) (switch_inside p.page_global) in
+    let named = both (both (both (plain (codes "cpu ") refl) (decimal_inside k)) (plain (codes " ") refl)) (phase_inside p.phase) in
+    let era = both (both named (plain (codes " era ") refl)) (decimal_inside p.era) in
+    let lines = both (both era (plain (codes " lines ") refl)) (decimal_inside (length p.lines)) in
+    let dirty = both (both lines (plain (codes " dirty ") refl)) (decimal_inside (dirty_count p.lines)) in
+    let buffers = both (both dirty (plain (codes " buffers ") refl)) (decimal_inside (length p.buffers)) in
+    let entries = both (both buffers (plain (codes " entries ") refl)) (decimal_inside (length p.entries)) in
+    let stale = both (both entries (plain (codes " stale ") refl)) (decimal_inside (stale_count p)) in
+    let cd = both (both stale (plain (codes " cd ") refl)) (switch_inside p.cache_disabled) in
+    let pge = both (both cd (plain (codes " pge ") refl)) (switch_inside p.page_global) in
     other pge refl
 
 two : (a b : List ℕ) → Writes 0 a → Writes 0 b → Writes 0 (a ++ b)
@@ -348,8 +198,8 @@ processors_write k [] = record { whole = none_whole; few = omega arith }
 processors_write k (p ∷ ps) = two (processor_line k p) (processor_lines (k + 1) ps) (processor_writes k p) (processors_write (k + 1) ps)
 
 registers_write : (same : Bool) → Writes 0 (registers_line same)
-registers_write true = other (said (codes "registers same") refl) refl
-registers_write false = other (said (codes "registers differ") refl) refl
+registers_write true = other (plain (codes "registers same") refl) refl
+registers_write false = other (plain (codes "registers differ") refl) refl
 
 report_writes : (ps : List Processor) → Writes 0 (report_text ps)
 report_writes ps = two (processor_lines 0 ps) (registers_line (have_one_file ps)) (processors_write 0 ps) (registers_write (have_one_file ps))
@@ -358,10 +208,10 @@ report_writes ps = two (processor_lines 0 ps) (registers_line (have_one_file ps)
 
 end_writes : (s : ReplayState) (updates : Bool) → Writes 1 (if updates then update_line s.machine s.goal else call_line s.machine s.goal)
 end_writes s true = call_writes (complete_line (common_era (after_update s.machine s.goal).system.processors)) (call_fault s.machine s.goal) (complete_writes (common_era (after_update s.machine s.goal).system.processors))
-end_writes s false = call_writes called_line (call_fault s.machine s.goal) (one (said (codes "called") refl))
+end_writes s false = call_writes called_line (call_fault s.machine s.goal) (one (plain (codes "called") refl))
 
 stay_writes : (busy : Bool) (cause : List ℕ) → Writes 1 cause → Writes 1 (if busy then under_way_line else cause)
-stay_writes true cause w = one (said (codes "under way") refl)
+stay_writes true cause w = one (plain (codes "under way") refl)
 stay_writes false cause w = w
 
 come_writes : (m : Machine) (line : List ℕ) → Writes 1 line → Writes 1 (if may_come m then line else stays_line m full_line)
@@ -369,14 +219,14 @@ come_writes m line w = by (may_come m)
   where
     by : (b : Bool) → Writes 1 (if b then line else stays_line m full_line)
     by true = w
-    by false = stay_writes (is_some m.order) full_line (one (said (codes "full") refl))
+    by false = stay_writes (is_some m.order) full_line (one (plain (codes "full") refl))
 
 leave_writes : (m : Machine) → Writes 1 (retire_text m)
 leave_writes m = by (may_go m)
   where
     by : (b : Bool) → Writes 1 (if b then retired_line (last_number m.system) else stays_line m no_line)
-    by true = one (both (said (codes "retired ") refl) (decimal_inside (last_number m.system)))
-    by false = stay_writes (is_some m.order) no_line (one (said (codes "no") refl))
+    by true = one (both (plain (codes "retired ") refl) (decimal_inside (last_number m.system)))
+    by false = stay_writes (is_some m.order) no_line (one (plain (codes "no") refl))
 
 asked_writes : (s : ReplayState) (k : ℕ) (a : Ask) → Writes 1 (asked_of s k a).text
 asked_writes s k (ask.Access o) = done_writes (access s.machine.system k o).answer
@@ -395,8 +245,8 @@ acted_writes s other = nothing
 
 task_writes : (s : ReplayState) (t : Task) → Writes 1 (outcome s t).text
 task_writes s task.Report = more (omega arith) (report_writes s.machine.system.processors)
-task_writes s task.Up = come_writes s.machine (up_line (length s.machine.system.processors)) (one (both (said (codes "up ") refl) (decimal_inside (length s.machine.system.processors))))
-task_writes s task.Join = come_writes s.machine (joined_line (length s.machine.system.processors)) (one (both (said (codes "joined ") refl) (decimal_inside (length s.machine.system.processors))))
+task_writes s task.Up = come_writes s.machine (up_line (length s.machine.system.processors)) (one (both (plain (codes "up ") refl) (decimal_inside (length s.machine.system.processors))))
+task_writes s task.Join = come_writes s.machine (joined_line (length s.machine.system.processors)) (one (both (plain (codes "joined ") refl) (decimal_inside (length s.machine.system.processors))))
 task_writes s (task.Act a) = acted_writes s a
 task_writes s other = nothing
 
@@ -404,7 +254,7 @@ command_writes : (s : ReplayState) (c : Command) → Writes 1 (command_text s c)
 command_writes s c = by (is_absent s.machine c)
   where
     by : (b : Bool) → Writes 1 (if b then absent_line else present_text s c)
-    by true = one (said (codes "absent") refl)
+    by true = one (plain (codes "absent") refl)
     by false = task_writes s (task_of c)
 
 -- what a line leads to where no known line stands behind it
@@ -420,7 +270,7 @@ body_writes s number (Ok c) = with_nothing (command_text s c) (command_writes s 
 
 dump_writes : (now : Situation) (d : Dump) (number : ℕ) (refusal : Option (ℕ × Fault)) → Writes 1 (told_dump now d (body_lines None number []) refusal).text
 dump_writes now d number (Some refusal) = more (omega arith) (dump_refused_writes d.version refusal.0 refusal.1)
-dump_writes now d number None = with_nothing accepted_line (one (said (codes "accepted") refl))
+dump_writes now d number None = with_nothing accepted_line (one (plain (codes "accepted") refl))
 
 head_writes : (now : Situation) (number : ℕ) (step : HeadStep) → Writes 1 (told_after now (head_lines None number []) (body_lines None number []) step).text
 head_writes now number (goes_on next after) = nothing

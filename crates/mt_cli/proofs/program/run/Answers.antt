@@ -5,7 +5,8 @@ use Rattle.mt_ports.specs.declared.status.Status.{Status}
 use Rattle.mt_ports.specs.declared.status.Status.TheVariants.{Usage, WriteFault}
 use Rattle.mt_output.specs.Program.{words_of}
 use Rattle.mt_answers.specs.CommandLine.{command_of}
-use Rattle.mt_cli.specs.Runs.{IsRun, sink_run, source_run}
+use Rattle.mt_output.specs.Ports.{sink_run, source_run}
+use Rattle.mt_cli.specs.Runs.{IsRun}
 use Rattle.mt_cli.proofs.Ran.{of_error, starved_run}
 use Rattle.mt_cli.proofs.program.run.Goals as goal
 

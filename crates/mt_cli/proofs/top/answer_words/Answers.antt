@@ -1,6 +1,6 @@
 use Rattle.std.proofs.Common.{◌∙◌, Some, ap, map, refl, string_bytes, sym}
 use Rattle.mt_answers.specs.CommandLine.{threaded_of}
-use Rattle.mt_cli.specs.Runs.{sink_run, source_run}
+use Rattle.mt_output.specs.Ports.{sink_run, source_run}
 use Rattle.mt_cli.proofs.Ran.{serial_ran, usage_ran}
 use Rattle.mt_answers.proofs.SoundCommands.{sound_serial}
 use Rattle.mt_cli.proofs.top.answer_words.Goals as goal

@@ -4,7 +4,7 @@ use Rattle.mt_answers.specs.declared.command.ThreadedCommand.{ThreadedCommand}
 use Rattle.mt_answers.specs.declared.command.ThreadedCommand.TheVariants.{Big, Private}
 use Rattle.mt_cli.specs.Measured.{measured_text}
 use Rattle.mt_cli.specs.Output.{big_text, measured, summed}
-use Rattle.mt_cli.specs.Runs.{sink_run, source_run}
+use Rattle.mt_output.specs.Ports.{sink_run, source_run}
 use Rattle.mt_cli.proofs.Ran.{makes_ran, proc_ran, replay_ran}
 use Rattle.mt_cli.proofs.top.run_threaded.Goals as goal
 
@@ -26,7 +26,7 @@ returns-in-Replay g c words says =
     (source_run g.S.Source.left g.S.Source.faults g.S.Source.given c.args.source.now c.replay_with.new.source)
     (sink_run g.K.Sink.taken g.K.Sink.faults c.args.sink.now c.replay_with.new.sink)
     c.replay_with.result (says ∙ ap (λ (t : ThreadedCommand). Some (Threaded t)) c.in-Replay.is)
-    c.replay_with.ensures.bytes c.replay_with.ensures.memory c.replay_with.ensures.usage c.replay_with.ensures.few c.replay_with.ensures.read_fault c.replay_with.ensures.write_fault c.replay_with.ensures.too_long
+    c.replay_with.ensures
 
 pub returns-in-Proc : goal.returns-in-Proc
 returns-in-Proc g c words says =
@@ -34,7 +34,7 @@ returns-in-Proc g c words says =
     (source_run g.S.Source.left g.S.Source.faults g.S.Source.given c.args.source.now c.proc_with.new.source)
     (sink_run g.K.Sink.taken g.K.Sink.faults c.args.sink.now c.proc_with.new.sink)
     c.proc_with.result (says ∙ ap (λ (t : ThreadedCommand). Some (Threaded t)) c.in-Proc.is)
-    c.proc_with.ensures.bytes c.proc_with.ensures.memory c.proc_with.ensures.usage c.proc_with.ensures.few c.proc_with.ensures.read_fault c.proc_with.ensures.write_fault c.proc_with.ensures.too_long
+    c.proc_with.ensures
 
 pub returns-in-Big : goal.returns-in-Big
 returns-in-Big g c words says =

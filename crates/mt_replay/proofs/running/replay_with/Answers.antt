@@ -1,24 +1,28 @@
-use Rattle.std.proofs.Common.{inr, refl, false, []}
+use Rattle.std.proofs.Common.{refl, false, []}
 use Rattle.mt_script.specs.Situation.{at_start}
-use Rattle.mt_output.specs.Ports.{held, port}
-use Rattle.mt_stream.proofs.Rounds.{ends_as}
-use Rattle.mt_replay.specs.Newcomers.{early_text}
-use Rattle.mt_replay.specs.Running.{path_from}
-use Rattle.mt_replay.specs.Transcript.{in_head, replay_told, transcript}
+use Rattle.mt_output.specs.Ports.{sink_run, source_run}
+use Rattle.mt_stream.specs.Runs.{AsksBy}
+use Rattle.mt_stream.proofs.Whole.{ran, refused}
+use Rattle.mt_replay.specs.Running.{AsksAt, path_from}
+use Rattle.mt_replay.specs.Transcript.{from_point, in_head}
 use Rattle.mt_replay.proofs.RunningLaws.{replay_laws}
 use Rattle.mt_replay.proofs.running.replay_with.Goals as goal
 
 pub run_lines-requires-clause-laws : goal.run_lines-requires-clause-laws
 run_lines-requires-clause-laws g c = replay_laws
 
-pub returns-clause-bytes : goal.returns-clause-bytes
-returns-clause-bytes g c = c.run_lines.ensures.bytes (path_from false [] (in_head at_start [])) (in_head at_start [], false, (c.new-2.ensures.setup, c.new-2.ensures.dump), (refl, refl), refl)
+pub returns-in_default : goal.returns-in_default
+returns-in_default g c =
+    refused (path_from false [] (in_head at_start [])) (AsksBy from_point AsksAt)
+    (source_run g.S.Source.left g.S.Source.faults g.S.Source.given c.args.source.now c.args.source.now)
+    (sink_run g.K.Sink.taken g.K.Sink.faults c.args.sink.now c.args.sink.now) refl refl
 
-pub returns-clause-complete : goal.returns-clause-complete
-returns-clause-complete g c = λ bytes known.
-    ends_as (record { tells = transcript bytes; early = early_text bytes }) replay_told (held bytes (g.S.Source.left c.run_lines.new.source)) (port g.K.Sink.taken c.args.sink.now c.run_lines.new.sink) c.run_lines.result
-    (c.run_lines.ensures.bytes (path_from false [] (in_head at_start [])) (in_head at_start [], false, (c.new-2.ensures.setup, c.new-2.ensures.dump), (refl, refl), refl) bytes known)
-
-pub returns-clause-memory : goal.returns-clause-memory
-returns-clause-memory g c = λ bytes known wants.
-    inr (c.run_lines.ensures.memory (path_from false [] (in_head at_start [])) (in_head at_start [], false, (c.new-2.ensures.setup, c.new-2.ensures.dump), (refl, refl), refl) wants bytes known)
+pub returns : goal.returns
+returns g c =
+    let start = path_from false [] (in_head at_start []) in
+    let stands = (in_head at_start [], false, (c.new-2.ensures.setup, c.new-2.ensures.dump), (refl, refl), refl) in
+    ran start (AsksBy from_point AsksAt)
+    (source_run g.S.Source.left g.S.Source.faults g.S.Source.given c.args.source.now c.run_lines.new.source)
+    (sink_run g.K.Sink.taken g.K.Sink.faults c.args.sink.now c.run_lines.new.sink)
+    c.run_lines.result c.run_status.result c.run_status.ensures.value (c.run_lines.ensures.bytes start stands) (c.run_lines.ensures.memory start stands)
+    (c.run_status.ensures.read_fault _ _ c.run_lines.ensures.source) (c.run_status.ensures.write_fault _ _ c.run_lines.ensures.sink) c.run_lines.ensures.too_long c.run_status.ensures.others
