@@ -1,5 +1,5 @@
 -- A script has no offence exactly where each line is accepted in its turn and the end is good.
-use Rattle.std.proofs.Common.{◌≡◌, ◌+◌, ℕ, Bool, true, false, List, [], ◌∷◌, Option, None, Some, Result, refl}
+use Rattle.std.proofs.Common.{◌≡◌, ◌+◌, ◌∙◌, ℕ, Bool, true, false, List, [], ◌∷◌, Option, None, Some, Result, ap, refl}
 use Rattle.std.specs.Prelude.{Ok, Err, ◌↔◌, if◌then◌else◌}
 use Rattle.std.specs.Option.{option_map, option_map_or}
 use Rattle.mt_text.specs.Text.{lines_of, words_of, end_of}
@@ -24,7 +24,6 @@ use Rattle.mt_script.specs.Script.{Rest, offence_after, offence_in, script_offen
 use Rattle.mt_script.specs.declared.command.Command.{Command}
 use Rattle.mt_script.specs.declared.fault.ScriptFault.{ScriptFault}
 use Rattle.mt_script.specs.declared.fault.ScriptReason.TheVariants.{NoEnd, OutOfRange}
-use Rattle.mt_script.specs.declared.fault.Offence.{Offence}
 use Rattle.mt_script.specs.declared.fault.Offence.TheVariants as offence
 use Rattle.mt_script.proofs.Ends.{ends_well}
 
@@ -36,7 +35,7 @@ module _ (rest : Rest) (Good : Situation → List Reading → Type 0) (later : (
 
   end_good : (answer : Result Dump DumpFault) → read_from place before [] ≡ answer → offence_after now rest (end_step now.cpus place answer) ≡ None → GoesOn now before (said_of number line) Good true
   end_good (Err fault) is none = absurd (cc none)
-  end_good (Ok dump) is = by (has_each now.cpus dump) refl
+  end_good (Ok dump) is none = by (has_each now.cpus dump) refl none
     where
       by : (each : Bool) → has_each now.cpus dump ≡ each → offence_after now rest (if each then shows dump else offends (offence.Script (fault_at OutOfRange place))) ≡ None
           → GoesOn now before (said_of number line) Good true

@@ -12,7 +12,6 @@ use Rattle.mt_text.specs.Text.{is_too_long, without_ending, words_of}
 use Rattle.mt_text.specs.declared.fault.NumberFault.{NumberFault}
 use Rattle.mt_text.specs.declared.fault.NumberFault.TheVariants.{NotDigit, TooLarge}
 use Rattle.mt_text.specs.declared.place.Place.{Place}
-use Rattle.mt_regs.specs.RegisterFile.{RegisterFile}
 use Rattle.mt_script.specs.Situation.{Situation, file_of, most_processors}
 use Rattle.mt_script.specs.Words.{word_of, text_of, place_of}
 use Rattle.mt_script.specs.Numbers.{fault_at, tested, limited, with, any, count_in, processor_in, value_in, aligned_in, physical_in, register_in, base_in, has_room, is_register, is_writable, address_limit}
