@@ -4,7 +4,7 @@ use Rattle.mt_import.specs.declared.format.Format.TheVariants.{Linux}
 use Rattle.mt_import.specs.declared.reading.Said.{Said}
 use Rattle.mt_import.specs.declared.reading.Said.TheVariants.{Nothing, Announces, Value, Turns, Shows, Begins, FixedRanges, VariableRanges, Width, Warns, Long}
 use Rattle.mt_import.specs.Shown.{said_of}
-use Rattle.mt_import_laws.specs.Printed.{SaysNoMore, no_match, only_others, only_warns, only_width}
+use Rattle.mt_import_laws.specs.Printed.{SaysNoMore, no_match, only_shows, only_turns, only_warns, only_width}
 use Rattle.mt_import_laws.specs.WorkedPrinted.{ordinary_pc}
 
 -- the width of what shows one
@@ -21,9 +21,10 @@ width_in (VariableRanges enabled place) = 0
 width_in Warns = 0
 width_in (Long place) = 0
 
-pub other_width : SaysNoMore ordinary_pc (said_of Linux 1 (codes "Address sizes: 39 bits physical, 48 bits virtual")) → ⊥
+pub other_width : SaysNoMore Linux ordinary_pc (said_of Linux 1 (codes "Address sizes: 39 bits physical, 48 bits virtual")) → ⊥
 unfolding width_in
 other_width (no_match is) = let e : 39 ≡ 0 = ap width_in is in omega (arith, e)
 other_width (only_width place is) = let e : 39 ≡ 36 = ap width_in is in omega (arith, e)
 other_width (only_warns is) = let e : 39 ≡ 0 = ap width_in is in omega (arith, e)
-other_width (only_others processor shows is own others) = let e : 39 ≡ 0 = ap width_in is in omega (arith, e)
+other_width (only_turns is) = let e : 39 ≡ 0 = ap width_in is in omega (arith, e)
+other_width (only_shows processor shows is own others) = let e : 39 ≡ 0 = ap width_in is in omega (arith, e)
