@@ -1,5 +1,5 @@
 -- Lines of a kernel's table in their order, among lines that say no more of a dump than the file.
-use Rattle.std.proofs.Common.{◌≡◌, ◌∙◌, ◌+◌, ◌==◌, ℕ, Bool, true, false, List, [], ◌∷◌, ◌++◌, length, Option, Some, None, refl, sym, ap, subst, inl, inr, unwrap_or, arith, lit<, append_assoc}
+use Rattle.std.proofs.Common.{◌≡◌, ◌∙◌, ◌+◌, ◌==◌, ℕ, Bool, true, false, List, [], ◌∷◌, ◌++◌, Option, Some, None, refl, sym, ap, subst, inl, inr, unwrap_or, lit<}
 use Rattle.std.specs.Prelude.{◌||◌, if◌then◌else◌}
 use Rattle.std.specs.List.{AllByRecursion}
 use Rattle.mt_regs.specs.declared.registers.Register.TheVariants.{PhysBase, PhysMask, FixedRange, Pat, DefaultType}
@@ -48,17 +48,6 @@ split format file heading rest (other ∷ log) (inl weaves) = record { front = [
 split format file heading rest (other ∷ log) (inr weaves) =
     let later = split format file heading rest log weaves.1 in
     record { front = other ∷ later.front; behind = later.behind; log_is = ap (λ ls. other ∷ ls) later.log_is; others = (weaves.0, later.others); weaves = later.weaves }
-
--- what lines come to, and those behind them
-pub facts_split : (front : List (List ℕ)) (context : Context) (number : ℕ) (behind : List (List ℕ))
-    → facts_from context number (front ++ behind) ≡ facts_from context number front ++ facts_from (context_after_lines context number front) (number + length front) behind
-facts_split [] context number behind = ap (λ n. facts_from context n behind) (omega arith)
-facts_split (line ∷ front) context number behind =
-    let next : Context = context_behind context number line in
-    let shift : number + 1 + length front ≡ number + length (line ∷ front) = omega arith in
-    ap (λ (fs : List Fact). facts_of_line context number line ++ fs)
-    (facts_split front next (number + 1) behind ∙ ap (λ n. facts_from next (number + 1) front ++ facts_from (context_after_lines next (number + 1) front) n behind) shift)
-    ∙ sym (append_assoc (facts_of_line context number line) (facts_from next (number + 1) front) (facts_from (context_after_lines next (number + 1) front) (number + length (line ∷ front)) behind))
 
 -- ---- facts of one table that tell of a file
 

@@ -23,7 +23,7 @@ use Rattle.mt_import_laws.specs.Origins.{IsAmong}
 use Rattle.mt_import_laws.specs.Printed.{Agrees, HoldsTable, Key, ReadsAs, ReadsBack, TableReadsBack, number_at, value_in}
 use Rattle.mt_import_laws.proofs.Keys.{IsKey, within_whole}
 use Rattle.mt_import_laws.proofs.Whole.{AreAlike, IsPart, IsSeen, IsSound, Prints, alone, any_bits, held, known, no_fault, of_first, one_processor, same_file, seen_last, whole_slot}
-use Rattle.mt_import_laws.proofs.TableLines.{HasReading, IsTrueSaid, ShowsKey, gathers, lines_have, lines_show_width, lines_true, no_more_true}
+use Rattle.mt_import_laws.proofs.TableLines.{HasOwn, HasReading, IsTrueSaid, ShowsKey, gathers, lines_have, lines_show_width, lines_true, no_more_true}
 use Rattle.mt_import_laws.proofs.Back.{HasWidth, by_lines, by_word, dump_from, ended_back, width_back}
 
 -- a line of the table shows all of the register
@@ -71,11 +71,6 @@ gathered format facts = seen_after (nothing_seen (Some format)) facts
 abbrev pub IsBack : (ℕ → RegisterFile) → Format → Supplied → List Fact → ℕ → Key → Type 0
 IsBack files format supplied facts k key = values_of supplied (slot_shown (gathered format facts).readings) (known_of (gathered format facts)) k (number_at key) ≡ Some (value_in (files k) key)
 
--- a fact shows all of a processor's register
-pub record HasOwn (k : ℕ) (key : Key) (facts : List Fact) : Type 0 where
-  pub has : HasReading key all_bits facts
-  pub own : has.reading.processor ≡ k
-
 module _ (files : ℕ → RegisterFile) (count : ℕ) (prints : Prints) (format : Format) (supplied : Supplied) (alike : AreAlike files count) (words : (k : ℕ) → k < count → HasWords (files k))
     (facts : List Fact) (sound : AllByRecursion (IsSound files count prints) facts) where
   seen : Seen
@@ -106,16 +101,15 @@ module _ (files : ℕ → RegisterFile) (count : ℕ) (prints : Prints) (format 
   unfolding seen
   slot_back k less key within whole = by_slot k less key within whole
 
-  by_fact : (k : ℕ) → k < count → (key : Key) → IsInFile (files k) key → HasOwn k key facts ⊎ IsGiven supplied (files k) key → values_of supplied (slot_shown seen.readings) (known_of seen) k (number_at key) ≡ Some (value_in (files k) key)
+  by_fact : (k : ℕ) → k < count → (key : Key) → IsInFile (files k) key → HasOwn k key all_bits facts ⊎ IsGiven supplied (files k) key → values_of supplied (slot_shown seen.readings) (known_of seen) k (number_at key) ≡ Some (value_in (files k) key)
   unfolding seen
-  by_fact k less key within (inl by) =
-      let has = by.has in
+  by_fact k less key within (inl has) =
       by_slot k less key within
-      (held files count prints seen.readings k has.reading key is_seen.readings (is_key k less key within) (gathers facts (nothing_seen (Some format)) has.reading (inl has.among)) by.own has.number has.bits)
+      (held files count prints seen.readings k has.reading key is_seen.readings (is_key k less key within) (gathers facts (nothing_seen (Some format)) has.reading (inl has.among)) has.own has.number has.bits)
   by_fact k less key within (inr given) =
       by_word supplied seen k (number_at key) (value_in (files k) key) (known files count prints seen.readings k key is_seen.readings (is_key k less key within)) (fit k less key within) given
 
-  pub fact_back : (k : ℕ) → k < count → (key : Key) → IsInFile (files k) key → HasOwn k key facts ⊎ IsGiven supplied (files k) key → IsBack files format supplied facts k key
+  pub fact_back : (k : ℕ) → k < count → (key : Key) → IsInFile (files k) key → HasOwn k key all_bits facts ⊎ IsGiven supplied (files k) key → IsBack files format supplied facts k key
   unfolding seen
   fact_back k less key within by = by_fact k less key within by
 
@@ -138,8 +132,8 @@ module _ (file : RegisterFile) (prints : Prints) (format : Format) (supplied : S
   only : AllByRecursion (IsPart (same_file file) 1 prints) (gathered format facts).readings
   only = (gathered_seen (same_file file) 1 prints format supplied (alone file is) (λ k less. words) facts sound).readings
 
-  of_processor : (key : Key) → HasReading key all_bits facts → HasOwn 0 key facts
-  of_processor key has = record { has = has; own = of_first file prints (gathered format facts).readings has.reading only (gathers facts (nothing_seen (Some format)) has.reading (inl has.among)) }
+  of_processor : (key : Key) → HasReading key all_bits facts → HasOwn 0 key all_bits facts
+  of_processor key has = record { reading = has.reading; among = has.among; number = has.number; bits = has.bits; own = of_first file prints (gathered format facts).readings has.reading only (gathers facts (nothing_seen (Some format)) has.reading (inl has.among)) }
 
   pub one_by_slot : (key : Key) → IsInFile file key → (slot_shown (gathered format facts).readings 0 (number_at key)).fresh ≡ all_bits → OneBack key
   one_by_slot key within whole = slot_back (same_file file) 1 prints format supplied (alone file is) (λ k less. words) facts sound 0 (lit< tt) key within whole
