@@ -47,5 +47,8 @@ mod KernelWeave
 mod KernelTable
 mod RdmsrLines
 mod RdmsrTable
+mod Several
+mod RdmsrAll
+mod X86infoAll
 mod WorkedFiles
 mod Others

@@ -332,8 +332,11 @@ module _ (at : ℕ) (print : Print) (file : RegisterFile) (supplied : Supplied) 
   default_by true has = inl (in_last true has (Some DefaultType) (inr (inr (inr (inr (inr (inr (inr (inr (inr (inl refl)))))))))))
   default_by false none = inr (suits.default_type none)
 
+  pub capability_line : HasLine X86info (x86info_lines print file) None
+  capability_line = in_first (has_fixed file) refl None (inl refl)
+
   pub each_key : (key : Key) → IsInFile file key → HasBoth key
-  each_key None within = inl (in_first (has_fixed file) refl None (inl refl))
+  each_key None within = inl capability_line
   each_key (Some (PhysBase n)) within = base_by n within
   each_key (Some (PhysMask n)) within = mask_by n within
   each_key (Some (FixedRange place)) within = fixed_by place within.0 within.1
