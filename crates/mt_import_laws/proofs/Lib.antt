@@ -51,4 +51,5 @@ mod Several
 mod RdmsrAll
 mod X86infoAll
 mod WorkedFiles
+mod WorkedCpus
 mod Others
