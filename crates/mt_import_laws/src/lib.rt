@@ -16,6 +16,7 @@ pub use laws::{
     warnings_are_told, widths_that_differ_are_faults, words_that_contradict_are_faults,
 };
 pub use printers::{
+    auto_takes_what_is_printed,
     what_coreboot_displays_reads_back, what_edk2_prints_reads_back,
     what_inteltool_prints_reads_back, what_linux_prints_reads_back,
     what_rdmsr_prints_of_all_reads_back, what_rdmsr_prints_reads_back,
