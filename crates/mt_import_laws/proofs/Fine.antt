@@ -17,7 +17,7 @@ use Rattle.mt_import.specs.Slot.{clashes}
 use Rattle.mt_import.specs.Supplied.{Supplied, bits_differ, supplied_value}
 use Rattle.mt_import.specs.Outcome.{Seen, capabilities_shown, contradiction, count_rival, counts_fewer, enabled_pair, fact_fault, last_shown, facts_fault, fixed_rival, or_fault, or_rival, pairs_fault, reading_fault, rival, seen_after, seen_with, slot_shown}
 use Rattle.mt_import_laws.specs.Origins.{IsAmong}
-use Rattle.mt_import_laws.proofs.Bits.{bit_first, bit_second, not_false, value_kept, value_new}
+use Rattle.mt_import_laws.proofs.Bits.{bit_first, bit_second, not_false, same_number, value_kept, value_new}
 
 -- neither on bits and VCNT nor on FIX
 pub record HasNoRival (supplied : Supplied) (before : List Reading) (reading : Reading) : Type 0 where
@@ -122,9 +122,6 @@ module _ (before : List Reading) (other reading : Reading) (i : ℕ) (fits : cla
       rw (same, same_too) (record { shown = bit_first old.bits other.bits i has.shown; value = value_kept old other i fit has.shown ∙ has.value })
   kept has true false same apart = rw (same, apart) has
   kept has false number_test apart same = rw apart has
-
-pub same_number : (a b : ℕ) → a ≡ b → (a == b) ≡ true
-same_number a b e = grind (arith, nat_tests, e)
 
 here : (before : List Reading) (reading : Reading) (i : ℕ) → clashes (slot_shown before reading.processor reading.number) reading ≡ false → bit_at reading.bits i ≡ 1
     → HasBit (slot_shown (reading ∷ before) reading.processor reading.number) reading i

@@ -16,10 +16,11 @@ use Rattle.mt_import_laws.specs.Origins.{IsAmong, context_after_lines}
 use Rattle.mt_import_laws.specs.Printed.{IsSame, Key, SaysNoMore, TellsNoMore, Weaves, is_kernel, no_match, number_at, only_shows, only_turns, only_warns, only_width}
 use Rattle.mt_import_laws.specs.PrintedByEdk2.{is_valid}
 use Rattle.mt_import_laws.proofs.Among.{each_among}
+use Rattle.mt_import_laws.proofs.Bits.{same_number}
 use Rattle.mt_import_laws.proofs.KernelParts.{kernel_bits}
 use Rattle.mt_import_laws.proofs.PartsBack.{IsOfTable}
 use Rattle.mt_import_laws.proofs.TableLines.{IsTrueShown, all_join, lines_true, no_more_true, of_line, said_true, shows_true}
-use Rattle.mt_import_laws.proofs.Whole.{IsSound, same_file, same_number}
+use Rattle.mt_import_laws.proofs.Whole.{IsSound, same_file}
 
 -- ---- each line of the table is one of the log, and each line of the log one of the table or no more
 pub weaves_among : (format : Format) (file : RegisterFile) (table log : List (List ℕ)) (line : List ℕ) → Weaves format file table log → IsAmong line table → IsAmong line log

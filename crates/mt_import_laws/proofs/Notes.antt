@@ -334,18 +334,18 @@ each_noted supplied seen told origins k number value less among assumed =
     both : {a b : Bool} → a ≡ true → b ≡ true → (a && b) ≡ true
     both one two = rw (one, two) refl
 
+abbrev register_notes : Supplied → Seen → List ℕ
+register_notes supplied seen = note_lines (firm supplied seen) (values supplied seen) (processors seen.readings) (needed (values supplied seen 0 0xfe))
+
 pub assumed_noted : (supplied : Supplied) (seen : Seen) (told : Told) (origins : HasOrigins supplied seen told) → AreNoted supplied seen origins.capabilities told.notes
 assumed_noted supplied seen told origins = record {
   each = each_noted supplied seen told origins;
   width = λ width assumed. record {
-    others = registers;
-    notes_are = origins.notes_are ∙ ap (λ (t : List ℕ). t ++ registers) (ap (λ o. width_note o (width_by supplied (slot_shown seen.readings) seen.width)) assumed.unfirm ∙ ap (width_note None) assumed.width_is);
+    others = register_notes supplied seen;
+    notes_are = origins.notes_are ∙ ap (λ (t : List ℕ). t ++ register_notes supplied seen) (ap (λ o. width_note o (width_by supplied (slot_shown seen.readings) seen.width)) assumed.unfirm ∙ ap (width_note None) assumed.width_is);
   };
   only = subst (AreTrueNotes supplied seen origins.capabilities) (sym origins.notes_are)
-      (both_true supplied seen origins.capabilities (width_note (firm_width supplied seen.width) (width_by supplied (slot_shown seen.readings) seen.width)) registers
+      (both_true supplied seen origins.capabilities (width_note (firm_width supplied seen.width) (width_by supplied (slot_shown seen.readings) seen.width)) (register_notes supplied seen)
       (width_true supplied seen origins.capabilities (firm_width supplied seen.width) (width_by supplied (slot_shown seen.readings) seen.width) refl refl)
       (lines_true supplied seen origins.capabilities (needed (values supplied seen 0 0xfe)) (λ number among. subst (λ c. IsAmong number (needed c)) origins.capabilities_is among)));
 }
-  where
-    abbrev registers : List ℕ
-    registers = note_lines (firm supplied seen) (values supplied seen) (processors seen.readings) (needed (values supplied seen 0 0xfe))

@@ -1,5 +1,5 @@
 -- A register that comes out of readings of its parts, and a pair that is off.
-use Rattle.std.proofs.Common.{◌≡◌, ◌∙◌, ◌^◌, ◌<◌, ◌==◌, ◌&&◌, ℕ, Bool, true, false, List, [], ◌∷◌, Option, Some, None, refl, sym, ap, arith, inl, inr, bit_or}
+use Rattle.std.proofs.Common.{◌≡◌, ◌∙◌, ◌^◌, ◌<◌, ◌==◌, ◌&&◌, ℕ, Bool, true, false, List, [], ◌∷◌, Option, Some, None, refl, sym, ap, subst, arith, inl, inr, bit_or}
 use Rattle.std.specs.Prelude.{◌⊎◌, ⊤, if◌then◌else◌}
 use Rattle.std.specs.Int.{bit_at}
 use Rattle.std.specs.List.{AllByRecursion}
@@ -18,7 +18,7 @@ use Rattle.mt_import.specs.Outcome.{Seen, known_by, known_of, seen_after, seen_w
 use Rattle.mt_import.proofs.Same.{value_is}
 use Rattle.mt_import_laws.specs.Origins.{IsAmong}
 use Rattle.mt_import_laws.specs.Printed.{Agrees, Key, number_at, value_in}
-use Rattle.mt_import_laws.proofs.Bits.{bit_first, bit_second}
+use Rattle.mt_import_laws.proofs.Bits.{bit_first, bit_second, same_number}
 use Rattle.mt_import_laws.proofs.Keys.{IsKey, same_key, value_at_key}
 use Rattle.mt_import_laws.proofs.PartBits.{whole_by_bits}
 use Rattle.mt_import_laws.proofs.Whole.{IsKnown, IsPart, Prints, known, same_file, whole_slot}
@@ -61,9 +61,6 @@ module _ (file : RegisterFile) (prints : Prints) (key : Key) (is_key : IsKey key
   abbrev slot : List Reading → Slot
   slot readings = slot_shown readings 0 (number_at key)
 
-  same : (a b : ℕ) → a ≡ b → (a == b) ≡ true
-  same a b e = grind (arith, nat_tests, e)
-
   -- a bit that a reading shows
   new_bit : (before : List Reading) (reading : Reading) (i : ℕ) → i < 64 → bit_at reading.bits i ≡ 1 → bit_at (slot_with (slot before) reading).fresh i ≡ 1
   new_bit before reading i within one = by (is_whole (slot before)) ((slot before).table == reading.table) refl
@@ -82,7 +79,7 @@ module _ (file : RegisterFile) (prints : Prints) (key : Key) (is_key : IsKey key
     at : s.table ≡ table
 
   old_bit : (before : List Reading) (reading : Reading) (i : ℕ) → IsFresh (slot before) i → reading.table ≡ table → bit_at (slot_with (slot before) reading).fresh i ≡ 1
-  old_bit before reading i earlier at = by (is_whole (slot before)) ((slot before).table == reading.table) (same (slot before).table reading.table (earlier.at ∙ sym at))
+  old_bit before reading i earlier at = by (is_whole (slot before)) ((slot before).table == reading.table) (same_number (slot before).table reading.table (earlier.at ∙ sym at))
     where
       by : (whole test : Bool) → test ≡ true → bit_at (if whole then (slot before).fresh else if test then bit_or (slot before).fresh reading.bits else reading.bits) i ≡ 1
       by true test is = earlier.bit
@@ -94,7 +91,7 @@ module _ (file : RegisterFile) (prints : Prints) (key : Key) (is_key : IsKey key
   fresh_bit [] reading i parts recent number within one = absurd recent
   fresh_bit (other ∷ before) reading i parts recent number within one = elim recent.1 [
     | inl found ↦
-        rw (same other.processor 0 (zero_of other.processor parts.0.processor), same other.number (number_at key) (ap (λ (r : Reading). r.number) found ∙ number))
+        rw (same_number other.processor 0 (zero_of other.processor parts.0.processor), same_number other.number (number_at key) (ap (λ (r : Reading). r.number) found ∙ number))
         (record { bit = new_bit before other i within (ap (λ (r : Reading). bit_at r.bits i) found ∙ one); at = recent.0 })
     | inr later ↦ by (other.processor == 0 && other.number == number_at key) (fresh_bit before reading i parts.1 later number within one)
   ]
@@ -141,7 +138,7 @@ module _ (file : RegisterFile) (prints : Prints) (key : Key) (is_key : IsKey key
     held_bits [] reading parts among number = absurd among
     held_bits (other ∷ before) reading parts (inl found) number =
         let here : other.number ≡ number_at key = ap (λ (r : Reading). r.number) found ∙ number in
-        rw (same other.processor 0 (zero_of other.processor parts.0.processor), same other.number (number_at key) here) (with_bits (slot before).bits other.bits (none_or_bits before parts.1) (own_bits other parts.0 here))
+        rw (same_number other.processor 0 (zero_of other.processor parts.0.processor), same_number other.number (number_at key) here) (with_bits (slot before).bits other.bits (none_or_bits before parts.1) (own_bits other parts.0 here))
     held_bits (other ∷ before) reading parts (inr later) number = by (other.processor == 0) (other.number == number_at key) refl (held_bits before reading parts.1 later number)
       where
         by : (p n : Bool) → (other.number == number_at key) ≡ n → (slot before).bits ≡ bits → (if p && n then slot_with (slot before) other else slot before).bits ≡ bits

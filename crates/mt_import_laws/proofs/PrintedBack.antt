@@ -1,10 +1,11 @@
 -- Facts that tell of files give the files back, and so does a table whose lines are read as registers of a file.
-use Rattle.std.proofs.Common.{◌≡◌, ◌∙◌, ◌^◌, ◌<◌, ℕ, true, false, List, [], ◌∷◌, Some, None, refl, sym, ap, subst, inl, inr, arith, lit<}
+use Rattle.std.proofs.Common.{◌≡◌, ◌∙◌, ◌^◌, ◌<◌, ℕ, Bool, true, false, not, ◌==◌, List, [], ◌∷◌, ◌++◌, Some, None, refl, sym, ap, subst, inl, inr, arith, lit<}
 use Rattle.std.specs.Prelude.{◌⊎◌}
 use Rattle.std.specs.List.{AllByRecursion, list_all}
-use Rattle.mt_text.specs.Text.{lines_of}
+use Rattle.std.proofs.lemmas.Bool.{and_parts}
+use Rattle.mt_text.specs.Text.{is_line_end, lines_of}
 use Rattle.mt_text.specs.declared.place.Place.{Place}
-use Rattle.mt_text.proofs.Plain.{is_plain, lines_of-line}
+use Rattle.mt_text.proofs.Plain.{is_plain, no_line_end}
 use Rattle.mt_regs.specs.RegisterFile.{IsRegisterFile, RegisterFile}
 use Rattle.mt_regs.specs.Registers.{IsWithin, number_of, value_of}
 use Rattle.mt_regs.proofs.ByNumber.{value_at-number_of}
@@ -185,9 +186,36 @@ module _ (file : RegisterFile) (format : Format) (table : List (List ℕ)) (supp
 
 -- ---- the table alone
 
+-- no byte of a line ends it
+abbrev pub IsOneLine : List ℕ → Type 0
+IsOneLine line = list_all (λ byte. not (is_line_end byte)) line ≡ true
+
+ended_line : (line rest : List ℕ) → IsOneLine line → lines_of (line ++ 10 ∷ rest) ≡ line ∷ lines_of rest
+ended_line [] rest one = refl
+ended_line (byte ∷ bytes) rest one =
+    let parts = and_parts (not (is_line_end byte)) (list_all (λ other. not (is_line_end other)) bytes) one in
+    rw (not_true (is_line_end byte) parts.0, ended_line bytes rest parts.1) refl
+  where
+    not_true : (test : Bool) → not test ≡ true → test ≡ false
+    not_true true is = cc is
+    not_true false is = refl
+
+pub one_lines_back : (lines : List (List ℕ)) → AllByRecursion IsOneLine lines → lines_of (ended lines) ≡ lines
+one_lines_back [] ones = refl
+one_lines_back (line ∷ lines) ones = ended_line line (ended lines) ones.0 ∙ ap (λ ls. line ∷ ls) (one_lines_back lines ones.1)
+
+one_line : (line : List ℕ) → list_all is_plain line ≡ true → IsOneLine line
+one_line [] plain = refl
+one_line (byte ∷ bytes) plain =
+    let parts = and_parts (is_plain byte) (list_all is_plain bytes) plain in
+    rw (no_line_end byte parts.0) (one_line bytes parts.1)
+
+pub one_lines : (lines : List (List ℕ)) → AllByRecursion (λ line. list_all is_plain line ≡ true) lines → AllByRecursion IsOneLine lines
+one_lines [] plain = tt
+one_lines (line ∷ lines) plain = (one_line line plain.0, one_lines lines plain.1)
+
 pub lines_back : (lines : List (List ℕ)) → AllByRecursion (λ line. list_all is_plain line ≡ true) lines → lines_of (ended lines) ≡ lines
-lines_back [] plain = refl
-lines_back (line ∷ lines) plain = lines_of-line line (ended lines) plain.0 ∙ ap (λ ls. line ∷ ls) (lines_back lines plain.1)
+lines_back lines plain = one_lines_back lines (one_lines lines plain)
 
 holds_itself : (format : Format) (file : RegisterFile) (table : List (List ℕ)) → AllByRecursion (λ line. list_all is_plain line ≡ true) table → HoldsTable format file table (ended table)
 holds_itself format file table plain =

@@ -25,7 +25,7 @@ use Rattle.mt_import_laws.specs.PrintedByRdmsr.{SuitsRdmsrOfAll, all_calls, all_
 use Rattle.mt_import_laws.proofs.AutoReads.{text_as}
 use Rattle.mt_import_laws.proofs.KeyLines.{all_keys, among_all, in_file, low}
 use Rattle.mt_import_laws.proofs.Keys.{IsKey, is_register_key}
-use Rattle.mt_import_laws.proofs.PrintedBack.{IsInFile, fits, key_in_file}
+use Rattle.mt_import_laws.proofs.PrintedBack.{IsInFile, fits, key_in_file, lines_back}
 use Rattle.mt_import_laws.proofs.RdmsrLines.{all_plain, all_said, value_place, value_plain, value_said}
 use Rattle.mt_import_laws.proofs.Several.{are_alike, each_at, file_at, first_at, in_each, in_first, several_back}
 use Rattle.mt_import_laws.proofs.TableLines.{HasOwn, all_join, next_format, own_first, own_later, shown_true, tells_whole}
@@ -238,5 +238,5 @@ module _ (files : List RegisterFile) (supplied : Supplied) (suits : SuitsRdmsrOf
   pub reads : TextReadsAs Rdmsr (ended (rdmsr_all_lines files)) supplied (dump_of_all files)
   reads =
       text_as Rdmsr supplied (dump_of_all files) (rdmsr_all_lines files) plain (first_call files)
-      (several_back Rdmsr any_bits supplied files suits.is_dump suits.has_words suits.agrees (rdmsr_all_lines files) plain sound (inl suits.width) (λ k less. have k less None (inl refl))
+      (several_back Rdmsr any_bits supplied files suits.is_dump suits.has_words suits.agrees (rdmsr_all_lines files) (lines_back (rdmsr_all_lines files) plain) sound (inl suits.width) (λ k less. have k less None (inl refl))
       (λ k less key within. inl (have k less key (among_all (first_of files) key first_is (in_first files k suits.is_dump less key within)))))

@@ -47,13 +47,13 @@ module _ (values : ℕ → Option ℕ) (width capabilities : ℕ) where
     other : (number_of register == 0xfe) ≡ false
     value : (v : ℕ) → values (number_of register) ≡ Some v → value_of (file_of values width capabilities) register ≡ v
 
-  pair_in : (count n : ℕ) → n < count → pair_at (first_pairs values count) n ≡ (value_or_zero values (0x200 + 2 * n), value_or_zero values (0x201 + 2 * n))
+  abbrev pair : ℕ → ℕ × ℕ
+  pair n = (value_or_zero values (0x200 + 2 * n), value_or_zero values (0x201 + 2 * n))
+
+  pair_in : (count n : ℕ) → n < count → pair_at (first_pairs values count) n ≡ pair n
   pair_in zero n less = absurd (omega (arith, less))
   pair_in (suc count) n less = by (cases_lt n count) (pair_in count n)
     where
-      abbrev pair : ℕ → ℕ × ℕ
-      pair k = (value_or_zero values (0x200 + 2 * k), value_or_zero values (0x201 + 2 * k))
-
       top : (a b : ℕ) → a < suc b → b ≤ a → b ≡ a
       top a b below above = omega (arith, below, above)
 
@@ -123,13 +123,13 @@ module _ (values : ℕ → Option ℕ) (width capabilities : ℕ) where
 -- ---- the sections
 
 module _ (values : ℕ → ℕ → Option ℕ) (width capabilities : ℕ) where
-  pub section_at : (count k : ℕ) → k < count → slice_get (files_of values width capabilities count) k ≡ Some (file_of (values k) width capabilities)
+  abbrev section : ℕ → RegisterFile
+  section k = file_of (values k) width capabilities
+
+  pub section_at : (count k : ℕ) → k < count → slice_get (files_of values width capabilities count) k ≡ Some (section k)
   section_at zero k less = absurd (omega (arith, less))
   section_at (suc count) k less = by (cases_lt k count) (section_at count k)
     where
-      abbrev section : ℕ → RegisterFile
-      section j = file_of (values j) width capabilities
-
       top : (a b : ℕ) → a < suc b → b ≤ a → b ≡ a
       top a b below above = omega (arith, below, above)
 

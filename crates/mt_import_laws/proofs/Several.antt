@@ -1,8 +1,8 @@
 -- The files of several processors come back.
 use Rattle.std.proofs.Common.{◌≡◌, ◌∙◌, ◌+◌, ◌-◌, ◌<◌, ◌≤◌, ℕ, zero, suc, true, false, List, [], ◌∷◌, ◌++◌, length, None, Some, refl, sym, ap, subst, arith, inl}
 use Rattle.std.specs.Prelude.{◌⊎◌}
-use Rattle.std.specs.List.{AllByRecursion, list_all}
-use Rattle.mt_text.proofs.Plain.{is_plain}
+use Rattle.std.specs.List.{AllByRecursion}
+use Rattle.mt_text.specs.Text.{lines_of}
 use Rattle.mt_regs.specs.RegisterFile.{IsRegisterFile, RegisterFile, blank_file}
 use Rattle.mt_regs.specs.Registers.{IsWithin}
 use Rattle.mt_regs.specs.Words.{HasWords}
@@ -19,7 +19,7 @@ use Rattle.mt_import.specs.Import.{log_told}
 use Rattle.mt_import_laws.specs.Printed.{Agrees, Key, ReadsAs, dump_of_all}
 use Rattle.mt_import_laws.proofs.Back.{HasWidth, first_files}
 use Rattle.mt_import_laws.proofs.Keys.{within_alike}
-use Rattle.mt_import_laws.proofs.PrintedBack.{IsGiven, IsInFile, fact_back, gathered, gathered_seen, lines_back, values_back}
+use Rattle.mt_import_laws.proofs.PrintedBack.{IsGiven, IsInFile, fact_back, gathered, gathered_seen, values_back}
 use Rattle.mt_import_laws.proofs.TableLines.{HasOwn, gathers}
 use Rattle.mt_import_laws.proofs.Whole.{AreAlike, IsSound, Prints, all_processors}
 
@@ -100,11 +100,11 @@ module _ (format : Format) (prints : Prints) (supplied : Supplied) (files : List
 
 -- a text of such lines
 pub several_back : (format : Format) (prints : Prints) (supplied : Supplied) (files : List RegisterFile) → IsDump (dump_of_all files) → AllByRecursion HasWords files → AllByRecursion (Agrees supplied) files
-    → (lines : List (List ℕ)) → AllByRecursion (λ line. list_all is_plain line ≡ true) lines → AllByRecursion (IsSound (file_at files) (length files) prints) (facts_from (starts (Some format)) 1 lines)
+    → (lines : List (List ℕ)) → lines_of (ended lines) ≡ lines → AllByRecursion (IsSound (file_at files) (length files) prints) (facts_from (starts (Some format)) 1 lines)
     → HasWidth (first_of files) supplied (facts_from (starts (Some format)) 1 lines)
     → ((k : ℕ) → k < length files → HasOwn k None all_bits (facts_from (starts (Some format)) 1 lines))
     → ((k : ℕ) → k < length files → (key : Key) → IsInFile (file_at files k) key → HasOwn k key all_bits (facts_from (starts (Some format)) 1 lines) ⊎ IsGiven supplied (file_at files k) key)
     → ReadsAs (log_told (Only format) supplied (ended lines)) (dump_of_all files)
-several_back format prints supplied files is words agrees lines plain sound width first all =
-    subst (λ ls. ReadsAs (outcome false supplied (nothing_seen (Some format)) (facts_from (starts (Some format)) 1 ls)) (dump_of_all files)) (sym (lines_back lines plain))
+several_back format prints supplied files is words agrees lines same sound width first all =
+    subst (λ ls. ReadsAs (outcome false supplied (nothing_seen (Some format)) (facts_from (starts (Some format)) 1 ls)) (dump_of_all files)) (sym same)
     (facts_as format prints supplied files is words agrees (facts_from (starts (Some format)) 1 lines) sound width first all)

@@ -24,6 +24,7 @@ use Rattle.mt_import.specs.Outcome.{Seen, capability_rival, count_rival, counted
 use Rattle.mt_import_laws.specs.Origins.{IsAmong}
 use Rattle.mt_import_laws.specs.Printed.{Agrees, Key, number_at, value_in}
 use Rattle.mt_import_laws.proofs.Keys.{IsKey, same_key, value_at_key}
+use Rattle.mt_import_laws.proofs.Bits.{same_number}
 use Rattle.mt_import_laws.proofs.PartBits.{all_or, covers_both, covers_new, covers_old, parts_agree, parts_join, whole_of_part}
 
 -- the bits that lines may show of a register
@@ -81,9 +82,6 @@ whole_slot slot value is fits whole = record {
   fresh = whole;
   shows = is.shows ∙ whole_of_part value slot.bits fits (ap (bit_and slot.bits) (sym whole) ∙ is.covers ∙ whole);
 }
-
-same_number : (a b : ℕ) → a ≡ b → (a == b) ≡ true
-same_number a b e = grind (arith, nat_tests, e)
 
 -- ---- one more reading of a register
 

@@ -1,10 +1,10 @@
 -- What x86info prints of all processors reads back.
 use Rattle.std.proofs.Common.{◌≡◌, ◌∙◌, ◌+◌, ◌<◌, ◌≤◌, ℕ, zero, suc, true, List, [], ◌∷◌, ◌++◌, length, Option, None, Some, refl, sym, ap, subst, inl, inr, arith}
+use Rattle.std.specs.Fmt.{digits}
 use Rattle.std.specs.Prelude.{◌⊎◌}
-use Rattle.std.specs.List.{AllByRecursion, list_all}
+use Rattle.std.specs.List.{AllByRecursion}
 use Rattle.std.proofs.lemmas.Bool.{cases_lt}
 use Rattle.mt_text.specs.declared.place.Place.{Place}
-use Rattle.mt_text.proofs.Plain.{is_plain}
 use Rattle.mt_regs.specs.RegisterFile.{RegisterFile}
 use Rattle.mt_regs.specs.Words.{HasWords}
 use Rattle.mt_dump.specs.Canon.{ended}
@@ -23,7 +23,7 @@ use Rattle.mt_import_laws.specs.Printed.{Agrees, Key, ReadsAs, dump_of_all}
 use Rattle.mt_import_laws.specs.PrintedByX86info.{Print, SuitsX86info, SuitsX86infoOfAll, cpu_line, cpu_lines, files_in, x86info_lines}
 use Rattle.mt_import_laws.proofs.Among.{join_among_first, join_among_second}
 use Rattle.mt_import_laws.proofs.Back.{HasWidth}
-use Rattle.mt_import_laws.proofs.PrintedBack.{HasLine, IsGiven, IsInFile, WidthLine, key_in_file}
+use Rattle.mt_import_laws.proofs.PrintedBack.{HasLine, IsGiven, IsInFile, IsOneLine, WidthLine, one_lines_back, key_in_file, one_lines}
 use Rattle.mt_import_laws.proofs.Several.{are_alike, each_at, file_at, first_at, several_back}
 use Rattle.mt_import_laws.proofs.TableLines.{HasOwn, IsTrueSaid, all_join, facts_split, lines_format, lines_have_own, lines_show_width, lines_true, next_format, own_first, own_later}
 use Rattle.mt_import_laws.proofs.Whole.{AreAlike, IsSound, any_bits}
@@ -32,6 +32,7 @@ use Rattle.mt_import_laws.proofs.X86infoTable.{capability_line, each_key, table_
 -- ---- `CPU #1:`
 
 turns : (k number : ℕ) → k < 16 → said_of X86info number (cpu_line k) ≡ Turns k
+unfolding digits
 turns zero number less = refl
 turns (suc zero) number less = refl
 turns (suc (suc zero)) number less = refl
@@ -50,24 +51,25 @@ turns (suc (suc (suc (suc (suc (suc (suc (suc (suc (suc (suc (suc (suc (suc zero
 turns (suc (suc (suc (suc (suc (suc (suc (suc (suc (suc (suc (suc (suc (suc (suc zero))))))))))))))) number less = refl
 turns (suc (suc (suc (suc (suc (suc (suc (suc (suc (suc (suc (suc (suc (suc (suc (suc k)))))))))))))))) number less = absurd (omega (arith, less))
 
-line_plain : (k : ℕ) → k < 16 → list_all is_plain (cpu_line k) ≡ true
-line_plain zero less = refl
-line_plain (suc zero) less = refl
-line_plain (suc (suc zero)) less = refl
-line_plain (suc (suc (suc zero))) less = refl
-line_plain (suc (suc (suc (suc zero)))) less = refl
-line_plain (suc (suc (suc (suc (suc zero))))) less = refl
-line_plain (suc (suc (suc (suc (suc (suc zero)))))) less = refl
-line_plain (suc (suc (suc (suc (suc (suc (suc zero))))))) less = refl
-line_plain (suc (suc (suc (suc (suc (suc (suc (suc zero)))))))) less = refl
-line_plain (suc (suc (suc (suc (suc (suc (suc (suc (suc zero))))))))) less = refl
-line_plain (suc (suc (suc (suc (suc (suc (suc (suc (suc (suc zero)))))))))) less = refl
-line_plain (suc (suc (suc (suc (suc (suc (suc (suc (suc (suc (suc zero))))))))))) less = refl
-line_plain (suc (suc (suc (suc (suc (suc (suc (suc (suc (suc (suc (suc zero)))))))))))) less = refl
-line_plain (suc (suc (suc (suc (suc (suc (suc (suc (suc (suc (suc (suc (suc zero))))))))))))) less = refl
-line_plain (suc (suc (suc (suc (suc (suc (suc (suc (suc (suc (suc (suc (suc (suc zero)))))))))))))) less = refl
-line_plain (suc (suc (suc (suc (suc (suc (suc (suc (suc (suc (suc (suc (suc (suc (suc zero))))))))))))))) less = refl
-line_plain (suc (suc (suc (suc (suc (suc (suc (suc (suc (suc (suc (suc (suc (suc (suc (suc k)))))))))))))))) less = absurd (omega (arith, less))
+one_cpu_line : (k : ℕ) → k < 16 → IsOneLine (cpu_line k)
+unfolding digits
+one_cpu_line zero less = refl
+one_cpu_line (suc zero) less = refl
+one_cpu_line (suc (suc zero)) less = refl
+one_cpu_line (suc (suc (suc zero))) less = refl
+one_cpu_line (suc (suc (suc (suc zero)))) less = refl
+one_cpu_line (suc (suc (suc (suc (suc zero))))) less = refl
+one_cpu_line (suc (suc (suc (suc (suc (suc zero)))))) less = refl
+one_cpu_line (suc (suc (suc (suc (suc (suc (suc zero))))))) less = refl
+one_cpu_line (suc (suc (suc (suc (suc (suc (suc (suc zero)))))))) less = refl
+one_cpu_line (suc (suc (suc (suc (suc (suc (suc (suc (suc zero))))))))) less = refl
+one_cpu_line (suc (suc (suc (suc (suc (suc (suc (suc (suc (suc zero)))))))))) less = refl
+one_cpu_line (suc (suc (suc (suc (suc (suc (suc (suc (suc (suc (suc zero))))))))))) less = refl
+one_cpu_line (suc (suc (suc (suc (suc (suc (suc (suc (suc (suc (suc (suc zero)))))))))))) less = refl
+one_cpu_line (suc (suc (suc (suc (suc (suc (suc (suc (suc (suc (suc (suc (suc zero))))))))))))) less = refl
+one_cpu_line (suc (suc (suc (suc (suc (suc (suc (suc (suc (suc (suc (suc (suc (suc zero)))))))))))))) less = refl
+one_cpu_line (suc (suc (suc (suc (suc (suc (suc (suc (suc (suc (suc (suc (suc (suc (suc zero))))))))))))))) less = refl
+one_cpu_line (suc (suc (suc (suc (suc (suc (suc (suc (suc (suc (suc (suc (suc (suc (suc (suc k)))))))))))))))) less = absurd (omega (arith, less))
 
 -- ---- the lines, by the places of processors
 
@@ -215,13 +217,11 @@ module _ (prints : ℕ → Print) (files : ℕ → RegisterFile) (count : ℕ) (
             (join_among_first (block_facts 0 less context number is) behind (is_width (files 0).width has.0) has.1),
       )
 
-  all_plain : (k n : ℕ) → k + n ≤ count → AllByRecursion (λ line. list_all is_plain line ≡ true) (lines_by prints files k n)
-  all_plain k zero within = tt
-  all_plain k (suc n) within =
-      let less : k < count = omega (arith, within) in (
-        line_plain k (below k less),
-        all_join (λ line. list_all is_plain line ≡ true) (block k) (lines_by prints files (k + 1) n) (table_plain k (prints k) (files k) supplied (suits k less)) (all_plain (k + 1) n (omega (arith, within))),
-      )
+  all_ones : (k n : ℕ) → k + n ≤ count → AllByRecursion IsOneLine (lines_by prints files k n)
+  all_ones k zero within = tt
+  all_ones k (suc n) within =
+      let less : k < count = omega (arith, within) in
+      (one_cpu_line k (below k less), all_join IsOneLine (block k) (lines_by prints files (k + 1) n) (one_lines (block k) (table_plain k (prints k) (files k) supplied (suits k less))) (all_ones (k + 1) n (omega (arith, within))))
 
 -- ---- the text
 
@@ -243,8 +243,8 @@ module _ (cpus : List (Print × RegisterFile)) (supplied : Supplied) (suits : Su
   abbrev facts : List Fact
   facts = facts_from (starts (Some X86info)) 1 (cpu_lines 0 cpus)
 
-  plain : AllByRecursion (λ line. list_all is_plain line ≡ true) (cpu_lines 0 cpus)
-  plain = subst (AllByRecursion (λ line. list_all is_plain line ≡ true)) (sym same) (all_plain (print_at cpus) (file_at files) (length files) supplied alike each 0 (length files) (omega arith))
+  ones : AllByRecursion IsOneLine (cpu_lines 0 cpus)
+  ones = subst (AllByRecursion IsOneLine) (sym same) (all_ones (print_at cpus) (file_at files) (length files) supplied alike each 0 (length files) (omega arith))
 
   sound : AllByRecursion (IsSound (file_at files) (length files) any_bits) facts
   sound =
@@ -276,7 +276,7 @@ module _ (cpus : List (Print × RegisterFile)) (supplied : Supplied) (suits : Su
   pub reads : ReadsAs (log_told (Only X86info) supplied (ended (cpu_lines 0 cpus))) (dump_of_all files)
   reads =
       several_back X86info any_bits supplied files suits.is_dump (of_files supplied HasWords (λ print file is. is.has_words) cpus suits.each) (of_files supplied (Agrees supplied) (λ print file is. is.agrees) cpus suits.each)
-      (cpu_lines 0 cpus) plain sound (subst (λ file. HasWidth file supplied facts) (first_at files) (shown_width (length files) refl))
+      (cpu_lines 0 cpus) (one_lines_back (cpu_lines 0 cpus) ones) sound (subst (λ file. HasWidth file supplied facts) (first_at files) (shown_width (length files) refl))
       (λ k less. have k less None tt (first_line k less))
       (λ k less key within. by k less key within (each_key k (print_at cpus k) (file_at files k) supplied (each k less) key within))
     where
