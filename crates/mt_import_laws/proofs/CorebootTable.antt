@@ -18,7 +18,6 @@ use Rattle.mt_import_laws.proofs.CorebootLines.{IsNamed, is_displayed, line_plai
 use Rattle.mt_import_laws.proofs.KeyLines.{ShowsAlone, has_line, lines_true}
 use Rattle.mt_import_laws.proofs.Keys.{IsKey, all_within}
 use Rattle.mt_import_laws.proofs.PrintedBack.{HasLine, IsGiven, IsInFile, fits, key_in_file, table_back}
-use Rattle.mt_import_laws.proofs.Whole.{any_bits}
 
 shown_fixed : (register : Register) → is_fixed register ≡ true → is_displayed (Some register) ≡ true
 shown_fixed (PhysBase n) is = refl

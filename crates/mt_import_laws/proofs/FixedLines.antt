@@ -1,6 +1,6 @@
 -- Lines on fixed ranges that don't agree are a fault.
 use Rattle.std.proofs.Common.{◌≡◌, ◌+◌, ℕ, Bool, true, false, List, [], ◌∷◌, Option, Some, None, refl, sym, ◌∙◌, ap, inl, inr}
-use Rattle.std.specs.Prelude.{◌⊎◌, if◌then◌else◌}
+use Rattle.std.specs.Prelude.{if◌then◌else◌}
 use Rattle.mt_ports.specs.declared.status.Status.TheVariants.{BadText}
 use Rattle.mt_text.specs.Text.{lines_of}
 use Rattle.mt_import.specs.declared.fault.ImportFault.TheVariants.{Contradiction}
@@ -10,7 +10,7 @@ use Rattle.mt_import.specs.declared.reading.Context.{Context}
 use Rattle.mt_import.specs.declared.reading.Said.{Said}
 use Rattle.mt_import.specs.declared.reading.Said.TheVariants.{Nothing, Announces, Value, Turns, Shows, Begins, FixedRanges, VariableRanges, Width, Warns, Long}
 use Rattle.mt_import.specs.declared.shape.FixedLine.{FixedLine}
-use Rattle.mt_import.specs.Readings.{fixed_after, fixed_facts, fixed_line, fixed_shows, is_fault, is_fixed_clash, is_line, is_match, said_facts, shows_facts, starts, unlike}
+use Rattle.mt_import.specs.Readings.{fixed_after, fixed_line, fixed_shows, is_fault, is_fixed_clash, is_line, is_match, said_facts, shows_facts, starts, unlike}
 use Rattle.mt_import.specs.Shown.{chosen, context_behind, facts_from, facts_of_line, format_of, is_auto, said_in}
 use Rattle.mt_import.specs.Supplied.{Supplied}
 use Rattle.mt_import.specs.Outcome.{Seen, ended, facts_fault, nothing_seen, seen_after, seen_with}

@@ -12,7 +12,7 @@ use Rattle.mt_import.specs.Values.{Known, assumed_of, assumed_pat, assumed_value
 use Rattle.mt_import.specs.Outcome.{Seen, Told, firm_of, is_noted, is_value, known_by, known_of, needed, note_by, note_line, note_lines, noted, noted_of, number_if, processors, slot_shown, values_of, width_note}
 use Rattle.mt_import.proofs.Parts.{noted_at}
 use Rattle.mt_import.proofs.Same.{value_is}
-use Rattle.mt_import_laws.specs.Notes.{AreNoted, AreTrueNotes, IsAssumedAlone, IsAssumedWidth, IsNoted, IsNotedWidth, IsTrueNote, numbers_text, on_register, on_width}
+use Rattle.mt_import_laws.specs.Notes.{AreNoted, AreTrueNotes, IsAssumedAlone, IsNoted, IsTrueNote, numbers_text, on_register, on_width}
 use Rattle.mt_import_laws.specs.Origins.{HasOrigins, IsAmong}
 use Rattle.mt_import_laws.proofs.TableLines.{all_join}
 

@@ -4,14 +4,13 @@ use Rattle.std.specs.Prelude.{◌⊎◌, ⊤, if◌then◌else◌}
 use Rattle.std.specs.Int.{bit_at}
 use Rattle.std.specs.List.{AllByRecursion}
 use Rattle.std.proofs.lemmas.Bool.{eqb-true}
-use Rattle.std.proofs.lemmas.Bool.Decides.{nat_tests}
-use Rattle.std.proofs.lemmas.Nat.Bits.{bit_at-zero, bit_at_ones}
+use Rattle.std.proofs.lemmas.Nat.Bits.{bit_at_ones}
 use lib.Bits.{or_self, or_zero_l}
 use Rattle.mt_regs.specs.RegisterFile.{IsRegisterFile, RegisterFile}
 use Rattle.mt_import.specs.declared.shape.Reading.{Reading}
 use Rattle.mt_import.specs.declared.shape.Slot.{Slot}
 use Rattle.mt_import.specs.Readings.{Fact, is_fault, is_line, is_register_value, is_warning, is_width}
-use Rattle.mt_import.specs.Slot.{all_bits, blank_slot, is_disabled, is_whole, slot_with}
+use Rattle.mt_import.specs.Slot.{all_bits, is_disabled, is_whole, slot_with}
 use Rattle.mt_import.specs.Supplied.{Supplied, supplied_value}
 use Rattle.mt_import.specs.Values.{assumed_of, assumed_value, disabled_value, is_pair_number, mask_of, or_supplied}
 use Rattle.mt_import.specs.Outcome.{Seen, known_by, known_of, seen_after, seen_with, slot_shown, values_of}

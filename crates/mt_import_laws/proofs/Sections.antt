@@ -1,6 +1,6 @@
 -- The values of a processor are in its section of a dump.
-use Rattle.std.proofs.Common.{◌≡◌, ◌<◌, ◌≤◌, ◌+◌, ◌*◌, ℕ, zero, suc, Bool, true, false, List, [], ◌∷◌, ◌++◌, length, map, Option, Some, None, refl, sym, ◌∙◌, ap, subst, inl, inr, arith, lit<}
-use Rattle.std.specs.Prelude.{◌⊎◌, ◌==◌, if◌then◌else◌, slice_get, slice_index, slice_index_or, unwrap_or}
+use Rattle.std.proofs.Common.{◌≡◌, ◌<◌, ◌≤◌, ◌+◌, ◌*◌, ℕ, zero, suc, Bool, true, false, List, [], ◌∷◌, ◌++◌, length, map, Option, Some, refl, sym, ◌∙◌, ap, subst, inl, inr, arith, lit<}
+use Rattle.std.specs.Prelude.{◌⊎◌, ◌==◌, if◌then◌else◌, slice_get, slice_index, unwrap_or}
 use Rattle.std.specs.List.{AllByRecursion}
 use Rattle.std.proofs.lemmas.Bool.{cases_lt}
 use Rattle.std.proofs.lemmas.List.{get_or-map}
@@ -114,9 +114,9 @@ module _ (values : ℕ → Option ℕ) (width capabilities : ℕ) where
   right : (register : Register) → IsAmong register (writable (file_of values width capabilities)) → IsRight register
   right register among = elim (among_join (pair_registers 0 (low_byte capabilities) ++ fixed) (Pat ∷ DefaultType ∷ []) register among) [
     | inl first ↦ elim (among_join (pair_registers 0 (low_byte capabilities)) fixed register first) [
-        | inl pair ↦ pairs_right 0 (low_byte capabilities) (omega arith) register pair
-        | inr range ↦ fixed_right (has_fixed (file_of values width capabilities)) refl register range
-      ]
+      | inl pair ↦ pairs_right 0 (low_byte capabilities) (omega arith) register pair
+      | inr range ↦ fixed_right (has_fixed (file_of values width capabilities)) refl register range
+    ]
     | inr last ↦ last_right register last
   ]
 

@@ -1,5 +1,5 @@
 -- Whether a line tells a format, by its words.
-use Rattle.std.proofs.Common.{◌≡◌, ℕ, Bool, true, List, drop, take, ap, codes}
+use Rattle.std.proofs.Common.{◌≡◌, ℕ, true, List, drop, take, ap, codes}
 use Rattle.std.specs.Prelude.{if◌then◌else◌}
 use Rattle.mt_text.specs.Text.{words_of}
 use Rattle.mt_text.specs.Words.{text_of}

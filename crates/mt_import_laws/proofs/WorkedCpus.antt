@@ -1,6 +1,6 @@
 -- The premises of an instance of two processors.
-use Rattle.std.proofs.Common.{◌≡◌, ℕ, [], ◌∷◌, List, refl, arith, inr, lit<, lit≤}
-use Rattle.mt_regs.specs.RegisterFile.{IsRegisterFile, RegisterFile}
+use Rattle.std.proofs.Common.{refl, arith, inr, lit<, lit≤}
+use Rattle.mt_regs.specs.RegisterFile.{IsRegisterFile}
 use Rattle.mt_regs.specs.Registers.{writable}
 use Rattle.mt_regs.specs.Words.{HasWords}
 use Rattle.mt_regs.proofs.ByNumber.{all_fit}

@@ -1,5 +1,5 @@
 -- What x86info prints of all processors reads back.
-use Rattle.std.proofs.Common.{◌≡◌, ◌∙◌, ◌+◌, ◌<◌, ◌≤◌, ℕ, zero, suc, true, List, [], ◌∷◌, ◌++◌, length, Option, None, Some, refl, sym, ap, subst, inl, inr, arith}
+use Rattle.std.proofs.Common.{◌≡◌, ◌∙◌, ◌+◌, ◌<◌, ◌≤◌, ℕ, zero, suc, true, List, [], ◌∷◌, ◌++◌, length, None, Some, refl, sym, ap, subst, inl, inr, arith}
 use Rattle.std.specs.Fmt.{digits}
 use Rattle.std.specs.Prelude.{◌⊎◌}
 use Rattle.std.specs.List.{AllByRecursion}
@@ -8,7 +8,6 @@ use Rattle.mt_text.specs.declared.place.Place.{Place}
 use Rattle.mt_regs.specs.RegisterFile.{RegisterFile}
 use Rattle.mt_regs.specs.Words.{HasWords}
 use Rattle.mt_dump.specs.Canon.{ended}
-use Rattle.mt_dump.specs.Dumps.{first_of}
 use Rattle.mt_import.specs.declared.format.Choice.TheVariants.{Only}
 use Rattle.mt_import.specs.declared.format.Format.TheVariants.{X86info}
 use Rattle.mt_import.specs.declared.reading.Context.{Context}
@@ -24,7 +23,7 @@ use Rattle.mt_import_laws.specs.PrintedByX86info.{Print, SuitsX86info, SuitsX86i
 use Rattle.mt_import_laws.proofs.Among.{join_among_first, join_among_second}
 use Rattle.mt_import_laws.proofs.Back.{HasWidth}
 use Rattle.mt_import_laws.proofs.PrintedBack.{HasLine, IsGiven, IsInFile, IsOneLine, WidthLine, one_lines_back, key_in_file, one_lines}
-use Rattle.mt_import_laws.proofs.Several.{are_alike, each_at, file_at, first_at, several_back}
+use Rattle.mt_import_laws.proofs.Several.{are_alike, file_at, first_at, several_back}
 use Rattle.mt_import_laws.proofs.TableLines.{HasOwn, IsTrueSaid, all_join, facts_split, lines_format, lines_have_own, lines_show_width, lines_true, next_format, own_first, own_later}
 use Rattle.mt_import_laws.proofs.Whole.{AreAlike, IsSound, any_bits}
 use Rattle.mt_import_laws.proofs.X86infoTable.{capability_line, each_key, table_plain, table_true, width}

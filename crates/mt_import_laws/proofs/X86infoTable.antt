@@ -10,9 +10,9 @@ use Rattle.mt_regs.specs.RegisterFile.{RegisterFile, has_fixed}
 use Rattle.mt_regs.specs.Registers.{IsWithin, pair_registers}
 use Rattle.mt_import.specs.declared.format.Format.TheVariants.{X86info}
 use Rattle.mt_import.specs.Shown.{said_of}
-use Rattle.mt_import.specs.Supplied.{Supplied, supplied_value}
+use Rattle.mt_import.specs.Supplied.{Supplied}
 use Rattle.mt_import_laws.specs.Origins.{IsAmong}
-use Rattle.mt_import_laws.specs.Printed.{Key, TableReadsBack, number_at, value_in}
+use Rattle.mt_import_laws.specs.Printed.{Key, TableReadsBack, value_in}
 use Rattle.mt_import_laws.specs.PrintedByX86info.{Print, SuitsX86info, first_behind, last_keys, later_fixed, line_behind, line_of, read_count, read_pairs, register_lines, size_line, size_lines, unread, unread_pairs, x86info_lines}
 use Rattle.mt_import_laws.proofs.Among.{all_map, among_join, among_map, each_among, join_among_first, join_among_second, map_among}
 use Rattle.mt_import_laws.proofs.KeyLines.{ShowsAlone, alone_shows, alone_true, has_line, lines_true}
