@@ -10,16 +10,17 @@ use Rattle.mt_import.specs.declared.format.Format.TheVariants.{Edk2}
 use Rattle.mt_import.specs.declared.reading.Said.TheVariants.{Shows}
 use Rattle.mt_import.specs.Pieces.{shown_as}
 use Rattle.mt_import.specs.Readings.{two_shown}
-use Rattle.mt_import.specs.Shown.{said_of}
+use Rattle.mt_import.specs.Shown.{said_of, tells}
 use Rattle.mt_import.specs.Supplied.{Supplied}
 use Rattle.mt_import_laws.specs.Origins.{IsAmong}
+use Rattle.mt_import_laws.specs.FirstLine.{LinesTellFirst, says_same}
 use Rattle.mt_import_laws.specs.Printed.{Key, TableReadsBack, value_in}
 use Rattle.mt_import_laws.specs.PrintedByEdk2.{SuitsEdk2, edk2_lines, is_valid, no_pair_line, or_none, own_line, pair_line, pair_lines, valid_from}
 use Rattle.mt_import_laws.proofs.Among.{all_map, among_join, among_map, each_among, join_among_first, join_among_second, map_among}
-use Rattle.mt_import_laws.proofs.Edk2Lines.{base_place, default_place, default_plain, default_said, fixed_place, fixed_plain, fixed_said, mask_place, pair_plain, pair_said}
+use Rattle.mt_import_laws.proofs.Edk2Lines.{base_place, default_place, default_plain, default_said, default_told, fixed_place, fixed_plain, fixed_said, mask_place, pair_plain, pair_said}
 use Rattle.mt_import_laws.proofs.KeyLines.{ShowsAlone, has_line, lines_true}
 use Rattle.mt_import_laws.proofs.Keys.{IsKey}
-use Rattle.mt_import_laws.proofs.PrintedBack.{HasLine, IsGiven, IsInFile, fits, key_in_file, table_back, word_gives}
+use Rattle.mt_import_laws.proofs.PrintedBack.{HasLine, IsGiven, IsInFile, fits, key_in_file, table_back}
 use Rattle.mt_import_laws.proofs.TableLines.{IsTrueSaid, all_join, tells_whole}
 use Rattle.mt_import_laws.proofs.Whole.{any_bits}
 
@@ -129,7 +130,7 @@ module _ (file : RegisterFile) (supplied : Supplied) (suits : SuitsEdk2 file sup
   record OwnLine (key : Key) : Type 0 where
     is_key : IsKey key
     fit : value_in file key < 2 ^ 64
-    shows : ShowsAlone file Edk2 key (own_line file key)
+    shows : ShowsAlone 0 file Edk2 key (own_line file key)
     plain : list_all is_plain (own_line file key) ≡ true
 
   default_own : OwnLine (Some DefaultType)
@@ -191,7 +192,7 @@ module _ (file : RegisterFile) (supplied : Supplied) (suits : SuitsEdk2 file sup
       pair_said n (pair_at file.pairs n) (few_pairs n within) number
       (fits file (Some (PhysBase n)) suits.is_file suits.has_words within) (fits file (Some (PhysMask n)) suits.is_file suits.has_words within)
 
-  pair_true : (n : ℕ) → IsPrintedPair n → (number : ℕ) → IsTrueSaid file any_bits (said_of Edk2 number (pair_of n))
+  pair_true : (n : ℕ) → IsPrintedPair n → (number : ℕ) → IsTrueSaid file any_bits 0 (said_of Edk2 number (pair_of n))
   pair_true n is number =
       let within = is.within in
       rw (said_pair n within number) (
@@ -231,38 +232,38 @@ module _ (file : RegisterFile) (supplied : Supplied) (suits : SuitsEdk2 file sup
 
   own_has : (key : Key) → IsAmong key keys → HasLine Edk2 (edk2_lines file) key
   own_has key among =
-      let has = has_line file Edk2 (own_line file) keys (λ k at. (own k at).is_key) (λ k at. (own k at).fit) (λ k at. (own k at).shows) key among in
+      let has = has_line 0 file Edk2 (own_line file) keys (λ k at. (own k at).is_key) (λ k at. (own k at).fit) (λ k at. (own k at).shows) key among in
       record { line = has.line; among = inr (inr (join_among_first (map (own_line file) keys) (or_none (pair_lines file)) has.line has.among)); shows = has.shows }
 
-  base_by : (n : ℕ) → n < length file.pairs → (test : Bool) → is_valid (pair_at file.pairs n) ≡ test → HasLine Edk2 (edk2_lines file) (Some (PhysBase n)) ⊎ IsGiven file any_bits supplied (Some (PhysBase n))
+  base_by : (n : ℕ) → n < length file.pairs → (test : Bool) → is_valid (pair_at file.pairs n) ≡ test → HasLine Edk2 (edk2_lines file) (Some (PhysBase n)) ⊎ IsGiven supplied file (Some (PhysBase n))
   base_by n within true valid = inl (base_line n (record { within = within; valid = valid }))
-  base_by n within false hidden = inr (word_gives file any_bits supplied (Some (PhysBase n)) suits.is_file suits.has_words within (suits.bases n within hidden))
+  base_by n within false hidden = inr (suits.bases n within hidden)
 
-  mask_by : (n : ℕ) → n < length file.pairs → (test : Bool) → is_valid (pair_at file.pairs n) ≡ test → HasLine Edk2 (edk2_lines file) (Some (PhysMask n)) ⊎ IsGiven file any_bits supplied (Some (PhysMask n))
+  mask_by : (n : ℕ) → n < length file.pairs → (test : Bool) → is_valid (pair_at file.pairs n) ≡ test → HasLine Edk2 (edk2_lines file) (Some (PhysMask n)) ⊎ IsGiven supplied file (Some (PhysMask n))
   mask_by n within true valid = inl (mask_line n (record { within = within; valid = valid }))
-  mask_by n within false hidden = inr (word_gives file any_bits supplied (Some (PhysMask n)) suits.is_file suits.has_words within (suits.masks n within hidden))
+  mask_by n within false hidden = inr (suits.masks n within hidden)
 
-  each_key : (key : Key) → IsInFile file key → HasLine Edk2 (edk2_lines file) key ⊎ IsGiven file any_bits supplied key
-  each_key None within = inr (word_gives file any_bits supplied None suits.is_file suits.has_words tt suits.capabilities)
+  each_key : (key : Key) → IsInFile file key → HasLine Edk2 (edk2_lines file) key ⊎ IsGiven supplied file key
+  each_key None within = inr suits.capabilities
   each_key (Some (PhysBase n)) within = base_by n within (is_valid (pair_at file.pairs n)) refl
   each_key (Some (PhysMask n)) within = mask_by n within (is_valid (pair_at file.pairs n)) refl
   each_key (Some (FixedRange place)) within = inl (own_has (Some (FixedRange place)) (inr (map_among Some fixed_registers (FixedRange place) (eleven place within.0))))
-  each_key (Some Pat) within = inr (word_gives file any_bits supplied (Some Pat) suits.is_file suits.has_words tt suits.pat)
+  each_key (Some Pat) within = inr suits.pat
   each_key (Some DefaultType) within = inl (own_has (Some DefaultType) (inl refl))
 
-  parts_true : (line : List ℕ) → IsAmong line (map (own_line file) keys ++ or_none (pair_lines file)) → (number : ℕ) → IsTrueSaid file any_bits (said_of Edk2 number line)
+  parts_true : (line : List ℕ) → IsAmong line (map (own_line file) keys ++ or_none (pair_lines file)) → (number : ℕ) → IsTrueSaid file any_bits 0 (said_of Edk2 number line)
   parts_true line among number = elim (among_join (map (own_line file) keys) (or_none (pair_lines file)) line among) [
-    | inl first ↦ lines_true file Edk2 (own_line file) keys (λ k at. (own k at).is_key) (λ k at. (own k at).fit) (λ k at. (own k at).shows) line first number
+    | inl first ↦ lines_true 0 file Edk2 (own_line file) keys (λ k at. (own k at).is_key) (λ k at. (own k at).fit) (λ k at. (own k at).shows) line first number
     | inr second ↦ by (none_or (pair_lines file) line second)
   ]
     where
-      by : IsAmong line (pair_lines file) ⊎ (no_pair_line ≡ line) → IsTrueSaid file any_bits (said_of Edk2 number line)
+      by : IsAmong line (pair_lines file) ⊎ (no_pair_line ≡ line) → IsTrueSaid file any_bits 0 (said_of Edk2 number line)
       by (inl pair) = let found = among_map pair_of (valid_from 0 file.pairs) line pair in rw found.2 (pair_true found.0 (printed_pair found.0 found.1) number)
-      by (inr none) = subst (λ l. IsTrueSaid file any_bits (said_of Edk2 number l)) none tt
+      by (inr none) = subst (λ l. IsTrueSaid file any_bits 0 (said_of Edk2 number l)) none tt
 
-  table_true : (line : List ℕ) → IsAmong line (edk2_lines file) → (number : ℕ) → IsTrueSaid file any_bits (said_of Edk2 number line)
-  table_true line (inl same) number = subst (λ l. IsTrueSaid file any_bits (said_of Edk2 number l)) same tt
-  table_true line (inr (inl same)) number = subst (λ l. IsTrueSaid file any_bits (said_of Edk2 number l)) same tt
+  table_true : (line : List ℕ) → IsAmong line (edk2_lines file) → (number : ℕ) → IsTrueSaid file any_bits 0 (said_of Edk2 number line)
+  table_true line (inl same) number = subst (λ l. IsTrueSaid file any_bits 0 (said_of Edk2 number l)) same tt
+  table_true line (inr (inl same)) number = subst (λ l. IsTrueSaid file any_bits 0 (said_of Edk2 number l)) same tt
   table_true line (inr (inr later)) number = parts_true line later number
 
   abbrev IsPlainLine : List ℕ → Type 0
@@ -283,5 +284,12 @@ module _ (file : RegisterFile) (supplied : Supplied) (suits : SuitsEdk2 file sup
 
   pub reads : TableReadsBack Edk2 (edk2_lines file) supplied file
   reads =
-      table_back file any_bits Edk2 (edk2_lines file) supplied suits.is_file suits.has_words suits.agrees (inl suits.width)
+      table_back file Edk2 (edk2_lines file) supplied suits.is_file suits.has_words suits.agrees (inl suits.width)
       (record { each = table_true; all = each_key }) table_plain
+
+-- The default type's line tells the format.
+pub told_first : (file : RegisterFile) (supplied : Supplied) → SuitsEdk2 file supplied → LinesTellFirst Edk2 1 (edk2_lines file)
+unfolding tells
+told_first file supplied suits =
+    let first = default_told file.default_type 3 (fits file (Some DefaultType) suits.is_file suits.has_words tt) in
+    inr (record { none = refl; alike = says_same refl }, inr (record { none = refl; alike = says_same refl }, inl first))

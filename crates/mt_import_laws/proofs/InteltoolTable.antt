@@ -1,16 +1,17 @@
 -- What inteltool prints reads back.
-use Rattle.std.proofs.Common.{◌≡◌, ◌^◌, ◌<◌, ℕ, true, List, None, refl, subst, inl, inr}
+use Rattle.std.proofs.Common.{◌≡◌, ◌^◌, ◌<◌, ℕ, true, List, None, refl, subst, inl, inr, lit<}
 use Rattle.std.specs.List.{AllByRecursion, list_all}
 use Rattle.mt_text.proofs.Plain.{is_plain}
 use Rattle.mt_regs.specs.RegisterFile.{RegisterFile}
 use Rattle.mt_import.specs.declared.format.Format.TheVariants.{Inteltool}
-use Rattle.mt_import.specs.Shown.{said_of}
+use Rattle.mt_import.specs.Shown.{said_of, tells}
 use Rattle.mt_import.specs.Supplied.{Supplied}
 use Rattle.mt_import_laws.specs.Origins.{IsAmong}
+use Rattle.mt_import_laws.specs.FirstLine.{LinesTellFirst, only_turns}
 use Rattle.mt_import_laws.specs.Printed.{Key, TableReadsBack, number_at, value_in}
 use Rattle.mt_import_laws.specs.PrintedByInteltool.{Names, SuitsInteltool, inteltool_lines, line_of}
 use Rattle.mt_import_laws.proofs.Among.{all_map}
-use Rattle.mt_import_laws.proofs.InteltoolLines.{line_plain, place, register_said}
+use Rattle.mt_import_laws.proofs.InteltoolLines.{line_plain, place, register_said, told}
 use Rattle.mt_import_laws.proofs.KeyLines.{ShowsAlone, all_keys, among_all, has_line, in_file, lines_true, low}
 use Rattle.mt_import_laws.proofs.Keys.{IsKey}
 use Rattle.mt_import_laws.proofs.PrintedBack.{HasLine, IsInFile, fits, key_in_file, table_back}
@@ -27,7 +28,7 @@ module _ (names : Names) (file : RegisterFile) (supplied : Supplied) (suits : Su
   all_fit : (key : Key) → IsAmong key (all_keys file) → value_in file key < 2 ^ 64
   all_fit key among = fits file key suits.is_file suits.has_words (within key among)
 
-  shows : (key : Key) → IsAmong key (all_keys file) → ShowsAlone file Inteltool key (line_of names file key)
+  shows : (key : Key) → IsAmong key (all_keys file) → ShowsAlone 0 file Inteltool key (line_of names file key)
   shows key among =
       let named = suits.are_names key in
       record {
@@ -37,14 +38,14 @@ module _ (names : Names) (file : RegisterFile) (supplied : Supplied) (suits : Su
         said = λ number. register_said (number_at key) (value_in file key) (names key) named.0 named.1 number (low key (are_keys key among)) (all_fit key among);
       }
 
-  table_true : (line : List ℕ) → IsAmong line (inteltool_lines names file) → (number : ℕ) → IsTrueSaid file any_bits (said_of Inteltool number line)
-  table_true line (inl same) number = subst (λ l. IsTrueSaid file any_bits (said_of Inteltool number l)) same refl
-  table_true line (inr (inl same)) number = subst (λ l. IsTrueSaid file any_bits (said_of Inteltool number l)) same refl
-  table_true line (inr (inr later)) number = lines_true file Inteltool (line_of names file) (all_keys file) are_keys all_fit shows line later number
+  table_true : (line : List ℕ) → IsAmong line (inteltool_lines names file) → (number : ℕ) → IsTrueSaid file any_bits 0 (said_of Inteltool number line)
+  table_true line (inl same) number = subst (λ l. IsTrueSaid file any_bits 0 (said_of Inteltool number l)) same refl
+  table_true line (inr (inl same)) number = subst (λ l. IsTrueSaid file any_bits 0 (said_of Inteltool number l)) same refl
+  table_true line (inr (inr later)) number = lines_true 0 file Inteltool (line_of names file) (all_keys file) are_keys all_fit shows line later number
 
   table_has : (key : Key) → IsInFile file key → HasLine Inteltool (inteltool_lines names file) key
   table_has key inside =
-      let has = has_line file Inteltool (line_of names file) (all_keys file) are_keys all_fit shows key (among_all file key suits.is_file inside) in
+      let has = has_line 0 file Inteltool (line_of names file) (all_keys file) are_keys all_fit shows key (among_all file key suits.is_file inside) in
       record { line = has.line; among = inr (inr has.among); shows = has.shows }
 
   table_plain : AllByRecursion (λ line. list_all is_plain line ≡ true) (inteltool_lines names file)
@@ -59,5 +60,13 @@ module _ (names : Names) (file : RegisterFile) (supplied : Supplied) (suits : Su
 
 pub reads : (names : Names) (file : RegisterFile) (supplied : Supplied) → SuitsInteltool names file supplied → TableReadsBack Inteltool (inteltool_lines names file) supplied file
 reads names file supplied suits =
-    table_back file any_bits Inteltool (inteltool_lines names file) supplied suits.is_file suits.has_words suits.agrees (inl suits.width)
+    table_back file Inteltool (inteltool_lines names file) supplied suits.is_file suits.has_words suits.agrees (inl suits.width)
     (record { each = table_true names file supplied suits; all = λ key inside. inl (table_has names file supplied suits key inside) }) (table_plain names file supplied suits)
+
+-- The first register's line tells the format.
+pub told_first : (names : Names) (file : RegisterFile) (supplied : Supplied) → SuitsInteltool names file supplied → LinesTellFirst Inteltool 1 (inteltool_lines names file)
+unfolding tells
+told_first names file supplied suits =
+    let named = suits.are_names None in
+    let first = told 0xfe file.capabilities (names None) named.0 named.1 3 (lit< tt) (fits file None suits.is_file suits.has_words tt) in
+    inr (record { none = refl; alike = only_turns refl refl }, inr (record { none = refl; alike = only_turns refl refl }, inl first))

@@ -4,12 +4,15 @@ mod Faults
 mod Capabilities
 mod Counts
 mod FixedRanges
+mod FixedLines
 mod Shown
 mod Among
 mod Lines
 mod Widths
+mod Sections
 mod Dumps
 mod Notes
+mod Warnings
 mod Alike
 mod Returns
 mod FirstLine
@@ -26,6 +29,7 @@ mod Back
 mod PrintedBack
 mod AutoReads
 mod KeyLines
+mod Tells
 mod InteltoolLines
 mod InteltoolTable
 mod CorebootLines
@@ -44,5 +48,9 @@ mod KernelWeave
 mod KernelTable
 mod RdmsrLines
 mod RdmsrTable
+mod Several
+mod RdmsrAll
+mod X86infoAll
 mod WorkedFiles
+mod WorkedCpus
 mod Others

@@ -1,12 +1,14 @@
 -- Where the values of a dump come from, and lines that contradict each other, in terms of what the lines of a log show (own).
 --     readings_of choice text      what the lines of a log show of registers
 --     Origin supplied readings known k number value      the lines, the word or the assumption that gives a register of processor k this value
-use Rattle.std.specs.Prelude.{ℕ, ◌≡◌, ◌≢◌, ◌<◌, ◌⊎◌, ◌+◌, Bool, true, false, List, [], ◌∷◌, ◌++◌, length, if◌then◌else◌, Some, None}
+use Rattle.std.specs.Prelude.{ℕ, ◌≡◌, ◌≢◌, ◌<◌, ◌⊎◌, ◌+◌, ◌==◌, Bool, true, false, List, [], ◌∷◌, ◌++◌, length, if◌then◌else◌, Some, None, slice_get}
 use Rattle.std.specs.Int.{bit_at}
 use Rattle.mt_ports.specs.Causes.{one_more}
 use Rattle.mt_text.specs.Text.{lines_of}
 use Rattle.mt_text.specs.declared.place.Place.{Place}
-use Rattle.mt_dump.specs.Canon.{canon}
+use Rattle.mt_regs.specs.RegisterFile.{RegisterFile}
+use Rattle.mt_dump.specs.Canon.{canon, file_lines, register_line}
+use Rattle.mt_dump.specs.Dumps.{Dump}
 use Rattle.mt_import.specs.declared.format.Choice.{Choice}
 use Rattle.mt_import.specs.declared.reading.Context.{Context}
 use Rattle.mt_import.specs.declared.reading.Said.{Said}
@@ -114,12 +116,13 @@ pub record IsShown (readings : List Reading) (processor number value : ℕ) : Ty
   pub table : ℕ
   pub bits : (i : ℕ) → i < 64 → (b : ShowsBit readings processor number i) × (b.reading.table ≡ table) × (bit_at b.reading.value i ≡ bit_at value i)
 
--- Lines show that V of the register's pair, bit 11 of PhysMask, is clear, and so both registers are 0.
+-- Lines show that V of the register's pair, bit 11 of PhysMask, is clear, and no other bit of PhysMask, and so both registers are 0.
 pub record IsDisabled (readings : List Reading) (processor number value : ℕ) : Type 0 where
   pub zero : value ≡ 0
   pub pair : is_pair_number number ≡ true
   pub valid : ShowsBit readings processor (mask_of number) 11
   pub clear : bit_at valid.reading.value 11 ≡ 0
+  pub alone : (i : ℕ) → ShowsBit readings processor (mask_of number) i → i ≡ 11
 
 -- no table and no line shows all of a register
 abbrev pub IsUnshown : List Reading → ℕ → ℕ → Type 0
@@ -145,6 +148,31 @@ pub record CountsPair (supplied : Supplied) (readings : List Reading) (a : Readi
   pub shown : counts_fewer (counted (capabilities_shown readings)) (enabled_pair a) ≡ false
   pub given : counts_fewer (supplied_value supplied 0xfe) (enabled_pair a) ≡ false
 
+-- ---- lines on fixed ranges
+
+-- what a line says: that fixed ranges are enabled, or that they are disabled
+abbrev pub SaysFixed : Said → Bool → Type 0
+SaysFixed (FixedRanges enabled alone place) on = enabled ≡ on
+SaysFixed Nothing on = ⊥
+SaysFixed (Announces processor number) on = ⊥
+SaysFixed (Value value place) on = ⊥
+SaysFixed (Turns processor) on = ⊥
+SaysFixed (Shows processor shows) on = ⊥
+SaysFixed (Begins shows) on = ⊥
+SaysFixed (VariableRanges enabled place) on = ⊥
+SaysFixed (Width width place) on = ⊥
+SaysFixed Warns on = ⊥
+SaysFixed (Long place) on = ⊥
+
+-- one of these lines says so
+abbrev pub LinesSayFixed : Context → ℕ → List (List ℕ) → Bool → Type 0
+LinesSayFixed context number [] on = ⊥
+LinesSayFixed context number (line ∷ lines) on =
+    SaysFixed (said_in (chosen context.format number line) number line) on ⊎ LinesSayFixed (context_behind context number line) (number + 1) lines on
+
+abbrev pub LogSaysFixed : Choice → List ℕ → Bool → Type 0
+LogSaysFixed choice text on = LinesSayFixed (starts (format_of choice)) 1 (lines_of text) on
+
 -- ---- the width
 
 -- a line, a word or an assumption that gives the width, one behind the other
@@ -152,18 +180,36 @@ pub data WidthOrigin (choice : Choice) (supplied : Supplied) (text : List ℕ) (
   width_by_line : (place : Place) → IsOfLine choice text (is_width width place) → WidthOrigin choice supplied text width
   width_by_word : (seen_of choice text).width ≡ None → supplied.width ≡ Some width → WidthOrigin choice supplied text width
   width_by_masks : (seen_of choice text).width ≡ None → supplied.width ≡ None
-      → assumed_width supplied.assumed (slot_shown (readings_of choice text) 0) ≡ Some width → WidthOrigin choice supplied text width
+      → assumed_width supplied (slot_shown (readings_of choice text) 0) ≡ Some width → WidthOrigin choice supplied text width
 
 -- ---- a dump
 
--- The dump has a value for each register that it needs, and each has an origin.
+-- the dump of this width and capability register
+abbrev pub dump_by : Supplied → Seen → ℕ → ℕ → Dump
+dump_by supplied seen width capabilities = dump_in (values_of supplied (slot_shown seen.readings) (known_of seen)) (processors seen.readings) width capabilities
+
+-- The section of processor k has a line with this value of the register.
+pub record IsInSection (dump : Dump) (k number value : ℕ) : Type 0 where
+  pub file : RegisterFile
+  pub section : slice_get dump.files k ≡ Some file
+  pub line : IsAmong (register_line number value) (file_lines file)
+
+-- Each section has 0FEH of processor 0, and every other register of its own processor.
+abbrev pub owner : ℕ → ℕ → ℕ
+owner k number = if number == 0xfe then 0 else k
+
+-- The dump has a section for each processor, with a value for each register that it needs, and each value has an origin.
 pub record HasOrigins (supplied : Supplied) (seen : Seen) (told : Told) : Type 0 where
   pub width : ℕ
   pub capabilities : ℕ
   pub width_is : width_by supplied (slot_shown seen.readings) seen.width ≡ Some width
   pub capabilities_is : values_of supplied (slot_shown seen.readings) (known_of seen) 0 0xfe ≡ Some capabilities
   pub notes_are : told.notes ≡ notes_of supplied (slot_shown seen.readings) (processors seen.readings) (known_of seen)
-  pub dump_is : told.dump ≡ canon (dump_in (values_of supplied (slot_shown seen.readings) (known_of seen)) (processors seen.readings) width capabilities)
+  pub dump_is : told.dump ≡ canon (dump_by supplied seen width capabilities)
+  pub sections : length (dump_by supplied seen width capabilities).files ≡ processors seen.readings
+  pub in_section : (k number value : ℕ) → k < processors seen.readings → IsAmong number (needed (Some capabilities))
+      → values_of supplied (slot_shown seen.readings) (known_of seen) (owner k number) number ≡ Some value
+      → IsInSection (dump_by supplied seen width capabilities) k number value
   pub each : (k number : ℕ) → k < processors seen.readings → IsAmong number (needed (Some capabilities))
       → (value : ℕ) × (values_of supplied (slot_shown seen.readings) (known_of seen) k number ≡ Some value)
       × Origin supplied seen.readings (known_by supplied (slot_shown seen.readings) (known_of seen)) k number value

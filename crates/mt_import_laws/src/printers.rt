@@ -3,17 +3,19 @@ ghost use Rattle.mt_regs.specs.declared.registers.Register.TheVariants.{PhysBase
 ghost use Rattle.mt_regs.specs.RegisterFile.{RegisterFile, pair_at};
 ghost use Rattle.mt_import.specs.declared.format.Choice.TheVariants.{Only};
 ghost use Rattle.mt_import.specs.declared.format.Format.TheVariants.{Coreboot, Edk2, Inteltool, Linux, Rdmsr, X86info, Xen};
+ghost use Rattle.mt_dump.specs.Canon.{ended};
+ghost use Rattle.mt_import.specs.Import.{log_told};
 ghost use Rattle.mt_import.specs.Supplied.{Supplied, command_of};
 ghost use Rattle.mt_import_laws.specs.FirstLine.{LinesTellFirst};
-ghost use Rattle.mt_import_laws.specs.Printed.{TableReadsBack, TableReadsInOrder, TellsNoMore, TextReadsBack};
+ghost use Rattle.mt_import_laws.specs.Printed.{ReadsAs, TableReadsBack, TableReadsInOrder, TellsNoMore, TextReadsAs, TextReadsBack, dump_of_all};
 ghost use Rattle.mt_import_laws.specs.PrintedByCoreboot.{SuitsCoreboot, Tails, coreboot_lines, line_of as coreboot_line};
 ghost use Rattle.mt_import_laws.specs.PrintedByEdk2.{SuitsEdk2, edk2_lines, pair_line};
 ghost use Rattle.mt_import_laws.specs.PrintedByInteltool.{Names, SuitsInteltool, inteltool_lines, line_of as inteltool_line};
-ghost use Rattle.mt_import_laws.specs.PrintedByRdmsr.{SuitsRdmsr, call_line, hex_text, rdmsr_lines, rdmsr_text};
-ghost use Rattle.mt_import_laws.specs.PrintedByX86info.{Print, SuitsX86info, line_of as x86info_line, size_line, x86info_lines};
+ghost use Rattle.mt_import_laws.specs.PrintedByRdmsr.{SuitsRdmsr, SuitsRdmsrOfAll, all_line, call_line, hex_text, rdmsr_all_lines, rdmsr_lines, rdmsr_text};
+ghost use Rattle.mt_import_laws.specs.PrintedByX86info.{Print, SuitsX86info, SuitsX86infoOfAll, cpu_line, cpu_lines, files_in, line_of as x86info_line, size_line, x86info_lines};
 ghost use Rattle.mt_import_laws.specs.PrintedByLinux.{Log, SuitsLinux, linux_lines};
 ghost use Rattle.mt_import_laws.specs.PrintedByXen.{SuitsXen, xen_lines};
-ghost use Rattle.mt_import_laws.specs.WorkedPrinted.{early_log, linux_log, model_names, ordinary_pc, some_tails, width_36, width_and_pat, words_for_edk2, words_for_kernels, words_for_x86info, x86info_print, xen_log};
+ghost use Rattle.mt_import_laws.specs.WorkedPrinted.{early_log, linux_log, model_names, ordinary_pc, some_tails, two_cpus, two_prints, width_36, width_and_pat, words_for_edk2, words_for_kernels, words_for_x86info, x86info_print, xen_log};
 
 /// What a shell prints under `set -x` that calls rdmsr for each register of a file reads back as the file, if words supply its width.
 /// So it does by `auto`.
@@ -21,8 +23,15 @@ pub fn what_rdmsr_prints_reads_back()
     ensures { (file : RegisterFile) (supplied : Supplied) → SuitsRdmsr file supplied → TextReadsBack Rdmsr (rdmsr_text file) supplied file }
 {}
 
+/// What a shell prints that calls rdmsr for each register of all processors, by `-a`, reads back as the dump with a section for each,
+/// if words supply the width. So it does by `auto`.
+pub fn what_rdmsr_prints_of_all_reads_back()
+    ensures { (files : List RegisterFile) (supplied : Supplied) → SuitsRdmsrOfAll files supplied
+        → TextReadsAs Rdmsr (ended (rdmsr_all_lines files)) supplied (dump_of_all files) }
+{}
+
 /// What inteltool prints of a register file reads back as the file, if words supply its width. So does any log that has each of
-/// these lines, and besides them only lines that say no more of a dump than its width.
+/// these lines, and besides them only lines that say no more of a dump than the file.
 pub fn what_inteltool_prints_reads_back()
     ensures { (names : Names) (file : RegisterFile) (supplied : Supplied) → SuitsInteltool names file supplied
         → TableReadsBack Inteltool (inteltool_lines names file) supplied file }
@@ -30,21 +39,28 @@ pub fn what_inteltool_prints_reads_back()
 
 /// What x86info prints of a register file reads back as the file, if words supply what it doesn't print, and what stands behind
 /// the names of more than two registers that it couldn't read. So does any log that has each of these lines, and besides them
-/// only lines that say no more of a dump than its width.
+/// only lines that say no more of a dump than the file.
 pub fn what_x86info_prints_reads_back()
     ensures { (print : Print) (file : RegisterFile) (supplied : Supplied) → SuitsX86info print file supplied
         → TableReadsBack X86info (x86info_lines print file) supplied file }
 {}
 
+/// What x86info prints of each processor with `--all-cpus` reads back as the dump with a section for each, if words supply what it
+/// doesn't print. A word is for all processors.
+pub fn what_x86info_prints_of_all_reads_back()
+    ensures { (cpus : List (Print × RegisterFile)) (supplied : Supplied) → SuitsX86infoOfAll cpus supplied
+        → ReadsAs (log_told (Only X86info) supplied (ended (cpu_lines 0 cpus))) (dump_of_all (files_in cpus)) }
+{}
+
 /// What coreboot displays of a register file reads back as the file, if words supply its width and its PAT. So does any log that has
-/// each of these lines, and besides them only lines that say no more of a dump than its width.
+/// each of these lines, and besides them only lines that say no more of a dump than the file.
 pub fn what_coreboot_displays_reads_back()
     ensures { (leveled : Bool) (tails : Tails) (file : RegisterFile) (supplied : Supplied) → SuitsCoreboot tails file supplied
         → TableReadsBack Coreboot (coreboot_lines leveled tails file) supplied file }
 {}
 
 /// What EDK2 prints of a register file reads back as the file, if words supply the width, 0FEH, the PAT and the pairs without a line.
-/// So does any log that has each of these lines, and besides them only lines that say no more of a dump than its width.
+/// So does any log that has each of these lines, and besides them only lines that say no more of a dump than the file.
 pub fn what_edk2_prints_reads_back()
     ensures { (file : RegisterFile) (supplied : Supplied) → SuitsEdk2 file supplied → TableReadsBack Edk2 (edk2_lines file) supplied file }
 {}
@@ -52,7 +68,7 @@ pub fn what_edk2_prints_reads_back()
 /// What Xen prints of a register file reads back as the file, if words supply the width, 0FEH, the PAT and what the table doesn't show:
 /// the registers of pairs that are off and not 0, and IA32_MTRR_DEF_TYPE without FIX. Types without a name and reserved bits aren't shown.
 /// So it does by `auto`, and so does any log that has these lines in their order, and between them only lines that say no more of a
-/// dump than its width.
+/// dump than the file.
 pub fn what_xen_prints_reads_back()
     ensures { (file : RegisterFile) (supplied : Supplied) → SuitsXen file supplied → TableReadsInOrder Xen (xen_lines file) supplied file }
 {}
@@ -61,6 +77,12 @@ pub fn what_xen_prints_reads_back()
 /// E is set nor fixed ranges are called enabled.
 pub fn what_linux_prints_reads_back()
     ensures { (log : Log) (file : RegisterFile) (supplied : Supplied) → SuitsLinux log file supplied → TableReadsInOrder Linux (linux_lines log file) supplied file }
+{}
+
+/// The format of what inteltool and EDK2 print of a register file is told by its first line that tells one, so that `auto` takes it.
+pub fn auto_takes_what_is_printed()
+    ensures inteltool { (names : Names) (file : RegisterFile) (supplied : Supplied) → SuitsInteltool names file supplied → LinesTellFirst Inteltool 1 (inteltool_lines names file) }
+    ensures edk2 { (file : RegisterFile) (supplied : Supplied) → SuitsEdk2 file supplied → LinesTellFirst Edk2 1 (edk2_lines file) }
 {}
 
 /// What each program prints of an ordinary PC is an instance of `auto_takes_the_first_format`.
@@ -75,9 +97,13 @@ pub fn worked_formats()
     ensures other { LinesTellFirst Linux 1 (xen_lines ordinary_pc) → ⊥ }
 {}
 
-/// Lines that say no more of an ordinary PC's dump: another register, the width, and a kernel's warning.
+/// Lines that say no more of an ordinary PC's dump: another register, a register of its own, a line of `/proc/mtrr`, that lines of
+/// processor 0 follow, the width, and a kernel's warning.
 pub fn worked_others()
     ensures register { TellsNoMore Inteltool ordinary_pc (codes " MSR 0x0000001B = 0x00000000:0xFEE00900 (IA32_APIC_BASE)") }
+    ensures own { TellsNoMore Inteltool ordinary_pc (codes " MSR 0x00000200 = 0x00000000:0x00000006 (IA32_MTRR_PHYSBASE0)") }
+    ensures pair { TellsNoMore Linux ordinary_pc (codes "reg00: base=0x000000000 (    0MB), size= 4096MB, count=1: write-back") }
+    ensures turn { TellsNoMore Inteltool ordinary_pc (codes "======================= UNIQUE MSRs  (core 0) =======================") }
     ensures width { TellsNoMore Linux ordinary_pc (codes "Address sizes: 36 bits physical, 48 bits virtual") }
     ensures warning { TellsNoMore Xen ordinary_pc (codes "(XEN) mtrr: your CPUs had inconsistent variable MTRR settings") }
     ensures nothing { TellsNoMore Linux ordinary_pc (codes "[    0.000000] BIOS-provided physical RAM map:") }
@@ -108,4 +134,12 @@ pub fn worked_prints()
     ensures by_coreboot { coreboot_line true some_tails ordinary_pc (Some (PhysMask 2))
         ≡ codes "[DEBUG]  0x0000000fe0000800: PHYMASK2: Length  = 0x0000000020000000, Valid" }
     ensures by_edk2 { pair_line 3 (pair_at ordinary_pc.pairs 3) ≡ codes "Variable MTRR[03]: Base=00000000E0000000 Mask=0000000FE0000800" }
+{}
+
+/// The registers of two processors, one with another default type, are an instance for the programs that print several.
+pub fn worked_cpus()
+    ensures rdmsr { SuitsRdmsrOfAll two_cpus width_36 }
+    ensures x86info { SuitsX86infoOfAll two_prints words_for_x86info }
+    ensures call { all_line 0x2ff ≡ codes "+ rdmsr -a 0x2ff" }
+    ensures cpu { cpu_line 1 ≡ codes "CPU #2:" }
 {}
