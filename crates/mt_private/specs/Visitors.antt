@@ -1,5 +1,5 @@
 -- Visitors of a yard on threads (own).
-use Rattle.std.specs.Prelude.{◌≡◌, ℕ, ◌+◌, ◌≤◌, true, List, [], ◌∷◌, length, map, replicate, slice_get, Option, None, Some}
+use Rattle.std.specs.Prelude.{◌≡◌, ℕ, ◌≤◌, true, List, [], ◌∷◌, length, map, replicate, slice_get, Option, None, Some}
 use Rattle.std.specs.List.{All}
 use mathlib.Core.Option.{some}
 use lib.ListN.{get_elem?}
@@ -59,10 +59,6 @@ pub record AreWaiting (table : TableId) (t : Start) (jobs : List Job) (waiting :
   pub one_each : length told ≡ length waiting
   pub fits : All FitsJob jobs
   pub has_room : (part : Part) → AreOpen part jobs told
-
--- one fewer are left of them
-abbrev pub OneLess : TableId → Start → List Job → List Guest → List Guest → List Told → Type 0
-OneLess table t jobs waiting less told = (length waiting ≡ length less + 1) × AreWaiting table t jobs less told
 
 -- the host holds no resident and keeps nothing yet
 abbrev pub IsFresh : Start → YardView → List (Option System) → Type 0

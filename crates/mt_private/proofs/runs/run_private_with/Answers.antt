@@ -18,12 +18,12 @@ returns-in-Some-shared_page-clause-shared g c =
     let good : IsAccepted c.args.goal = search rules in
     shared c.args.core.now.order c.args.goal c.args.core.now.system c.shared_page.result c.in-Some-shared_page.page none good c.in-Some-shared_page.is c.shared_page.ensures.least
 
-pub returns-in_default-room_for-clause-shared : goal.returns-in_default-room_for-clause-shared
-returns-in_default-room_for-clause-shared g c =
+pub returns-in_default-answers_for-clause-shared : goal.returns-in_default-answers_for-clause-shared
+returns-in_default-answers_for-clause-shared g c =
     unshared c.args.core.now.order c.args.goal _ c.args.core.now.system c.shared_page.result (λ n is. absurd (cc)) c.in_default-shared_page.not-Some c.shared_page.ensures.least
 
-pub returns-in_default-room_for-clause-no_memory : goal.returns-in_default-room_for-clause-no_memory
-returns-in_default-room_for-clause-no_memory g c is =
+pub returns-in_default-answers_for-clause-no_memory : goal.returns-in_default-answers_for-clause-no_memory
+returns-in_default-answers_for-clause-no_memory g c is =
     let none : c.args.core.now.order ≡ None = search rules in
     let good : IsAccepted c.args.goal = search rules in
     (none, good, private_where_none c.args.core.now.system c.shared_page.result c.in_default-shared_page.not-Some c.shared_page.ensures.none)
