@@ -179,13 +179,17 @@ IsOutside yard pass core = HasNotTaken yard pass core ⊎ IsReleased yard pass c
 
 -- ---- visitors of a session
 
--- it has this number and a job, and has not begun
-abbrev pub IsNewIn : Session → ℕ → Visitor → Type 0
-IsNewIn session k visitor = (job : Job) × (slice_get session.jobs.items k ≡ Some job) × IsNew session.yard.table.shared.table_id (start_at session.yard) job k visitor
+-- it has this number and the job at that place, and has not begun
+pub record IsNewIn (session : Session) (k : ℕ) (visitor : Visitor) : Type 0 where
+  pub job : Job
+  pub at : slice_get session.jobs.items k ≡ Some job
+  pub new : IsNew session.yard.table.shared.table_id (start_at session.yard) job k visitor
 
--- it has this number and a job, and its visit has ended
-abbrev pub HasComeIn : Session → ℕ → Visitor → Type 0
-HasComeIn session k visitor = (job : Job) × (slice_get session.jobs.items k ≡ Some job) × HasCome session.yard.table.shared.table_id (start_at session.yard) job k visitor
+-- it has this number and the job at that place, and its visit has ended
+pub record HasComeIn (session : Session) (k : ℕ) (visitor : Visitor) : Type 0 where
+  pub job : Job
+  pub at : slice_get session.jobs.items k ≡ Some job
+  pub come : HasCome session.yard.table.shared.table_id (start_at session.yard) job k visitor
 
 -- none of the guests in the queue has begun, and each has a place for its answers
 abbrev pub AreWaitingIn : Session → Queue → Type 0

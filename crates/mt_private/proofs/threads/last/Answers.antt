@@ -41,17 +41,18 @@ returns-clause-some c =
     let few = c.requires.few in
     let job = got session.jobs.items (length front) (omega arith) in
     let gathered = c.requires.gathered (length front) g at in
-    subst (λ (k : ℕ). IsNewIn session k (record { core = c.core_of.result; pass = g.pass; told = answers; visited = Cancelled })) (sym gathered.numbered) (
-      job.0,
-      job.1,
-      record {
+    subst (λ (k : ℕ). IsNewIn session k (record { core = c.core_of.result; pass = g.pass; told = answers; visited = Cancelled })) (sym gathered.numbered)
+    (record {
+      job = job.0;
+      at = job.1;
+      new = record {
         gathered = subst (λ (o : System). IsGathered session.yard.table.shared.table_id (start_at session.yard) (length front) g.pass.seat.table_id g.pass.seat.me g.pass.number o) (sym system) gathered;
         idle = ap (λ (x : Machine). x.order) c.core_of.ensures;
         runs = subst (AreIn Running) (sym system) (c.requires.running (length front) g at);
         fits = subst FitsJob (get_or_from_slice_get session.jobs.items (length front) job.0 job.0 job.1) (c.requires.fits (length front) job.0 (slice_get_within session.jobs.items (length front) job.0 job.1));
         has_room = λ part. c.requires.has_room part (length front) job.0 answers job.1 there;
-      },
-    )
+      };
+    })
 
 pub returns-clause-fewer : goal.returns-clause-fewer
 returns-clause-fewer c =

@@ -14,10 +14,10 @@ use Rattle.mt_private.proofs.threads.take_back.Goals as goal
 
 -- whatever job is at its number is the one that it came with
 come_with : (session : Session) (k : ℕ) (v : Visitor) → HasComeIn session k v → (job : Job) → slice_get session.jobs.items k ≡ Some job → HasCome session.yard.table.shared.table_id (start_at session.yard) job k v
-come_with session k v come job at = there (λ (j : Job). HasCome session.yard.table.shared.table_id (start_at session.yard) j k v) session.jobs.items k job at come
+come_with session k v come job at = there (λ (j : Job). HasCome session.yard.table.shared.table_id (start_at session.yard) j k v) session.jobs.items k job at (come.job, come.at, come.come)
 
 has_job : (session : Session) (k : ℕ) (v : Visitor) → HasComeIn session k v → k < length session.jobs.items
-has_job session k v come = slice_get_within session.jobs.items k come.0 come.1
+has_job session k v come = slice_get_within session.jobs.items k come.job come.at
 
 has_place : (session : Session) (k : ℕ) (v : Visitor) → HasComeIn session k v → k < length (start_at session.yard).cpus
 has_place session k v come =
