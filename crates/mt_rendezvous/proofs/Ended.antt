@@ -20,8 +20,12 @@ use Rattle.mt_rendezvous.specs.declared.view.Held.{Held}
 use Rattle.mt_rendezvous.specs.declared.view.Start.{Start}
 use Rattle.mt_rendezvous.specs.declared.view.View.{View}
 use Rattle.mt_rendezvous.specs.Station.{Begins, both, broadcast, held}
-use Rattle.mt_rendezvous.specs.Calls.{Attended, Attends, Carries, Ends, HoldsOne}
-use Rattle.mt_rendezvous.specs.Update.{Came, IsQueue, IsReady, Tied, decided, left_by}
+use Rattle.mt_rendezvous.specs.declared.station.Pass.{Pass}
+use Rattle.mt_rendezvous.specs.declared.station.Root.{Root}
+use Rattle.mt_rendezvous.specs.declared.station.Station.{Station}
+use Rattle.mt_rendezvous.specs.Calls.{Carries, Ends, HoldsOne}
+use Rattle.mt_rendezvous.specs.InStation.{AllNewIn, AttendedIn, CameAs, IsQueue, IsRootIn, IsTakenAs, OneLess, Returned, Tied, pass_view, root_view, said_by, start_at}
+use Rattle.mt_rendezvous.specs.Update.{decided, left_by}
 
 -- ---- one attendee
 
@@ -29,31 +33,41 @@ module _ (table : TableId) (t : Start) (its : TableId) (me : Me (Unit {0}) View)
   holds_one : (added again : Bool) → Carries table t its me k q added again → HoldsOne table its me k q
   holds_one added again w = (held k q added again, w.same, w.bare, w.holds, refl, refl)
 
-  pub came : (o : Outcome) (p : Processor) → Attended o table t k p its me q → Came table its me k q
-  came Complete p a = (holds_one true true a.0, ap (λ r. r.phase) a.2)
-  came Cancelled p a = (holds_one true false a.0, ap (λ r. r.phase) a.1)
+pub came : (station : Station) (o : Outcome) (pass later : Pass) (p q : Processor) → AttendedIn o station pass p later q → later.number ≡ pass.number → CameAs station pass.number (record { cpu = q; pass = later })
+came station o pass later p q a same = one o a
+  where
+    id : TableId
+    id = station.table.shared.table_id
+
+    of : (added again : Bool) → Carries id (start_at station) later.seat.table_id later.seat.me pass.number q added again → q.phase ≡ Running → CameAs station pass.number (record { cpu = q; pass = later })
+    of added again w runs = record {
+      holds = subst (λ n. HoldsOne id later.seat.table_id later.seat.me n q) (sym same) (holds_one id (start_at station) later.seat.table_id later.seat.me pass.number q added again w);
+      runs = runs;
+      numbered = same;
+    }
+
+    one : (o : Outcome) → AttendedIn o station pass p later q → CameAs station pass.number (record { cpu = q; pass = later })
+    one Complete a = of true true a.0 (ap (λ r. r.phase) a.2)
+    one Cancelled a = of true false a.0 (ap (λ r. r.phase) a.1)
 
 -- ---- attendees in a row
 
-pub popped : (table : TableId) (t : Start) (old new : List Attendee) (o : Option Attendee) → old ≡ new ++ option_to_list o → IsQueue table t old
-    → IfSome o (λ a. IsReady table t a.cpu a.pass.seat.table_id a.pass.seat.me a.pass.number × (a.pass.number ≡ length new))
-popped table t old new None e q = search rules
-popped table t old new (Some a) e q = q.ready (length new) a (ap (λ l. get_elem? l (length new)) e ∙ at_last new a (length new) refl)
+pub popped : (station : Station) (old new : List Attendee) (o : Option Attendee) → old ≡ new ++ option_to_list o → IsQueue station old → IfSome o (IsTakenAs station (length new))
+popped station old new None e q = search rules
+popped station old new (Some a) e q = q.ready (length new) a (ap (λ l. get_elem? l (length new)) e ∙ at_last new a (length new) refl)
 
-pub left : (table : TableId) (t : Start) (old new : List Attendee) (o : Option Attendee) → old ≡ new ++ option_to_list o → IsQueue table t old
-    → IfSome o (λ a. (length old ≡ length new + 1) × IsQueue table t new)
-left table t old new None e q = search rules
-left table t old new (Some a) e q = (
+pub left : (station : Station) (old new : List Attendee) (o : Option Attendee) → old ≡ new ++ option_to_list o → IsQueue station old → IfSome o (λ a. OneLess station old new)
+left station old new None e q = search rules
+left station old new (Some a) e q = (
   omega (arith, ap (λ l. length l) e, length-append new (a ∷ [])),
   record { ready = λ k b at. q.ready k b (ap (λ l. get_elem? l k) e ∙ at_longer new (a ∷ []) k b at) },
 )
 
-pub queue : (table : TableId) (t : Start) (items : List Attendee) → Begins t → ((k : ℕ) (a : Attendee) → get_elem? items k ≡ some a → Attends table t k a.cpu a.pass.seat.table_id a.pass.seat.me a.pass.number)
-    → IsQueue table t items
-queue table t items begins all = record {
+pub queue : (station : Station) (items : List Attendee) → Begins (start_at station) → AllNewIn station items → IsQueue station items
+queue station items begins all = record {
   ready = λ k a at.
       let w = all k a at in (
-        record { carries = w.carries; taken = all_get (λ p. p.phase ≡ Taken) t.cpus begins.broadcasts.taken k a.cpu w.first },
+        record { carries = w.carries; taken = all_get (λ p. p.phase ≡ Taken) (start_at station).cpus begins.broadcasts.taken k a.cpu w.first },
         w.numbered,
       );
 }
@@ -79,6 +93,17 @@ ran_too done now c more runs old = all_of (λ p. p.phase ≡ Running) now (λ k 
     (λ (t : slice_get done k ≡ Some d). all_get (λ p. p.phase ≡ Running) done old k d t)
     (λ (t : (k ≡ length done) × (c ≡ d)). subst (λ p. p.phase ≡ Running) t.1 runs)
     (at_end done c d k (subst (λ l. slice_get l k ≡ Some d) more at)))
+
+-- one more came back
+pub returned : (station : Station) (root later : Root) (done now : List Processor) (a : Attendee) → IsRootIn station later → root_view later ≡ both (root_view root) (pass_view a.pass) → now ≡ done ++ a.cpu ∷ []
+    → Returned station root (said_by root) (length done) done → CameAs station (length done) a → Returned station later (said_by root) (length done + 1) now
+returned station root later done now a is_root same more r came = record {
+  is_root = is_root;
+  said = ap (λ v. v.go) same;
+  tied = let h = came.holds in tie (root_view root) (pass_view a.pass) (root_view later) h.0 done now a.cpu h.3 h.4 (h.5 ∙ came.numbered) same more r.tied;
+  ran = ran_too done now a.cpu more came.runs r.ran;
+  whole = ap (λ l. length l) more ∙ length-append done (a.cpu ∷ []);
+}
 
 -- ---- the end
 

@@ -8,10 +8,9 @@ use Rattle.mt_machine.specs.declared.phase.Phase.TheVariants.{Running}
 use Rattle.mt_machine.specs.declared.go.Go.{Go}
 use Rattle.mt_machine.specs.declared.go.Go.TheVariants.{Given}
 use Rattle.mt_machine.specs.declared.go.Go.TheVariants.{Cancelled as Stopped}
-use Rattle.mt_machine.specs.declared.event.Event.TheVariants.{Leave, Pass}
 use Rattle.mt_regs.specs.RegisterFile.{RegisterFile}
 use Rattle.mt_machine.specs.System.{Processor}
-use Rattle.mt_machine.specs.Machine.{Machine, own_step, remaining_order}
+use Rattle.mt_machine.specs.Machine.{Machine, remaining_order}
 use Rattle.mt_machine.specs.Memory.{Memory}
 use Rattle.mt_machine.specs.Update.{Led, settled_processor, updated}
 use Rattle.mt_laws.specs.Updates.{all_running}
@@ -22,7 +21,6 @@ use Rattle.mt_rendezvous.specs.declared.view.Held.{Held}
 use Rattle.mt_rendezvous.specs.declared.view.Start.{Start}
 use Rattle.mt_rendezvous.specs.declared.view.View.{View}
 use Rattle.mt_rendezvous.specs.Station.{broadcast, held, numbered, order_of}
-use Rattle.mt_rendezvous.specs.Plays.{Stands}
 
 -- a seat of the table carries this one processor
 pub record Carries (table : TableId) (t : Start) (its : TableId) (me : Me (Unit {0}) View) (number : ℕ) (c : Processor) (added again : Bool) : Type 0 where
@@ -43,11 +41,6 @@ pub record Leads (table : TableId) (t : Start) (its : TableId) (me : Me (Unit {0
   pub said : me.0.go ≡ go
   pub told : me.0.start ≡ t
   pub bare : me.1 ≡ []
-
--- what the first wait leads to
-abbrev pub Waited : Bool → Start → ℕ → Processor → Processor → Type 0
-Waited true t k p q = (q ≡ own_step t.goal Pass p) × Stands t Given k q
-Waited false t k p q = q ≡ own_step t.goal Leave p
 
 -- what comes of an attendee: its processor is the one that the update leaves, after a load showed that all had arrived again; or it is as it was, and runs
 abbrev pub Attended : Outcome → TableId → Start → ℕ → Processor → TableId → Me (Unit {0}) View → Processor → Type 0

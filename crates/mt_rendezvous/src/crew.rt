@@ -2,13 +2,14 @@
 ghost use Rattle.std.specs.Prelude.{◌≡◌, ℕ, IfErr, IfOk};
 
 use mt_ports::Gate;
+use std::marker::PhantomData;
 use std::snapshot::Snapshot;
-use std::thread::{Promise, PromisedHandle, Scope};
+use std::thread::{Promise, PromisedHandle, Scope, Threads};
 
 mod memory;
 
-pub use memory::boxed;
-pub(crate) use memory::{open, room};
+pub(crate) use memory::open;
+pub use memory::room;
 
 /// A gate that is lent, which does what the gate does.
 #[derive(Drop)]
@@ -33,8 +34,8 @@ impl<'a, G: Gate> Gate for Lent<'a, G> {
     }
 }
 
-/// That a start, a thread or memory was refused. Only this module and `crew/memory.rt` make one: they ask the gate, start
-/// the threads and ask the allocator themselves. It has no bytes, and can't be copied or let go.
+/// That a gate, the system or the allocator has refused a start or memory. Only this module and `crew/memory.rt` can make one
+/// or take one apart. It has no bytes, and is neither `Clone` nor `Drop`. No clause says that they make one only then.
 pub struct Refusal {
     made: (),
 }
@@ -57,7 +58,7 @@ pub trait OfProcessor {
     ghost number: { Self → ℕ };
 }
 
-/// The work of a thread that wasn't started. Only `Crew::start` makes one, and it can't be let go.
+/// The work of a thread that wasn't started. Only this module can make one or take one apart, and it isn't `Drop`.
 pub struct Unstarted<F> {
     work: F,
     /// The work, as `Crew::start` got it.
@@ -79,7 +80,18 @@ impl<F> Unstarted<F> {
     }
 }
 
-/// Starts the threads that its gate lets start, and tells the gate of arrivals.
+/// A thread that a crew with a gate of type G has started. Only this module can make one or take one apart. It isn't `Drop`,
+/// so the thread has to be joined.
+pub struct Started<T, P: Promise<T>, G> {
+    handle: PromisedHandle<T, P>,
+    gate: PhantomData<G>,
+    /// What the thread's result keeps.
+    pub promise: Snapshot<P>,
+    pub ghost same: { handle.promise ≡ promise.value },
+}
+
+/// Starts the threads that its gate lets start, joins them, and tells its gate of arrivals. A function can make one with a gate of
+/// its own: only the gate's type says which gate is asked.
 #[derive(Drop)]
 pub struct Crew<G> {
     gate: G,
@@ -91,12 +103,12 @@ impl<G: Gate> Crew<G> {
         Crew { gate }
     }
 
-    /// Tells the gate, once, that processor k has arrived.
+    /// Tells its gate, once, that processor k has arrived.
     pub fn tell(&self, k: u32) {
         self.gate.arrived(k);
     }
 
-    /// Asks the gate about processor k, once, and starts its thread if the gate lets it.
+    /// Asks its gate about processor k, once, and starts the thread if the gate lets it.
     ///
     /// # Errors
     ///
@@ -113,22 +125,41 @@ impl<G: Gate> Crew<G> {
         k: u32,
         promise: P,
         work: F,
-    ) -> Result<PromisedHandle<T, P>, Unstarted<F>>
+    ) -> Result<Started<T, P, G>, Unstarted<F>>
         requires runs { F.pre work }
         requires keeps { (r : T) → F.post work r → P.kept_by promise r }
         requires number { k ≡ P.number promise }
-        ensures promised { IfOk result (λ h. h.promise ≡ promise) }
+        ensures promised { IfOk result (λ s. s.promise.value ≡ promise) }
         ensures refused { IfErr result (λ e. e.was.value ≡ work) }
     {
         let was = Snapshot::of(&work);
         let work = if self.gate.may_start(k) {
+            let promised = Snapshot::of(&promise);
             match scope.spawn_with(promise, work) {
-                Ok(child) => return Ok(child),
+                Ok(handle) => {
+                    return Ok(Started {
+                        handle,
+                        gate: PhantomData,
+                        promise: promised,
+                    });
+                }
                 Err(failed) => failed.value,
             }
         } else {
             work
         };
         Err(Unstarted { work, was })
+    }
+
+    /// Waits for the end of a thread that a crew with such a gate has started.
+    pub fn join<R: Threads, T, P: Promise<T>>(&self, rt: &R, child: Started<T, P, G>) -> T
+        ensures { P.kept_by child.promise.value result }
+    {
+        let Started {
+            handle,
+            gate: _,
+            promise: _,
+        } = child;
+        handle.join(rt)
     }
 }

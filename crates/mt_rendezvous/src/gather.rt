@@ -2,8 +2,9 @@
 ghost use Rattle.std.specs.Prelude.{◌≡◌, ℕ, ◌+◌, ◌<◌, ◌≤◌, [], length, slice_get, None, Some, IfOk, IfErr, vec_len, vec_capacity};
 ghost use Rattle.mt_machine.specs.declared.go.Go.TheVariants.{Pending};
 ghost use Rattle.mt_rendezvous.specs.Station.{Begins, both};
-ghost use Rattle.mt_rendezvous.specs.Calls.{Ends, gathered};
-ghost use Rattle.mt_rendezvous.specs.InStation.{AllNewIn, HoldsOneIn, IsGatheredIn, IsNewIn, IsRootIn, LeadsIn, OffersIn, start_at, windows_at};
+ghost use Rattle.mt_rendezvous.specs.Calls.{gathered};
+ghost use Rattle.mt_rendezvous.specs.InStation.{AllNewIn, EndsIn, HoldsOneIn, IsAsGathered, IsGatheredIn, IsNewIn, IsRootIn, LeadsIn, OffersIn};
+ghost use Rattle.mt_rendezvous.specs.InStation.{held_by, pass_view, root_view, start_at, windows_at};
 
 use crate::crew::{Refusal, open, room};
 use crate::station::{Attendee, Pass, Root, Station};
@@ -17,7 +18,7 @@ use std::alloc::Global;
 fn give_away(station: &Station, root: &mut Root, cpu: Cpu, i: usize) -> Attendee
     requires leads { LeadsIn station.now root.old Pending }
     requires offers { OffersIn station.now i root.old }
-    requires first { slice_get (start_at station.now).cpus i ≡ Some cpu }
+    requires first { IsAsGathered station.now i cpu }
     ensures leads { LeadsIn station.now root.new Pending }
     ensures offers { OffersIn station.now (i + 1) root.new }
     ensures shown { result.pass.shown ≡ None }
@@ -38,7 +39,7 @@ fn give_away(station: &Station, root: &mut Root, cpu: Cpu, i: usize) -> Attendee
 fn give_all(station: &Station, root: &mut Root, cpus: &mut Vec<Cpu>, attendees: &mut Vec<Attendee>)
     requires leads { LeadsIn station.now root.old Pending }
     requires offers { OffersIn station.now 0 root.old }
-    requires first { (k : ℕ) (c : _) → slice_get cpus.old.items k ≡ Some c → slice_get (start_at station.now).cpus k ≡ Some c }
+    requires first { (k : ℕ) (c : _) → slice_get cpus.old.items k ≡ Some c → IsAsGathered station.now k c }
     requires room { length cpus.old.items ≤ vec_capacity attendees.old }
     requires empty { attendees.old.items ≡ [] }
     ensures leads { LeadsIn station.now root.new Pending }
@@ -56,7 +57,7 @@ fn give_all(station: &Station, root: &mut Root, cpus: &mut Vec<Cpu>, attendees: 
     attendees.push_reserved(attendee);
 }
 
-// Does what `Station::gather` does, and says that memory was refused if it was.
+// Does what `Station::gather` does. If an allocation fails, the refusal comes back too.
 pub(crate) fn gather_station(
     alloc: Global,
     cpus: Vec<Cpu>,
@@ -67,10 +68,10 @@ pub(crate) fn gather_station(
     requires few { vec_len cpus ≤ 16 }
     requires begins { Begins (gathered cpus.items ram.now goal.now) }
     ensures gathered { IfOk result (λ t. IsGatheredIn (gathered cpus.items ram.now goal.now) t.0 t.1 t.2.items) }
-    ensures empty { IfOk result (λ t. t.1.seat.me.0.held ≡ []) }
+    ensures empty { IfOk result (λ t. held_by t.1 ≡ []) }
     ensures refused { IfErr result (λ e. e.0.items ≡ cpus.items) }
 {
-    let mut attendees = match room(alloc, &cpus) {
+    let mut attendees = match room(alloc, cpus.len()) {
         Ok(room) => room,
         Err(refusal) => return Err((cpus, refusal)),
     };
@@ -88,7 +89,7 @@ impl Station {
     ///
     /// # Errors
     ///
-    /// There is no memory for it; the processors come back. No clause says that the error comes of nothing else.
+    /// An allocation fails; the processors come back. No clause excludes an error for another reason.
     pub fn gather(
         alloc: Global,
         cpus: Vec<Cpu>,
@@ -99,7 +100,7 @@ impl Station {
         requires few { vec_len cpus ≤ 16 }
         requires begins { Begins (gathered cpus.items ram.now goal.now) }
         ensures root { IfOk result (λ t. LeadsIn t.0 t.1 Pending) }
-        ensures empty { IfOk result (λ t. t.1.seat.me.0.held ≡ []) }
+        ensures empty { IfOk result (λ t. held_by t.1 ≡ []) }
         ensures key { IfOk result (λ t. start_at t.0 ≡ gathered cpus.items ram.now goal.now) }
         ensures count { IfOk result (λ t. length t.2.items ≡ length cpus.items) }
         ensures attendees { IfOk result (λ t. AllNewIn t.0 t.2.items) }
@@ -116,12 +117,12 @@ impl Station {
 }
 
 impl Root {
-    /// Takes the pass back, and answers its processor.
+    /// Takes the pass back, and returns its processor.
     pub fn take_back(&mut self, station: &Station, a: Attendee) -> Cpu
         requires root { IsRootIn station.now self.old }
         requires pass { HoldsOneIn station.now a }
         ensures root { IsRootIn station.now self.new }
-        ensures held { self.new.seat.me.0 ≡ both self.old.seat.me.0 a.pass.seat.me.0 }
+        ensures held { root_view self.new ≡ both (root_view self.old) (pass_view a.pass) }
         ensures cpu { result ≡ a.cpu }
     {
         let Attendee { cpu, pass } = a;
@@ -138,11 +139,11 @@ impl Root {
     }
 }
 
-/// Ends the station, puts the words into memory, and tells where the machine is in the end.
+/// Ends the station and puts its words into memory. The clause says where the machine then is.
 pub fn disband(station: Station, root: Root, ram: &mut Ram)
     requires root { IsRootIn station root }
     requires windows { ram.old.windows ≡ windows_at station }
-    ensures { Ends (start_at station) root.seat.me.0 ram.new }
+    ensures { EndsIn station root ram.new }
 {
     let Station { table, count } = station;
     let Root { seat } = root;

@@ -1,11 +1,11 @@
 // The station, its root and its passes.
-ghost use Rattle.std.specs.Prelude.{◌≡◌, ◌+◌, ◌<◌, true, false, length, slice_get, Some, IsTrue};
-ghost use Rattle.mt_machine.specs.declared.phase.Phase.TheVariants.{Restored, Arrived2};
+ghost use Rattle.std.specs.Prelude.{◌≡◌, ◌+◌, ◌<◌, false, length, IsTrue};
+ghost use Rattle.mt_machine.specs.declared.phase.Phase.TheVariants.{Restored};
 ghost use Rattle.mt_machine.specs.declared.go.Go.TheVariants.{Pending, Given, Cancelled};
-ghost use Rattle.mt_machine.specs.Machine.{own_step, is_changing};
+ghost use Rattle.mt_machine.specs.Machine.{own_step};
 ghost use Rattle.mt_cpu.specs.Steps.{is_local};
-ghost use Rattle.mt_rendezvous.specs.Station.{Begins, code};
-ghost use Rattle.mt_rendezvous.specs.Plays.{IsWaiting, Made, Stands, own_event, written};
+ghost use Rattle.mt_rendezvous.specs.Station.{code};
+ghost use Rattle.mt_rendezvous.specs.Plays.{own_event, written};
 
 use crate::crew::Coordinator;
 use crate::view::{Key, Meeting, Turn, View};
@@ -99,14 +99,14 @@ impl Coordinator<Station> for Root {
 }
 
 impl Root {
-    ghost use Rattle.mt_rendezvous.specs.InStation.{LeadsIn};
+    ghost use Rattle.mt_rendezvous.specs.InStation.{AddsToFirst, LeadsIn, held_by};
 
     /// Gives the go, once. Its addition to word 0 is the event Go.
     pub fn go(&mut self, station: &Station)
         requires { LeadsIn station.now self.old Pending }
         ensures leads { LeadsIn station.now self.new Given }
-        ensures held { self.new.seat.me.0.held ≡ self.old.seat.me.0.held }
-        ensures event { Made 0 1 self.old.seat.me self.new.seat.me }
+        ensures held { held_by self.new ≡ held_by self.old }
+        ensures event { AddsToFirst 1 self.old self.new }
     {
         station
             .table
@@ -118,8 +118,8 @@ impl Root {
     pub fn cancel(&mut self, station: &Station)
         requires { LeadsIn station.now self.old Pending }
         ensures leads { LeadsIn station.now self.new Cancelled }
-        ensures held { self.new.seat.me.0.held ≡ self.old.seat.me.0.held }
-        ensures event { Made 0 4294967296 self.old.seat.me self.new.seat.me }
+        ensures held { held_by self.new ≡ held_by self.old }
+        ensures event { AddsToFirst 4294967296 self.old self.new }
     {
         station
             .table
@@ -129,7 +129,7 @@ impl Root {
 }
 
 impl Pass {
-    ghost use Rattle.mt_rendezvous.specs.InStation.{CarriesIn, goal_at, start_at, windows_at};
+    ghost use Rattle.mt_rendezvous.specs.InStation.{HasArrivedAgain, HasPassed, goal_at, shown_to, start_at, windows_at};
 
     /// The number of its processor.
     pub fn processor(&self) -> u32
@@ -140,7 +140,7 @@ impl Pass {
 
     /// The second count that its last load of it showed. There is none where it has made no such load.
     pub fn shown(&self) -> Option<u32>
-        ensures { result ≡ self.now.seat.me.0.shown }
+        ensures { result ≡ shown_to self.now }
     {
         self.shown
     }
@@ -148,16 +148,12 @@ impl Pass {
     // Does the processor's next event between the barriers. Its one store, of the word of memory that is written
     // back or else of the own phase word, is that event.
     fn work(&mut self, station: &Station, ram: &Ram, goal: &RegFile, cpu: &mut Cpu)
-        requires carries { CarriesIn station.now self.old cpu.old true false }
-        requires stands { Stands (start_at station.now) Given self.old.number cpu.old }
-        requires between { IsTrue (is_local cpu.old.phase) }
-        requires begins { Begins (start_at station.now) }
+        requires passed { HasPassed station.now self.old cpu.old }
+        requires local { IsTrue (is_local cpu.old.phase) }
         requires goal { goal.now ≡ goal_at station.now }
         requires windows { ram.now.windows ≡ windows_at station.now }
+        ensures passed { HasPassed station.now self.new cpu.new }
         ensures number { self.new.number ≡ self.old.number }
-        ensures carries { CarriesIn station.now self.new cpu.new true false }
-        ensures stands { Stands (start_at station.now) Given self.new.number cpu.new }
-        ensures between { is_changing cpu.new.phase ≡ true }
         ensures becomes { cpu.new ≡ own_step (goal_at station.now) (own_event (start_at station.now) cpu.old) cpu.old }
     {
         let e = cpu.local(goal);
@@ -184,14 +180,11 @@ impl Pass {
 
     // Does all events between the barriers, which are so many as are left to do.
     fn work_all(&mut self, station: &Station, ram: &Ram, goal: &RegFile, cpu: &mut Cpu)
-        requires carries { CarriesIn station.now self.old cpu.old true false }
-        requires stands { Stands (start_at station.now) Given self.old.number cpu.old }
-        requires between { is_changing cpu.old.phase ≡ true }
-        requires begins { Begins (start_at station.now) }
+        requires passed { HasPassed station.now self.old cpu.old }
         requires goal { goal.now ≡ goal_at station.now }
         requires windows { ram.now.windows ≡ windows_at station.now }
+        ensures passed { HasPassed station.now self.new cpu.new }
         ensures number { self.new.number ≡ self.old.number }
-        ensures carries { CarriesIn station.now self.new cpu.new true false }
         ensures restored { cpu.new.phase ≡ Restored }
     {
         while is_local(cpu.phase()) {
@@ -201,27 +194,22 @@ impl Pass {
 
     // Adds to word 1: the event ArriveAgain.
     fn arrive_again(&mut self, station: &Station, cpu: &mut Cpu)
-        requires carries { CarriesIn station.now self.old cpu.old true false }
+        requires passed { HasPassed station.now self.old cpu.old }
         requires restored { cpu.old.phase ≡ Restored }
+        ensures arrived { HasArrivedAgain station.now self.new cpu.new }
         ensures number { self.new.number ≡ self.old.number }
-        ensures carries { CarriesIn station.now self.new cpu.new true true }
-        ensures waits { cpu.new.phase ≡ Arrived2 }
     {
         station.table.shared.fetch_add::<Turn>(&mut self.seat, 1, 1);
         cpu.shift(Event::ArriveAgain);
     }
 
-    // Does all that lies between the barriers. It waits for nobody, so it is proved to end.
+    // Does all that lies between the barriers. It waits for nobody, so it terminates.
     pub(crate) fn change(&mut self, station: &Station, ram: &Ram, goal: &RegFile, cpu: &mut Cpu)
-        requires carries { CarriesIn station.now self.old cpu.old true false }
-        requires stands { Stands (start_at station.now) Given self.old.number cpu.old }
-        requires between { is_changing cpu.old.phase ≡ true }
-        requires begins { Begins (start_at station.now) }
+        requires passed { HasPassed station.now self.old cpu.old }
         requires goal { goal.now ≡ goal_at station.now }
         requires windows { ram.now.windows ≡ windows_at station.now }
+        ensures arrived { HasArrivedAgain station.now self.new cpu.new }
         ensures number { self.new.number ≡ self.old.number }
-        ensures carries { CarriesIn station.now self.new cpu.new true true }
-        ensures waits { cpu.new.phase ≡ Arrived2 }
     {
         self.work_all(station, ram, goal, cpu);
         self.arrive_again(station, cpu);

@@ -1,11 +1,10 @@
-// An update on threads: one for each processor, in a scope.
-ghost use Rattle.std.specs.Prelude.{◌≡◌, ℕ, ◌+◌, ◌++◌, ◌∷◌, ◌<◌, ◌≤◌, ◌↔◌, [], Bool, true, false, length, map};
-ghost use Rattle.std.specs.Prelude.{Err, None, Some, IsSome, OnOk, OnErr, IfOk, IfErr, IfSome, IfNone, is_ok, vec_len, vec_capacity};
+// An update on threads, or without them if one is refused.
+ghost use Rattle.std.specs.Prelude.{◌≡◌, ◌<◌, ◌≤◌, ◌↔◌, [], false, length, map};
+ghost use Rattle.std.specs.Prelude.{Err, None, Some, IsSome, OnOk, OnErr, is_ok, vec_len};
 ghost use Rattle.std.specs.List.{All};
 ghost use Rattle.mt_regs.specs.declared.fault.Fault.{Fault};
 ghost use Rattle.mt_regs.specs.Faults.{IsAccepted, IsFirstFault};
-ghost use Rattle.mt_machine.specs.declared.phase.Phase.TheVariants.{Running, Taken};
-ghost use Rattle.mt_machine.specs.declared.go.Go.TheVariants.{Cancelled, Pending};
+ghost use Rattle.mt_machine.specs.declared.phase.Phase.TheVariants.{Taken};
 ghost use Rattle.mt_machine.specs.Machine.{FitsGoal, Order};
 ghost use Rattle.mt_machine.specs.Start.{HasEraRoom, IsQuiet};
 ghost use Rattle.mt_machine.specs.System.{IsSound};
@@ -17,14 +16,14 @@ ghost use Rattle.mt_types.specs.Tables.{IsTableOf};
 ghost use Rattle.mt_bus.specs.Parts.{system};
 ghost use Rattle.mt_bus.specs.Holders.{AreHeldBy};
 ghost use Rattle.mt_bus.specs.Tables.{AreTablesOf};
-ghost use Rattle.mt_rendezvous.specs.Update.{AreOf, CanUpdate, Tied, decided, left_by, running, tables_left};
-ghost use Rattle.mt_rendezvous.specs.InStation.{CameIn, IsQueueIn, IsReadyAsIn, IsRootIn, LeadsIn, OneLessIn, ReturnedIn, goal_at, start_at, windows_at};
+ghost use Rattle.mt_rendezvous.specs.Update.{CanUpdate, left_by, running, tables_left};
 
+use crate::attendance::{Attendance, Ended, meet};
 use crate::broadcast::call_and_take;
-use crate::caller::{Caller, start};
-use crate::crew::{Refusal, boxed, room};
+use crate::caller::Caller;
+use crate::crew::{Refusal, room};
 use crate::gather::{disband, gather_station};
-use crate::station::{Attendee, Root, Station};
+use crate::shared::Shared;
 use mt_bus::{Holders, System, SystemParts};
 use mt_core::{CallFault, Core, a_core_arises};
 use mt_cpu::Cpu;
@@ -35,215 +34,14 @@ use mt_regs::RegFile;
 use mt_types::KindTable;
 use std::alloc::Global;
 use std::sync::Wait;
-use std::thread::{Scope, Threads};
+use std::thread::Threads;
 
-// The attendee's processor comes back.
-fn finish(station: &Station, a: Attendee, root: &mut Root, done: &mut Vec<Cpu>)
-    requires root { IsRootIn station.now root.old }
-    requires came { CameIn station.now a }
-    requires next { a.pass.number ≡ length done.old.items }
-    requires tied { Tied root.old.seat.me.0 done.old.items }
-    requires room { vec_len done.old < vec_capacity done.old }
-    ensures root { IsRootIn station.now root.new }
-    ensures go { root.new.seat.me.0.go ≡ root.old.seat.me.0.go }
-    ensures room { (length done.new.items ≡ length done.old.items + 1) × (vec_capacity done.new ≡ vec_capacity done.old) }
-    ensures tied { Tied root.new.seat.me.0 done.new.items }
-    ensures ran { All (λ c. c.phase ≡ Running) done.old.items → All (λ c. c.phase ≡ Running) done.new.items }
-{
-    done.push_reserved(root.take_back(station, a));
-}
-
-// What a thread had comes back.
-fn finish_boxed(station: &Station, a: Box<Attendee>, root: &mut Root, done: &mut Vec<Cpu>)
-    requires root { IsRootIn station.now root.old }
-    requires came { CameIn station.now a.value }
-    requires next { a.value.pass.number ≡ length done.old.items }
-    requires tied { Tied root.old.seat.me.0 done.old.items }
-    requires room { vec_len done.old < vec_capacity done.old }
-    ensures root { IsRootIn station.now root.new }
-    ensures go { root.new.seat.me.0.go ≡ root.old.seat.me.0.go }
-    ensures room { (length done.new.items ≡ length done.old.items + 1) × (vec_capacity done.new ≡ vec_capacity done.old) }
-    ensures tied { Tied root.new.seat.me.0 done.new.items }
-    ensures ran { All (λ c. c.phase ≡ Running) done.old.items → All (λ c. c.phase ≡ Running) done.new.items }
-{
-    finish(station, Box::into_inner(a), root, done);
-}
-
-// The last attendee.
-fn last(station: &Station, waiting: &mut Vec<Attendee>) -> Option<Attendee>
-    requires { IsQueueIn station.now waiting.old.items }
-    ensures none { IfNone result ((waiting.old.items ≡ []) × (length waiting.old.items ≡ 0)) }
-    ensures some { IfSome result (λ a. IsReadyAsIn station.now (length waiting.new.items) a) }
-    ensures rest { IfSome result (λ a. OneLessIn station.now waiting.old.items waiting.new.items) }
-    ensures whole { IfSome result (λ a. waiting.old.items ≡ waiting.new.items ++ a ∷ []) }
-    ensures kept { IfNone result (waiting.new.items ≡ waiting.old.items) }
-    ensures capacity { vec_capacity waiting.new ≡ vec_capacity waiting.old }
-{
-    let _ = station.count; // a fact for the proof
-    waiting.pop()
-}
-
-// The last attendee, in a block that a thread takes without a copy.
-fn last_boxed(
-    station: &Station,
-    alloc: Global,
-    waiting: &mut Vec<Attendee>,
-) -> Result<Box<Attendee>, Refusal>
-    requires queue { IsQueueIn station.now waiting.old.items }
-    requires waits { 0 < vec_len waiting.old }
-    ensures kept { IfErr result (λ e. waiting.new.items ≡ waiting.old.items) }
-    ensures some { IfOk result (λ a. IsReadyAsIn station.now (length waiting.new.items) a.value) }
-    ensures rest { IfOk result (λ a. OneLessIn station.now waiting.old.items waiting.new.items) }
-{
-    let Some(a) = last(station, waiting) else {
-        unreachable!()
-    };
-    match boxed(alloc, a) {
-        Ok(block) => Ok(block),
-        Err((a, refusal)) => {
-            waiting.push_reserved(a);
-            Err(refusal)
-        }
-    }
-}
-
-// With the cancel given, all of these leave on this thread, which a refusal alone allows.
-fn leave_all<R: Wait, G: Gate>(
-    caller: &Caller<R, G>,
-    refusal: &Refusal,
-    station: &Station,
-    ram: &Ram,
-    root: &mut Root,
-    goal: &RegFile,
-    waiting: &mut Vec<Attendee>,
-    done: &mut Vec<Cpu>,
-)
-    requires root { IsRootIn station.now root.old }
-    requires cancelled { root.old.seat.me.0.go ≡ Cancelled }
-    requires goal { goal.now ≡ goal_at station.now }
-    requires windows { ram.now.windows ≡ windows_at station.now }
-    requires waiting { IsQueueIn station.now waiting.old.items }
-    requires room { length waiting.old.items ≤ vec_capacity done.old }
-    requires empty { done.old.items ≡ [] }
-    ensures returned { ReturnedIn station.now root.new root.old.seat.me.0.go (length waiting.old.items) done.new.items }
-    ensures capacity { vec_capacity done.new ≡ vec_capacity done.old }
-{
-    let Some(mut a) = last(station, waiting) else {
-        return;
-    };
-    leave_all(caller, refusal, station, ram, root, goal, waiting, done);
-    refusal.leave(caller, station, ram, root, &mut a, goal);
-    finish(station, a, root, done);
-}
-
-// Starts a thread for each of these, gives the go, and takes all back. Where one isn't started it cancels.
-fn run_all<'s, E, R: Threads + Wait + Sync, G: Gate>(
-    caller: &'s Caller<R, G>,
-    alloc: Global,
-    scope: &Scope<'s, E>,
-    station: &'s Station,
-    ram: &'s Ram,
-    root: &mut Root,
-    goal: &'s RegFile,
-    waiting: &mut Vec<Attendee>,
-    done: &mut Vec<Cpu>,
-) -> Result<(), Refusal>
-    requires root { LeadsIn station.now root.old Pending }
-    requires goal { goal.now ≡ goal_at station.now }
-    requires windows { ram.now.windows ≡ windows_at station.now }
-    requires waiting { IsQueueIn station.now waiting.old.items }
-    requires room { length waiting.old.items ≤ vec_capacity done.old }
-    requires empty { done.old.items ≡ [] }
-    ensures returned { ReturnedIn station.now root.new (decided (is_ok result)) (length waiting.old.items) done.new.items }
-    ensures capacity { vec_capacity done.new ≡ vec_capacity done.old }
-{
-    if waiting.is_empty() {
-        root.go(station);
-        return Ok(());
-    }
-    let a = match last_boxed(station, alloc, waiting) {
-        Ok(a) => a,
-        Err(refusal) => {
-            root.cancel(station);
-            leave_all(caller, &refusal, station, ram, root, goal, waiting, done);
-            return Err(refusal);
-        }
-    };
-    match start(caller, scope, station, ram, root, a, goal) {
-        Ok(child) => {
-            let outcome = run_all(
-                caller, alloc, scope, station, ram, root, goal, waiting, done,
-            );
-            finish_boxed(station, child.join(caller), root, done);
-            outcome
-        }
-        Err((a, refusal)) => {
-            leave_all(caller, &refusal, station, ram, root, goal, waiting, done);
-            finish_boxed(station, a, root, done);
-            Err(refusal)
-        }
-    }
-}
-
-// Where the threads have ended: whether the go was given, or what was refused, the root, and the processors.
-struct Ended {
-    outcome: Result<(), Refusal>,
-    root: Root,
-    done: Vec<Cpu>,
-}
-
-// The scope of the threads.
-fn meet<R: Threads + Wait + Sync, G: Gate>(
-    caller: &Caller<R, G>,
-    alloc: Global,
-    station: &Station,
-    ram: &Ram,
-    mut root: Root,
-    goal: &RegFile,
-    mut waiting: Vec<Attendee>,
-    mut done: Vec<Cpu>,
-) -> Ended
-    requires root { LeadsIn station.now root Pending }
-    requires goal { goal.now ≡ goal_at station.now }
-    requires windows { ram.now.windows ≡ windows_at station.now }
-    requires waiting { IsQueueIn station.now waiting.items }
-    requires room { length waiting.items ≤ vec_capacity done }
-    requires empty { done.items ≡ [] }
-    ensures { ReturnedIn station.now result.root (decided (is_ok result.outcome)) (length waiting.items) result.done.items }
-{
-    caller.scope(
-        move |scope| -> Ended
-            requires root { LeadsIn station.now root Pending }
-            requires same { AreOf (start_at station.now) goal.now ram.now.windows }
-            requires waiting { IsQueueIn station.now waiting.items }
-            requires room { (length waiting.items ≤ vec_capacity done) × (done.items ≡ []) }
-            ensures { ReturnedIn station.entry.now result.root (decided (is_ok result.outcome)) (length waiting.items) result.done.items }
-        {
-            let outcome = run_all(
-                caller,
-                alloc,
-                scope,
-                station,
-                ram,
-                &mut root,
-                goal,
-                &mut waiting,
-                &mut done,
-            );
-            Ended {
-                outcome,
-                root,
-                done,
-            }
-        },
-    )
-}
-
-// The processors, and whether the update is done, or what was refused. If it isn't done, they run and nothing else has
-// changed.
-struct Led {
+// An update that was tried on threads: whether it is done, or what was refused, the processors and the memory. If it isn't
+// done, the processors run and nothing else has changed.
+struct Attempt {
     outcome: Result<(), Refusal>,
     cpus: Vec<Cpu>,
+    ram: Ram,
 }
 
 // The processor leaves the update.
@@ -265,54 +63,74 @@ fn leave_each(cpus: &mut [Cpu])
 }
 
 // Without memory for the threads all leave.
-fn run_again(mut cpus: Vec<Cpu>, refusal: Refusal) -> Led
+fn give_up(mut cpus: Vec<Cpu>, ram: Ram, refusal: Refusal) -> Attempt
     requires { All (λ c. c.phase ≡ Taken) cpus.items }
-    ensures { (is_ok result.outcome ≡ false) × (result.cpus.items ≡ map running cpus.items) }
+    ensures outcome { is_ok result.outcome ≡ false }
+    ensures left { (result.cpus.items ≡ map running cpus.items) × (result.ram ≡ ram) }
 {
     leave_each(cpus.as_mut_slice());
-    Led {
+    Attempt {
         outcome: Err(refusal),
         cpus,
+        ram,
     }
 }
 
-// Leads taken processors through the update, on a thread each.
-fn lead_on_threads<R: Threads + Wait + Sync, G: Gate>(
+// Tries the update of taken processors on threads, one for each.
+fn update_on_threads<R: Threads + Wait + Sync, G: Gate>(
     caller: &Caller<R, G>,
     alloc: Global,
     cpus: Vec<Cpu>,
-    ram: &mut Ram,
+    ram: Ram,
     goal: &RegFile,
-) -> Led
+) -> Attempt
     requires some { 0 < vec_len cpus }
     requires few { vec_len cpus ≤ 16 }
-    requires begins { Begins (gathered cpus.items ram.old goal.now) }
-    ensures left { system result.cpus.items ram.new ≡ left_by (is_ok result.outcome) (system cpus.items ram.old) goal.now }
+    requires begins { Begins (gathered cpus.items ram goal.now) }
+    ensures left { system result.cpus.items result.ram ≡ left_by (is_ok result.outcome) (system cpus.items ram) goal.now }
     ensures count { length result.cpus.items ≡ length cpus.items }
 {
-    let done = match room(alloc, &cpus) {
+    let done = match room(alloc, cpus.len()) {
         Ok(done) => done,
-        Err(refusal) => return run_again(cpus, refusal),
+        Err(refusal) => return give_up(cpus, ram, refusal),
     };
-    match gather_station(alloc, cpus, ram, goal) {
-        Ok((station, root, waiting)) => {
-            let Ended {
-                outcome,
-                root,
-                done,
-            } = meet(caller, alloc, &station, ram, root, goal, waiting, done);
-            disband(station, root, ram);
-            Led {
-                outcome,
-                cpus: done,
-            }
-        }
-        Err((cpus, refusal)) => run_again(cpus, refusal),
+    let (station, root, waiting) = match gather_station(alloc, cpus, &ram, goal) {
+        Ok(gathered) => gathered,
+        Err((cpus, refusal)) => return give_up(cpus, ram, refusal),
+    };
+    let shared = Shared {
+        station,
+        ram,
+        goal: goal.same(),
+    };
+    let Ended {
+        outcome,
+        root,
+        done,
+    } = meet(
+        caller,
+        &shared,
+        Attendance {
+            root,
+            waiting,
+            done,
+        },
+    );
+    let Shared {
+        station,
+        mut ram,
+        goal: _,
+    } = shared;
+    disband(station, root, &mut ram);
+    Attempt {
+        outcome,
+        cpus: done,
+        ram,
     }
 }
 
 // The update by the calls of a core, which a refusal alone allows.
-fn lead_alone(refusal: Refusal, system: System, goal: &RegFile) -> Core
+fn update_alone(refusal: Refusal, system: System, goal: &RegFile) -> Core
     requires { CanUpdate system goal.now }
     ensures { result ≡ updated system [] goal.now }
 {
@@ -335,7 +153,7 @@ fn renew_each(tables: &mut [KindTable], kinds: &KindTable)
     }
 }
 
-// They come there where the update is done.
+// They come there if the update is done.
 fn renew_tables(tables: &mut Vec<KindTable>, given: bool, kinds: &KindTable)
     ensures { tables.new.items ≡ tables_left given kinds.now tables.old.items }
 {
@@ -367,8 +185,8 @@ fn at_rest(system: System) -> Core
     Core::new(system)
 }
 
-// From the state in which all have taken to the end of the update.
-fn finished<R: Threads + Wait + Sync, G: Gate>(
+// The core after the update, from the state in which all have taken.
+fn carried_out<R: Threads + Wait + Sync, G: Gate>(
     caller: &Caller<R, G>,
     alloc: Global,
     system: System,
@@ -383,16 +201,16 @@ fn finished<R: Threads + Wait + Sync, G: Gate>(
 {
     let SystemParts {
         cpus,
-        mut ram,
+        ram,
         mut tables,
         holders,
     } = system.into_parts();
-    let Led { outcome, cpus } = lead_on_threads(caller, alloc, cpus, &mut ram, goal);
+    let Attempt { outcome, cpus, ram } = update_on_threads(caller, alloc, cpus, ram, goal);
     renew_tables(&mut tables, outcome.is_ok(), kinds);
     let system = put_together(cpus, ram, tables, holders);
     match outcome {
         Ok(()) => at_rest(system),
-        Err(refusal) => lead_alone(refusal, system, goal),
+        Err(refusal) => update_alone(refusal, system, goal),
     }
 }
 
@@ -407,8 +225,8 @@ fn kinds_of(core: &Core) -> KindTable
     order.kinds.same()
 }
 
-// The core whose processors have taken comes to the end of the update.
-fn lead<R: Threads + Wait + Sync, G: Gate>(
+// Carries out the update of a core whose processors have taken.
+fn carry_out<R: Threads + Wait + Sync, G: Gate>(
     caller: &Caller<R, G>,
     alloc: Global,
     core: &mut Core,
@@ -422,7 +240,7 @@ fn lead<R: Threads + Wait + Sync, G: Gate>(
     a_core_arises(core); // a fact for the proof
     let kinds = kinds_of(core);
     let system = core.take_system(alloc);
-    *core = finished(caller, alloc, system, goal, &kinds);
+    *core = carried_out(caller, alloc, system, goal, &kinds);
 }
 
 /// Does what `update` does, for a caller with a runtime and a gate.
@@ -446,12 +264,12 @@ pub fn update_with<R: Threads + Wait + Sync, G: Gate>(
 {
     let aim = goal.same();
     call_and_take(core, goal)?;
-    lead(caller, alloc, core, &aim);
+    carry_out(caller, alloc, core, &aim);
     Ok(())
 }
 
-/// Updates the range registers of all processors, on a thread for each. Where one isn't started, or memory isn't
-/// found, it is done on this thread.
+/// Updates the range registers of all processors, on a thread for each. If one isn't started, or an allocation fails, the
+/// update is done on this thread.
 ///
 /// # Errors
 ///

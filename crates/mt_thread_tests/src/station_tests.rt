@@ -2,9 +2,9 @@
 ghost use Rattle.std.specs.Prelude.{◌≡◌, ℕ, ◌<◌, ◌≤◌, ◌+◌, ◌-◌, ◌^◌, ◌↔◌, IsTrue, IfSome, IfNone, [], length, vec_len};
 ghost use Rattle.std.specs.Thread.{IsSync};
 ghost use Rattle.mt_machine.specs.declared.go.Go.TheVariants.{Pending};
-ghost use Rattle.mt_rendezvous.specs.Station.{Begins, start_of};
-ghost use Rattle.mt_rendezvous.specs.Calls.{Attends, HoldsOne, IsRoot, Leads, gathered};
-ghost use Rattle.mt_rendezvous.specs.Update.{AllNew, AreOf, IsNew};
+ghost use Rattle.mt_rendezvous.specs.Station.{Begins};
+ghost use Rattle.mt_rendezvous.specs.Calls.{gathered};
+ghost use Rattle.mt_rendezvous.specs.InStation.{AllNewIn, HoldsOneIn, IsNewIn, IsRootIn, LeadsIn, goal_at, start_at, windows_at};
 
 use crate::checks::{holds, holds_at, some};
 use crate::common::{file, is_same_cpu, may_call, word};
@@ -67,9 +67,9 @@ struct Comes {
 }
 
 impl Promise<(Attendee, Outcome)> for Comes {
-    ghost use Rattle.mt_rendezvous.specs.Calls.{HoldsOne};
+    ghost use Rattle.mt_rendezvous.specs.InStation.{HoldsOneIn};
 
-    ghost kept_by = { λ p r. HoldsOne p.station.value.table.shared.table_id r.0.pass.seat.table_id r.0.pass.seat.me p.number r.0.cpu × (r.0.pass.number ≡ p.number) };
+    ghost kept_by = { λ p r. HoldsOneIn p.station.value r.0 × (r.0.pass.number ≡ p.number) };
 }
 
 fn attend_whole<R: Wait>(
@@ -81,11 +81,11 @@ fn attend_whole<R: Wait>(
     goal: &RegFile,
     gate: &AllBut,
 ) -> (Attendee, Outcome)
-    requires attends { Attends station.now.table.shared.table_id (start_of station.now.table.shared.key) k a.cpu a.pass.seat.table_id a.pass.seat.me a.pass.number }
-    requires begins { Begins (start_of station.now.table.shared.key) }
-    requires goal { goal.now ≡ station.now.table.shared.key.goal.value }
-    requires windows { ram.now.windows ≡ station.now.table.shared.key.ram.value.windows }
-    ensures came { HoldsOne station.now.table.shared.table_id result.0.pass.seat.table_id result.0.pass.seat.me k result.0.cpu }
+    requires new { IsNewIn station.now k a }
+    requires begins { Begins (start_at station.now) }
+    requires goal { goal.now ≡ goal_at station.now }
+    requires windows { ram.now.windows ≡ windows_at station.now }
+    ensures came { HoldsOneIn station.now result.0 }
     ensures number { result.0.pass.number ≡ k }
 {
     let _ = k;
@@ -94,11 +94,11 @@ fn attend_whole<R: Wait>(
 
 // The last attendee.
 fn last(station: &Station, waiting: &mut Vec<Attendee>) -> Option<Attendee>
-    requires { AllNew station.now.table.shared.table_id (start_of station.now.table.shared.key) waiting.old.items }
+    requires { AllNewIn station.now waiting.old.items }
     ensures none { IfNone result (length waiting.old.items ≡ 0) }
-    ensures attends { IfSome result (λ a. IsNew station.now.table.shared.table_id (start_of station.now.table.shared.key) (length waiting.new.items) a) }
+    ensures attends { IfSome result (λ a. IsNewIn station.now (length waiting.new.items) a) }
     ensures fewer { IfSome result (λ a. length waiting.old.items ≡ length waiting.new.items + 1) }
-    ensures rest { AllNew station.now.table.shared.table_id (start_of station.now.table.shared.key) waiting.new.items }
+    ensures rest { AllNewIn station.now waiting.new.items }
 {
     let _ = station.count;
     waiting.pop()
@@ -118,12 +118,12 @@ fn run_all<'s, E, R: Threads + Wait + Clock + Sync>(
     waiting: &mut Vec<Attendee>,
     done: &mut Vec<Told>,
 ) -> bool
-    requires root { Leads station.now.table.shared.table_id (start_of station.now.table.shared.key) root.old.seat.table_id root.old.seat.me Pending }
-    requires goal { goal.now ≡ station.now.table.shared.key.goal.value }
-    requires windows { ram.now.windows ≡ station.now.table.shared.key.ram.value.windows }
-    requires waiting { AllNew station.now.table.shared.table_id (start_of station.now.table.shared.key) waiting.old.items }
-    requires begins { Begins (start_of station.now.table.shared.key) }
-    ensures { IsRoot station.now.table.shared.table_id root.new.seat.table_id root.new.seat.me }
+    requires root { LeadsIn station.now root.old Pending }
+    requires goal { goal.now ≡ goal_at station.now }
+    requires windows { ram.now.windows ≡ windows_at station.now }
+    requires waiting { AllNewIn station.now waiting.old.items }
+    requires begins { Begins (start_at station.now) }
+    ensures { IsRootIn station.now root.new }
 {
     if waiting.len() <= ending.late() as usize {
         let is_so = end(rt, station, root, gate, ending);
@@ -142,9 +142,10 @@ fn run_all<'s, E, R: Threads + Wait + Clock + Sync>(
         promise,
         move || -> (Attendee, Outcome)
             requires shared { IsSync R.row }
-            requires new { IsNew station.now.table.shared.table_id (start_of station.now.table.shared.key) k a }
-            requires begins { Begins (start_of station.now.table.shared.key) × AreOf (start_of station.now.table.shared.key) goal.now ram.now.windows }
-            ensures { HoldsOne station.entry.now.table.shared.table_id result.0.pass.seat.table_id result.0.pass.seat.me k result.0.cpu × (result.0.pass.number ≡ k) }
+            requires new { IsNewIn station.now k a }
+            requires begins { Begins (start_at station.now) }
+            requires same { (goal.now ≡ goal_at station.now) × (ram.now.windows ≡ windows_at station.now) }
+            ensures { HoldsOneIn station.entry.now result.0 × (result.0.pass.number ≡ k) }
         { attend_whole(rt, station, ram, k, a, goal, gate) },
     ) else {
         root.cancel(station);
@@ -189,10 +190,11 @@ fn meet<R: Threads + Wait + Clock + Sync>(
         thread::scope_env(),
         rt,
         move |scope| -> Ended
-            requires root { Leads all.now.table.shared.table_id (start_of all.now.table.shared.key) root.seat.table_id root.seat.me Pending }
-            requires waiting { AllNew all.now.table.shared.table_id (start_of all.now.table.shared.key) waiting.items }
-            requires begins { Begins (start_of all.now.table.shared.key) × AreOf (start_of all.now.table.shared.key) goal.now lent.now.windows }
-            ensures { IsRoot all.entry.now.table.shared.table_id result.root.seat.table_id result.root.seat.me }
+            requires root { LeadsIn all.now root Pending }
+            requires waiting { AllNewIn all.now waiting.items }
+            requires begins { Begins (start_at all.now) }
+            requires same { (goal.now ≡ goal_at all.now) × (lent.now.windows ≡ windows_at all.now) }
+            ensures { IsRootIn all.entry.now result.root }
         {
             let went = run_all(
                 rt,

@@ -1,8 +1,5 @@
 // The arrival of a pass at the first barrier, and that the gate was told of it.
-ghost use Rattle.std.specs.Prelude.{◌≡◌, true, false, slice_get, Some};
-ghost use Rattle.mt_machine.specs.declared.phase.Phase.TheVariants.{Taken};
-ghost use Rattle.mt_rendezvous.specs.Station.{Begins};
-ghost use Rattle.mt_rendezvous.specs.Plays.{IsWaiting};
+ghost use Rattle.std.specs.Prelude.{◌≡◌};
 ghost use Rattle.mt_rendezvous.specs.InStation.{HasAddedIn};
 
 use crate::caller::Caller;
@@ -11,18 +8,26 @@ use crate::view::Turn;
 use mt_cpu::Cpu;
 use mt_machine::Event;
 use mt_ports::Gate;
+use std::marker::PhantomData;
 
-// That the gate is to be told of an arrival. `Pass::arrive` alone makes one, by the number of a pass that has added to the
-// first count, and no pass adds twice. It can't be copied, and only `tell` takes it apart.
+// That a gate is to be told of an arrival. Only this file can make one or take one apart: `of` makes it, for a pass that has
+// added to the first count, and `tell` takes it apart. It is neither `Clone` nor `Drop`.
 pub(super) struct Arrival {
     number: u32,
 }
 
-// That the caller's gate was told of an arrival: `Arrival::tell` alone makes one. No pass leaves the first barrier without
-// one of its number (`Pass::wait_first`).
-#[derive(Drop)]
-pub(super) struct Heard {
+// That a gate of type G was told of an arrival. Only this file can make one or take one apart: `tell` makes it. It is neither
+// `Clone` nor `Drop`, and `Pass::wait_first` spends one of its pass's number.
+pub(super) struct Heard<G> {
     number: u32,
+    gate: PhantomData<G>,
+}
+
+impl<G> Heard<G> {
+    // Spends it, before the wait that it allows.
+    pub(super) fn spend(self) {
+        let Heard { number: _, gate: _ } = self;
+    }
 }
 
 impl Arrival {
@@ -37,28 +42,28 @@ impl Arrival {
     }
 
     // Tells the caller's gate, once.
-    pub(super) fn tell<R, G: Gate>(self, caller: &Caller<R, G>) -> Heard
+    pub(super) fn tell<R, G: Gate>(self, caller: &Caller<R, G>) -> Heard<G>
         ensures { result.number ≡ self.number }
     {
         let Arrival { number } = self;
         caller.crew.tell(number);
-        Heard { number }
+        Heard {
+            number,
+            gate: PhantomData,
+        }
     }
 }
 
 impl Pass {
-    ghost use Rattle.mt_rendezvous.specs.InStation.{CarriesIn, start_at};
+    ghost use Rattle.mt_rendezvous.specs.InStation.{HasArrived, IsAsGathered, IsTaken};
 
     // Adds to word 0: the event Arrive, or none where the word held the cancel before.
     pub(super) fn arrive(&mut self, station: &Station, cpu: &mut Cpu) -> Arrival
-        requires carries { CarriesIn station.now self.old cpu.old false false }
-        requires taken { cpu.old.phase ≡ Taken }
-        ensures carries { CarriesIn station.now self.new cpu.new true false }
-        ensures waits { IsWaiting cpu.new.phase }
+        requires { IsTaken station.now self.old cpu.old }
+        ensures arrived { HasArrived station.now self.new cpu.new }
+        ensures first { IsAsGathered station.now self.old.number cpu.old }
         ensures same { cpu.new ≡ record cpu.old { phase = cpu.new.phase } }
-        ensures first { slice_get (start_at station.now).cpus self.old.number ≡ Some cpu.old }
         ensures shown { self.new.shown ≡ self.old.shown }
-        ensures begins { Begins (start_at station.now) }
         ensures number { self.new.number ≡ self.old.number }
         ensures token { result.number ≡ self.old.number }
     {

@@ -1,7 +1,6 @@
-// The whole way of a pass through an update. Its calls wait, and only `caller.rt` and the files below it can make them.
-ghost use Rattle.std.specs.Prelude.{◌≡◌, false, length, Some};
-ghost use Rattle.mt_machine.specs.declared.phase.Phase.TheVariants.{Taken};
-ghost use Rattle.mt_rendezvous.specs.InStation.{AttendedIn, CarriesIn, goal_at, start_at, windows_at};
+// The whole way of a pass through an update. Its calls wait. Only `caller.rt` and the files below it see them, except for `attend`.
+ghost use Rattle.std.specs.Prelude.{◌≡◌, length, Some};
+ghost use Rattle.mt_rendezvous.specs.InStation.{AttendedIn, IsTaken, goal_at, start_at, windows_at};
 
 use crate::caller::Caller;
 use crate::station::{Attendee, Outcome, Pass, Station};
@@ -12,7 +11,7 @@ use mt_regs::RegFile;
 use std::sync::Wait;
 
 impl Pass {
-    // Takes the processor through the update where it stands, since it is large.
+    // Takes the processor through the update, or out of it if the root cancels.
     pub(super) fn go_through<R: Wait, G: Gate>(
         &mut self,
         caller: &Caller<R, G>,
@@ -21,8 +20,7 @@ impl Pass {
         goal: &RegFile,
         cpu: &mut Cpu,
     ) -> Outcome
-        requires carries { CarriesIn station.now self.old cpu.old false false }
-        requires taken { cpu.old.phase ≡ Taken }
+        requires taken { IsTaken station.now self.old cpu.old }
         requires goal { goal.now ≡ goal_at station.now }
         requires windows { ram.now.windows ≡ windows_at station.now }
         ensures attended { AttendedIn result station.now self.old cpu.old self.new cpu.new }
@@ -50,8 +48,7 @@ pub fn attend<R: Wait, G: Gate>(
     goal: &RegFile,
     gate: &G,
 ) -> (Attendee, Outcome)
-    requires carries { CarriesIn station.now a.pass a.cpu false false }
-    requires taken { a.cpu.phase ≡ Taken }
+    requires taken { IsTaken station.now a.pass a.cpu }
     requires goal { goal.now ≡ goal_at station.now }
     requires windows { ram.now.windows ≡ windows_at station.now }
     ensures attended { AttendedIn result.1 station.now a.pass a.cpu result.0.pass result.0.cpu }

@@ -2,33 +2,31 @@
 ghost use Rattle.std.specs.Prelude.{◌≡◌, IfErr, IfOk};
 ghost use Rattle.std.specs.Thread.{IsSync};
 ghost use Rattle.mt_machine.specs.declared.go.Go.TheVariants.{Cancelled, Pending};
-ghost use Rattle.mt_rendezvous.specs.Update.{AreOf};
-ghost use Rattle.mt_rendezvous.specs.InStation.{CameAsIn, CameIn, IsReadyIn, IsRootIn, LeadsIn, goal_at, start_at, windows_at};
+ghost use Rattle.mt_rendezvous.specs.InStation.{CameAs, HasCancelledIn, IsTaken, LeadsIn, held_by};
 
 use crate::caller::Caller;
-use crate::crew::{OfProcessor, Refusal};
+use crate::crew::{OfProcessor, Refusal, Started};
+use crate::shared::Shared;
 use crate::station::{Attendee, Root, Station};
 use mt_ports::Gate;
-use mt_ram::Ram;
-use mt_regs::RegFile;
 use std::snapshot::Snapshot;
 use std::sync::Wait;
-use std::thread::{Promise, PromisedHandle, Scope, Threads};
+use std::thread::{Promise, Scope};
 
-// What the thread of a processor promises: the processor comes back, and runs. `start` alone makes one.
+// What the thread of a processor promises: the processor comes back, and runs. Only this file makes one.
 #[derive(Drop)]
-pub(crate) struct Attends {
+pub(crate) struct ComesBack {
     station: Snapshot<Station>,
     number: u64,
 }
 
-impl Promise<Box<Attendee>> for Attends {
-    ghost use Rattle.mt_rendezvous.specs.InStation.{CameAsIn};
+impl Promise<Attendee> for ComesBack {
+    ghost use Rattle.mt_rendezvous.specs.InStation.{CameAs};
 
-    ghost kept_by = { λ p a. CameAsIn p.station.value p.number a.value };
+    ghost kept_by = { λ p a. CameAs p.station.value p.number a };
 }
 
-impl OfProcessor for Attends {
+impl OfProcessor for ComesBack {
     ghost number = { λ p. p.number };
 }
 
@@ -37,85 +35,72 @@ impl Refusal {
     pub(crate) fn leave<R: Wait, G: Gate>(
         &self,
         caller: &Caller<R, G>,
-        station: &Station,
-        ram: &Ram,
+        shared: &Shared,
         _root: &Root,
         a: &mut Attendee,
-        goal: &RegFile,
     )
-        requires root { IsRootIn station.now _root.now }
-        requires cancelled { _root.now.seat.me.0.go ≡ Cancelled }
-        requires ready { IsReadyIn station.now a.old }
-        requires goal { goal.now ≡ goal_at station.now }
-        requires windows { ram.now.windows ≡ windows_at station.now }
-        ensures came { CameIn station.now a.new }
-        ensures number { a.new.pass.number ≡ a.old.pass.number }
+        requires cancelled { HasCancelledIn shared.now.station _root.now }
+        requires taken { IsTaken shared.now.station a.old.pass a.old.cpu }
+        ensures { CameAs shared.now.station a.old.pass.number a.new }
     {
-        attend_whole(caller, station, ram, a, goal);
+        attend_whole(caller, shared, a);
     }
 }
 
 // Takes the attendee through the update, or out of it.
-fn attend_whole<R: Wait, G: Gate>(
-    caller: &Caller<R, G>,
-    station: &Station,
-    ram: &Ram,
-    a: &mut Attendee,
-    goal: &RegFile,
-)
-    requires ready { IsReadyIn station.now a.old }
-    requires goal { goal.now ≡ goal_at station.now }
-    requires windows { ram.now.windows ≡ windows_at station.now }
-    ensures came { CameIn station.now a.new }
-    ensures number { a.new.pass.number ≡ a.old.pass.number }
+fn attend_whole<R: Wait, G: Gate>(caller: &Caller<R, G>, shared: &Shared, a: &mut Attendee)
+    requires { IsTaken shared.now.station a.old.pass a.old.cpu }
+    ensures { CameAs shared.now.station a.old.pass.number a.new }
 {
-    a.pass.go_through(caller, station, ram, goal, &mut a.cpu);
+    a.pass.go_through(
+        caller,
+        &shared.station,
+        &shared.ram,
+        &shared.goal,
+        &mut a.cpu,
+    );
 }
 
 // Starts the attendee's thread, if the caller's gate lets it. If none is started, the root cancels. The attendee then
 // leaves, and comes back with the refusal.
-pub(crate) fn start<'s, E, R: Threads + Wait + Sync, G: Gate>(
+pub(crate) fn start<'s, E, R: Wait + Sync, G: Gate>(
     caller: &'s Caller<R, G>,
     scope: &Scope<'s, E>,
-    station: &'s Station,
-    ram: &'s Ram,
+    shared: &'s Shared,
     root: &mut Root,
-    a: Box<Attendee>,
-    goal: &'s RegFile,
-) -> Result<PromisedHandle<Box<Attendee>, Attends>, (Box<Attendee>, Refusal)>
-    requires root { LeadsIn station.now root.old Pending }
-    requires ready { IsReadyIn station.now a.value }
-    requires goal { goal.now ≡ goal_at station.now }
-    requires windows { ram.now.windows ≡ windows_at station.now }
-    ensures held { root.new.seat.me.0.held ≡ root.old.seat.me.0.held }
-    ensures pending { IfOk result (λ h. LeadsIn station.now root.new Pending) }
-    ensures child { IfOk result (λ h. (h.promise.station.value ≡ station.now) × (h.promise.number ≡ a.value.pass.number)) }
-    ensures cancelled { IfErr result (λ e. LeadsIn station.now root.new Cancelled) }
-    ensures came { IfErr result (λ e. CameAsIn station.now a.value.pass.number e.0.value) }
+    a: Attendee,
+) -> Result<Started<Attendee, ComesBack, G>, (Attendee, Refusal)>
+    requires root { LeadsIn shared.now.station root.old Pending }
+    requires taken { IsTaken shared.now.station a.pass a.cpu }
+    ensures held { held_by root.new ≡ held_by root.old }
+    ensures pending { IfOk result (λ s. LeadsIn shared.now.station root.new Pending) }
+    ensures station { IfOk result (λ s. s.promise.value.station.value ≡ shared.now.station) }
+    ensures number { IfOk result (λ s. s.promise.value.number ≡ a.pass.number) }
+    ensures cancelled { IfErr result (λ e. LeadsIn shared.now.station root.new Cancelled) }
+    ensures came { IfErr result (λ e. CameAs shared.now.station a.pass.number e.0) }
 {
-    let promise = Attends {
-        station: Snapshot::of(station),
+    let promise = ComesBack {
+        station: Snapshot::of(&shared.station),
         number: a.pass.number,
     };
     match caller.crew.start(
         scope,
         a.pass.processor(),
         promise,
-        move || -> Box<Attendee>
-            requires shared { IsSync R.row }
-            requires ready { IsReadyIn station.now a.value }
-            requires same { AreOf (start_at station.now) goal.now ram.now.windows }
-            ensures { CameAsIn station.entry.now a.value.pass.number result.value }
+        move || -> Attendee
+            requires sync { IsSync R.row }
+            requires taken { IsTaken shared.now.station a.pass a.cpu }
+            ensures { CameAs shared.entry.now.station a.pass.number result }
         {
             let mut a = a;
-            attend_whole(caller, station, ram, &mut a, goal);
+            attend_whole(caller, shared, &mut a);
             a
         },
     ) {
         Ok(child) => Ok(child),
         Err(unstarted) => {
-            root.cancel(station);
-            Err(unstarted.done_here(station, root))
+            root.cancel(&shared.station);
+            Err(unstarted.done_here(&shared.station, root))
         }
     }
 }

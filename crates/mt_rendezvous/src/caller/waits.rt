@@ -1,24 +1,35 @@
-// All that waits: the two waits of a pass, and a scope for its threads. Only this module has the runtime, and nothing takes
-// it out. So every other function that has a caller is proved to end, except where it calls these or joins a thread.
-ghost use Rattle.std.specs.Prelude.{◌≡◌, ◌+◌, true, false, Some};
-ghost use Rattle.mt_machine.specs.declared.phase.Phase.TheVariants.{Arrived2};
+// The calls that wait: for the others at the two barriers, and for threads. Only this file reads the runtime of a caller. So every
+// other function that has a caller, and no runtime of its own, waits by these calls alone, and its own loops terminate.
+ghost use Rattle.std.specs.Prelude.{◌≡◌};
 ghost use Rattle.mt_machine.specs.declared.event.Event.TheVariants.{Release};
-ghost use Rattle.mt_machine.specs.Machine.{common_era};
-ghost use Rattle.mt_rendezvous.specs.Station.{Begins};
-ghost use Rattle.mt_rendezvous.specs.Plays.{IsWaiting, Took};
-ghost use Rattle.mt_rendezvous.specs.Calls.{Waited};
+ghost use Rattle.mt_rendezvous.specs.Plays.{Took};
 
 use super::arrival::Heard;
 use crate::caller::Caller;
+use crate::crew::Started;
 use crate::station::{CANCEL, Pass, Station};
 use crate::view::Turn;
 use mt_cpu::Cpu;
 use mt_machine::Event;
+use mt_ports::Gate;
 use std::sync::Wait;
-use std::thread;
-use std::thread::{Scope, Threads};
+use std::thread::{Promise, Scope, Threads};
+use std::{hint, thread};
 
-// The runtime of a call. Without it no loop can go on for ever.
+// How often a wait pauses between two loads before it yields the processor.
+const SPINS: u32 = 64;
+
+// Pauses, or yields the processor if no pause is left before that. Returns how many are left.
+fn pause(spins: u32) -> u32 {
+    if spins == 0 {
+        thread::yield_now();
+        return SPINS;
+    }
+    hint::spin_loop();
+    spins - 1
+}
+
+// The runtime of a call. A loop without a measure needs one.
 #[derive(Drop)]
 pub(super) struct Waiter<R> {
     rt: R,
@@ -31,7 +42,7 @@ impl<R> Waiter<R> {
     }
 }
 
-impl<R: Threads + Wait, G> Caller<R, G> {
+impl<R: Threads + Wait, G: Gate> Caller<R, G> {
     // Calls f with a scope, and waits for the threads that f starts there.
     pub(crate) fn scope<'e, F: for<'s> FnOnce(&'s Scope<'s, &'e ()>) -> T, T>(&self, f: F) -> T
         requires { F.IsAlwaysCallable f }
@@ -39,28 +50,35 @@ impl<R: Threads + Wait, G> Caller<R, G> {
     {
         thread::scope(thread::scope_env(), &self.waiter.rt, f)
     }
+
+    // Waits for the end of a thread that a crew with a gate of this caller's type has started.
+    pub(crate) fn join<T, P: Promise<T>>(&self, child: Started<T, P, G>) -> T
+        ensures { P.kept_by child.promise.value result }
+    {
+        self.crew.join(&self.waiter.rt, child)
+    }
 }
 
 impl Pass {
-    ghost use Rattle.mt_rendezvous.specs.InStation.{CarriesIn, start_at};
+    ghost use Rattle.mt_rendezvous.specs.InStation.{HasArrived, HasArrivedAgain, IsReleased, Waited, start_at};
 
     // Waits for the others, once the gate was told of the arrival. The load of word 0 that ends it is the event Pass, and
     // the answer is true, or Leave. Each load before it is none.
     pub(super) fn wait_first<R: Wait, G>(
         &mut self,
         caller: &Caller<R, G>,
-        _heard: Heard,
+        heard: Heard<G>,
         station: &Station,
         cpu: &mut Cpu,
     ) -> bool
-        requires carries { CarriesIn station.now self.old cpu.old true false }
-        requires waits { IsWaiting cpu.old.phase }
-        requires heard { _heard.number ≡ self.old.number }
-        ensures number { self.new.number ≡ self.old.number }
-        ensures carries { CarriesIn station.now self.new cpu.new true false }
+        requires arrived { HasArrived station.now self.old cpu.old }
+        requires heard { heard.number ≡ self.old.number }
+        ensures waited { Waited result station.now self.new cpu.old cpu.new }
         ensures shown { self.new.shown ≡ self.old.shown }
-        ensures waited { Waited result (start_at station.now) self.new.number cpu.old cpu.new }
+        ensures number { self.new.number ≡ self.old.number }
     {
+        heard.spend();
+        let mut spins = SPINS;
         for _ in caller.waiter.rt.forever() {
             let found = station.table.shared.load::<Turn>(&mut self.seat, 0);
             if found >= CANCEL {
@@ -71,7 +89,7 @@ impl Pass {
                 cpu.shift(Event::Pass);
                 return true;
             }
-            thread::yield_now();
+            spins = pause(spins);
         }
         unreachable!()
     }
@@ -83,15 +101,12 @@ impl Pass {
         station: &Station,
         cpu: &mut Cpu,
     )
-        requires carries { CarriesIn station.now self.old cpu.old true true }
-        requires waits { cpu.old.phase ≡ Arrived2 }
-        requires begins { Begins (start_at station.now) }
-        ensures number { self.new.number ≡ self.old.number }
-        ensures carries { CarriesIn station.now self.new cpu.new true true }
-        ensures shown { self.new.seat.me.0.shown ≡ Some station.now.count }
+        requires { HasArrivedAgain station.now self.old cpu.old }
+        ensures released { IsReleased station.now self.new cpu.new }
         ensures took { Took (start_at station.now) self.new.number Release cpu.old cpu.new }
-        ensures risen { cpu.new.era ≡ common_era (start_at station.now).cpus + 1 }
+        ensures number { self.new.number ≡ self.old.number }
     {
+        let mut spins = SPINS;
         for _ in caller.waiter.rt.forever() {
             let found = station.table.shared.load::<Turn>(&mut self.seat, 1);
             self.shown = Some(found as u32);
@@ -99,7 +114,7 @@ impl Pass {
                 cpu.shift(Event::Release);
                 return;
             }
-            thread::yield_now();
+            spins = pause(spins);
         }
         unreachable!()
     }

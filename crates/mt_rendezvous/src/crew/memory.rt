@@ -1,6 +1,6 @@
-// What an update on threads asks of the allocator, which may refuse it. No clause says that a refusal comes of the allocator
-// alone: these lines say it. Each asks for what the station needs, and for no more.
-ghost use Rattle.std.specs.Prelude.{◌≡◌, ◌+◌, ◌<◌, ◌≤◌, [], IfErr, IfOk, length, replicate, vec_capacity, vec_len};
+// What an update on threads asks of the allocator, which may refuse it. No clause says that a refusal comes of the allocator,
+// nor how much is asked for: read these lines.
+ghost use Rattle.std.specs.Prelude.{◌≡◌, ◌+◌, ◌<◌, ◌≤◌, [], IfOk, length, replicate, vec_capacity, vec_len};
 ghost use Rattle.mt_machine.specs.declared.go.Go.TheVariants.{Pending};
 ghost use Rattle.mt_rendezvous.specs.Station.{Begins};
 ghost use Rattle.mt_rendezvous.specs.Calls.{gathered, opening_words};
@@ -16,28 +16,16 @@ use mt_regs::RegFile;
 use std::alloc::Global;
 use std::snapshot::Snapshot;
 
-/// Asks for a block for x, which a thread then takes without a copy.
+/// Asks for a list with room for n elements.
 ///
 /// # Errors
 ///
-/// There is no memory for it; x comes back.
-#[inline(always)]
-pub fn boxed<T>(alloc: Global, x: T) -> Result<Box<T>, (T, Refusal)>
-    ensures ok { IfOk result (λ b. b.value ≡ x) }
-    ensures refused { IfErr result (λ e. e.0 ≡ x) }
-{
-    match Box::new(alloc, x) {
-        Ok(block) => Ok(block),
-        Err(failed) => Err((failed.value, Refusal { made: () })),
-    }
-}
-
-// Asks for room for one of each of these processors.
-pub(crate) fn room<T>(alloc: Global, cpus: &Vec<Cpu>) -> Result<Vec<T>, Refusal>
+/// The allocation fails.
+pub fn room<T>(alloc: Global, n: usize) -> Result<Vec<T>, Refusal>
     ensures empty { IfOk result (λ v. v.items ≡ []) }
-    ensures room { IfOk result (λ v. vec_len cpus.now ≤ vec_capacity v) }
+    ensures room { IfOk result (λ v. n ≤ vec_capacity v) }
 {
-    match Vec::with_capacity(alloc, cpus.len()) {
+    match Vec::with_capacity(alloc, n) {
         Ok(room) => Ok(room),
         Err(_) => Err(Refusal { made: () }),
     }

@@ -1,9 +1,8 @@
 //! How stations end: by the go, or by a cancel before or behind some arrivals.
 ghost use Rattle.std.specs.Prelude.{◌≡◌};
 ghost use Rattle.mt_machine.specs.declared.go.Go.TheVariants.{Pending};
-ghost use Rattle.mt_rendezvous.specs.Station.{Begins, start_of};
-ghost use Rattle.mt_rendezvous.specs.Calls.{HoldsOne, IsRoot, Leads};
-ghost use Rattle.mt_rendezvous.specs.Update.{AllNew};
+ghost use Rattle.mt_rendezvous.specs.Station.{Begins};
+ghost use Rattle.mt_rendezvous.specs.InStation.{AllNewIn, HoldsOneIn, IsRootIn, LeadsIn, goal_at, start_at, windows_at};
 
 use super::{Told, attend_whole, last};
 use mt_gates::AllBut;
@@ -43,8 +42,8 @@ pub(super) fn end<C: Clock>(
     gate: &AllBut,
     ending: Ending,
 ) -> bool
-    requires { Leads station.now.table.shared.table_id (start_of station.now.table.shared.key) root.old.seat.table_id root.old.seat.me Pending }
-    ensures { IsRoot station.now.table.shared.table_id root.new.seat.table_id root.new.seat.me }
+    requires { LeadsIn station.now root.old Pending }
+    ensures { IsRootIn station.now root.new }
 {
     match ending {
         Ending::Go => {
@@ -71,9 +70,9 @@ pub(super) fn finish(
     outcome: Outcome,
     done: &mut Vec<Told>,
 ) -> bool
-    requires root { IsRoot station.now.table.shared.table_id root.old.seat.table_id root.old.seat.me }
-    requires pass { HoldsOne station.now.table.shared.table_id a.pass.seat.table_id a.pass.seat.me a.pass.number a.cpu }
-    ensures { IsRoot station.now.table.shared.table_id root.new.seat.table_id root.new.seat.me }
+    requires root { IsRootIn station.now root.old }
+    requires pass { HoldsOneIn station.now a }
+    ensures { IsRootIn station.now root.new }
 {
     let shown = a.pass.shown();
     let cpu = root.take_back(station, a);
@@ -96,12 +95,12 @@ pub(super) fn leave_all<R: Wait>(
     waiting: &mut Vec<Attendee>,
     done: &mut Vec<Told>,
 ) -> bool
-    requires root { IsRoot station.now.table.shared.table_id root.old.seat.table_id root.old.seat.me }
-    requires begins { Begins (start_of station.now.table.shared.key) }
-    requires goal { goal.now ≡ station.now.table.shared.key.goal.value }
-    requires windows { ram.now.windows ≡ station.now.table.shared.key.ram.value.windows }
-    requires waiting { AllNew station.now.table.shared.table_id (start_of station.now.table.shared.key) waiting.old.items }
-    ensures { IsRoot station.now.table.shared.table_id root.new.seat.table_id root.new.seat.me }
+    requires root { IsRootIn station.now root.old }
+    requires begins { Begins (start_at station.now) }
+    requires goal { goal.now ≡ goal_at station.now }
+    requires windows { ram.now.windows ≡ windows_at station.now }
+    requires waiting { AllNewIn station.now waiting.old.items }
+    ensures { IsRootIn station.now root.new }
 {
     let Some(a) = last(station, waiting) else {
         return true;

@@ -11,7 +11,7 @@ returns-clause-updated g c =
     let h = c.in_ok-call_and_take.ensures.taken in (
       h.enabled.0,
       h.enabled.2,
-      c.lead.ensures
+      c.carry_out.ensures
           ∙ ap (λ (f : RegisterFile). updated c.call_and_take.new.core.system [] f) c.same-aim.ensures
           ∙ ap (λ (s : System). updated s [] c.args.goal) h.system
           ∙ (updated_from_broadcast c.args.core.now.system (in_order c.args.core.now) c.args.goal).from_taken,

@@ -1,9 +1,9 @@
-use Rattle.std.proofs.Common.{true, false, map, refl, subst, sym, ap, ◌∙◌, inr, arith}
+use Rattle.std.proofs.Common.{true, false, map, refl, subst, sym, ap, ◌∙◌, inl, inr, arith}
 use Rattle.mt_machine.specs.declared.phase.Phase.{Phase}
 use Rattle.mt_machine.specs.System.{Processor}
 use Rattle.mt_rendezvous.specs.declared.view.View.{View}
 use Rattle.mt_rendezvous.specs.Station.{Begins, held}
-use Rattle.mt_rendezvous.specs.Plays.{arrive}
+use Rattle.mt_rendezvous.specs.Plays.{arrive, late}
 use Rattle.mt_rendezvous.proofs.Told.{arrives_told}
 use Rattle.std.proofs.Common.{◌≡◌, Some}
 use Rattle.std.specs.Prelude.{slice_get}
@@ -14,16 +14,28 @@ pub fetch_add-found-requires : goal.fetch_add-found-requires
 fetch_add-found-requires c = let r = c.requires.carries in let w = c.args.station.now.wide in
     (r.same, omega arith, arrives_told c.args.station.now.table.shared.key _ _ c.args.self.now.number c.args.self.now.seat.me c.args.cpu.now c.args.self.now.no_root r.holds c.requires.taken)
 
-pub returns-then-found-lt-CANCEL-clause-carries : goal.returns-then-found-lt-CANCEL-clause-carries
-returns-then-found-lt-CANCEL-clause-carries c =
+pub returns-then-found-lt-CANCEL-clause-arrived : goal.returns-then-found-lt-CANCEL-clause-arrived
+returns-then-found-lt-CANCEL-clause-arrived c =
     let e = c.fetch_add-found.ensures in
     let tells = (e.2.1 c.args.self.now.no_root).1 in
     let moves = (tells.3 c.if-found-lt-CANCEL.true).0 in
-    carried c.requires.carries _ _ c.shift.new.self true false arrive e.0 tells.0 (ap (λ (v : View). v.held) moves) (ap (λ (v : View). v.start) moves)
-    (ap (λ (p : Processor). held c.args.self.now.number p true false) (sym (c.shift.ensures c.args.station.now.table.shared.key.goal.value)))
+    let is = c.shift.ensures c.args.station.now.table.shared.key.goal.value in record {
+      begins = subst Begins c.requires.carries.told tells.1;
+      carries = carried c.requires.carries _ _ c.shift.new.self true false arrive e.0 tells.0 (ap (λ (v : View). v.held) moves) (ap (λ (v : View). v.start) moves)
+          (ap (λ (p : Processor). held c.args.self.now.number p true false) (sym is));
+      waits = inr (ap (λ (p : Processor). p.phase) is);
+    }
 
-pub returns-then-found-lt-CANCEL-clause-waits : goal.returns-then-found-lt-CANCEL-clause-waits
-returns-then-found-lt-CANCEL-clause-waits c = inr (ap (λ (p : Processor). p.phase) (c.shift.ensures c.args.station.now.table.shared.key.goal.value))
+pub returns-clause-arrived : goal.returns-clause-arrived
+returns-clause-arrived c =
+    let e = c.fetch_add-found.ensures in
+    let tells = (e.2.1 c.args.self.now.no_root).1 in
+    let late_came = c.if-found-lt-CANCEL.false in
+    let moves = (tells.4 (omega arith)).0 in record {
+      begins = subst Begins c.requires.carries.told tells.1;
+      carries = carried c.requires.carries _ _ c.args.cpu.now true false (λ t. late) e.0 tells.0 (ap (λ (v : View). v.held) moves) (ap (λ (v : View). v.start) moves) refl;
+      waits = inl c.requires.taken;
+    }
 
 pub returns-then-found-lt-CANCEL-clause-same : goal.returns-then-found-lt-CANCEL-clause-same
 returns-then-found-lt-CANCEL-clause-same c =
@@ -35,12 +47,6 @@ returns-then-found-lt-CANCEL-clause-first c = of_it c.requires.carries (λ t h. 
 
 pub returns-clause-first : goal.returns-clause-first
 returns-clause-first c = of_it c.requires.carries (λ t h. slice_get t.cpus h.number ≡ Some h.cpu) (c.fetch_add-found.ensures.2.1 c.args.self.now.no_root).1.2
-
-pub returns-then-found-lt-CANCEL-clause-begins : goal.returns-then-found-lt-CANCEL-clause-begins
-returns-then-found-lt-CANCEL-clause-begins c = subst Begins c.requires.carries.told (c.fetch_add-found.ensures.2.1 c.args.self.now.no_root).1.1
-
-pub returns-clause-begins : goal.returns-clause-begins
-returns-clause-begins c = subst Begins c.requires.carries.told (c.fetch_add-found.ensures.2.1 c.args.self.now.no_root).1.1
 
 -- the pass has added by then
 pub of-requires : goal.of-requires

@@ -8,15 +8,16 @@ use Rattle.mt_rendezvous.proofs.Carried.{carried}
 use Rattle.mt_rendezvous.proofs.station.Pass.arrive_again.Goals as goal
 
 pub fetch_add-requires : goal.fetch_add-requires
-fetch_add-requires c = let r = c.requires.carries in let w = c.args.station.now.wide in
+fetch_add-requires c = let r = c.requires.passed.carries in let w = c.args.station.now.wide in
     (r.same, omega arith, arrives_again_told c.args.station.now.table.shared.key _ _ c.args.self.now.number c.args.self.now.seat.me c.args.cpu.now r.holds c.requires.restored)
 
-pub returns-clause-carries : goal.returns-clause-carries
-returns-clause-carries c =
+pub returns-clause-arrived : goal.returns-clause-arrived
+returns-clause-arrived c =
     let e = c.fetch_add.ensures in
     let tells = e.2.1 in
-    carried c.requires.carries _ _ c.shift.new.self true true arrive_again e.0 tells.0 (ap (λ (v : View). v.held) tells.1) (ap (λ (v : View). v.start) tells.1)
-    (ap (λ (p : Processor). held c.args.self.now.number p true true) (sym (c.shift.ensures c.args.station.now.table.shared.key.goal.value)))
-
-pub returns-clause-waits : goal.returns-clause-waits
-returns-clause-waits c = ap (λ (p : Processor). p.phase) (c.shift.ensures c.args.station.now.table.shared.key.goal.value)
+    let is = c.shift.ensures c.args.station.now.table.shared.key.goal.value in record {
+      begins = c.requires.passed.begins;
+      carries = carried c.requires.passed.carries _ _ c.shift.new.self true true arrive_again e.0 tells.0 (ap (λ (v : View). v.held) tells.1) (ap (λ (v : View). v.start) tells.1)
+          (ap (λ (p : Processor). held c.args.self.now.number p true true) (sym is));
+      waits = ap (λ (p : Processor). p.phase) is;
+    }

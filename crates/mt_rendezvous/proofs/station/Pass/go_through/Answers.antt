@@ -12,14 +12,13 @@ pub returns-clause-attended : goal.returns-clause-attended
 returns-clause-attended g c =
     let t : Start = start_of c.args.station.now.table.shared.key in
     let w = c.wait_second.ensures in
-    let begins = c.arrive.ensures.begins in
     let number = w.number ∙ c.change.ensures.number ∙ c.wait_first.ensures.number ∙ c.arrive.ensures.number in
     let q : Processor = c.wait_second.new.cpu in
     let k : ℕ = c.args.self.now.number in
     let took : Took t k Release c.change.new.cpu q = subst (λ (n : ℕ). Took t n Release c.change.new.cpu q) number w.took in (
-      subst (λ (n : ℕ). Carries c.args.station.now.table.shared.table_id t c.wait_second.new.self.seat.table_id c.wait_second.new.self.seat.me n q true true) number w.carries,
-      w.shown ∙ ap (λ (n : ℕ). Some n) (sym c.args.station.now.counted),
-      settled t begins k c.change.new.cpu q took c.args.cpu.now c.arrive.ensures.first w.risen,
+      subst (λ (n : ℕ). Carries c.args.station.now.table.shared.table_id t c.wait_second.new.self.seat.table_id c.wait_second.new.self.seat.me n q true true) number w.released.carries,
+      w.released.shown ∙ ap (λ (n : ℕ). Some n) (sym c.args.station.now.counted),
+      settled t c.arrive.ensures.arrived.begins k c.change.new.cpu q took c.args.cpu.now c.arrive.ensures.first w.released.risen,
     )
 
 pub wait_first-requires-clause-heard : goal.wait_first-requires-clause-heard

@@ -16,17 +16,24 @@ pub load-found-requires : goal.load-found-requires
 load-found-requires g c = let r = c.loop.invariant.carries in let w = c.args.station.now.wide in
     (r.same, omega arith, releases_told c.args.station.now.table.shared.key _ _ c.loop.self.number c.loop.self.seat.me c.loop.cpu r.holds (ap (λ (p : Processor). p.phase) c.loop.invariant.cpu ∙ c.requires.waits))
 
-pub returns-then-found-station-clause-carries : goal.returns-then-found-station-clause-carries
-returns-then-found-station-clause-carries g c =
+pub returns-then-found-station-clause-released : goal.returns-then-found-station-clause-released
+returns-then-found-station-clause-released g c =
     let e = c.load-found.ensures in
     let tells = e.2.1 in
     let r = c.loop.invariant.carries in
+    let t : Start = start_of c.args.station.now.table.shared.key in
     let long : length c.loop.self.seat.me.0.start.cpus ≡ length c.args.station.now.table.shared.key.cpus.value.items = ap (λ (u : Start). length u.cpus) r.told in
     let counted = c.args.station.now.counted in
-    let is = c.if-found-station.true in
-    let moves = (tells.2 (omega arith)).0 in
-    carried r _ _ c.shift.new.self true true (λ t. does t Release) e.0 tells.0 (ap (λ (v : View). v.held) moves) (ap (λ (v : View). v.start) moves)
-    (ap (λ (p : Processor). held c.loop.self.number p true true) (sym (c.shift.ensures c.args.station.now.table.shared.key.goal.value)))
+    let same = c.if-found-station.true in
+    let full = tells.2 (omega arith) in
+    let moves = full.0 in
+    let is = c.shift.ensures t.goal in record {
+      carries = carried r _ _ c.shift.new.self true true (λ t. does t Release) e.0 tells.0 (ap (λ (v : View). v.held) moves) (ap (λ (v : View). v.start) moves)
+          (ap (λ (p : Processor). held c.loop.self.number p true true) (sym is));
+      shown = ap (λ (v : View). v.shown) moves ∙ ap Some same;
+      runs = ap (λ (p : Processor). p.phase) is;
+      risen = ap (λ (p : Processor). p.era) is ∙ ap (λ (n : ℕ). n + 1) (of_it r (λ u h. h.cpu.era ≡ common_era u.cpus) full.2);
+    }
 
 pub returns-then-found-station-clause-took : goal.returns-then-found-station-clause-took
 returns-then-found-station-clause-took g c =
@@ -40,17 +47,6 @@ returns-then-found-station-clause-took g c =
     let h : Held = held c.loop.self.number c.loop.cpu true true in
     let took = took_of t 1 c.load-found.result c.load-found.result Release h (does t Release h) (of_it r (λ u x. PassSteps u 1 c.load-found.result c.load-found.result (Some (Steps x.number Release)) x (does u Release x)) (tells.2 (omega arith)).1) in
     subst (λ (p : Processor). Took t c.loop.self.number Release p c.shift.new.self) c.loop.invariant.cpu (subst (Took t c.loop.self.number Release c.loop.cpu) (sym is) took)
-
-pub returns-then-found-station-clause-risen : goal.returns-then-found-station-clause-risen
-returns-then-found-station-clause-risen g c =
-    let tells = c.load-found.ensures.2.1 in
-    let r = c.loop.invariant.carries in
-    let t : Start = start_of c.args.station.now.table.shared.key in
-    let long : length c.loop.self.seat.me.0.start.cpus ≡ length c.args.station.now.table.shared.key.cpus.value.items = ap (λ (u : Start). length u.cpus) r.told in
-    let counted = c.args.station.now.counted in
-    let same = c.if-found-station.true in
-    let era = of_it r (λ u h. h.cpu.era ≡ common_era u.cpus) (tells.2 (omega arith)).2 in
-    ap (λ (p : Processor). p.era) (c.shift.ensures t.goal) ∙ ap (λ (n : ℕ). n + 1) era
 
 pub shift-requires-clause-room : goal.shift-requires-clause-room
 shift-requires-clause-room g c release =

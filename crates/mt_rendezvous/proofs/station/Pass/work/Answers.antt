@@ -31,21 +31,21 @@ worked t g e p q same is moved =
 
 pub local-e-requires-clause-fits : goal.local-e-requires-clause-fits
 local-e-requires-clause-fits c = let t : Start = start_of c.args.station.now.table.shared.key in
-    subst (λ (g : RegisterFile). FitsGoal g c.args.cpu.now) (sym c.requires.goal) (fits_goal t c.requires.begins Given c.args.self.now.number c.args.cpu.now c.requires.stands)
+    subst (λ (g : RegisterFile). FitsGoal g c.args.cpu.now) (sym c.requires.goal) (fits_goal t c.requires.passed.begins Given c.args.self.now.number c.args.cpu.now c.requires.passed.stands)
 
 pub local-e-requires-clause-written : goal.local-e-requires-clause-written
 local-e-requires-clause-written c = let t : Start = start_of c.args.station.now.table.shared.key in
-    subst (λ (g : RegisterFile). HasWritten g c.args.cpu.now) (sym c.requires.goal) (has_written t c.requires.begins Given c.args.self.now.number c.args.cpu.now c.requires.stands)
+    subst (λ (g : RegisterFile). HasWritten g c.args.cpu.now) (sym c.requires.goal) (has_written t c.requires.passed.begins Given c.args.self.now.number c.args.cpu.now c.requires.passed.stands)
 
 pub local-e-requires-clause-numbers : goal.local-e-requires-clause-numbers
 local-e-requires-clause-numbers c = let t : Start = start_of c.args.station.now.table.shared.key in
-    low_numbers t c.requires.begins Given c.args.self.now.number c.args.cpu.now c.requires.stands
+    low_numbers t c.requires.passed.begins Given c.args.self.now.number c.args.cpu.now c.requires.passed.stands
 
 pub unreachable-requires : goal.unreachable-requires
 unreachable-requires c =
     let t : Start = start_of c.args.station.now.table.shared.key in
     let e = c.local-e.result in
-    let there = back_place t c.requires.begins Given c.args.self.now.number c.args.cpu.now c.requires.stands e c.in-Some.address c.in-Some.value c.requires.between c.local-e.ensures.event (sym c.written.ensures ∙ c.in-Some.is) in
+    let there = back_place t c.requires.passed.begins Given c.args.self.now.number c.args.cpu.now c.requires.passed.stands e c.in-Some.address c.in-Some.value c.requires.local c.local-e.ensures.event (sym c.written.ensures ∙ c.in-Some.is) in
     let same = place_same c.args.ram.now t.ram c.in-Some.address c.requires.windows in
     c.in_default.not-Some there.0 (c.place.ensures.value ∙ same ∙ there.1)
 
@@ -53,7 +53,7 @@ pub overflow_add-word-in-Some : goal.overflow_add-word-in-Some
 overflow_add-word-in-Some c =
     let t : Start = start_of c.args.station.now.table.shared.key in
     let e = c.local-e.result in
-    let there = back_place t c.requires.begins Given c.args.self.now.number c.args.cpu.now c.requires.stands e c.in-Some.address c.in-Some.value c.requires.between c.local-e.ensures.event (sym c.written.ensures ∙ c.in-Some.is) in
+    let there = back_place t c.requires.passed.begins Given c.args.self.now.number c.args.cpu.now c.requires.passed.stands e c.in-Some.address c.in-Some.value c.requires.local c.local-e.ensures.event (sym c.written.ensures ∙ c.in-Some.is) in
     let same = place_same c.args.ram.now t.ram c.in-Some.address c.requires.windows in
     let at : c.in-Some-place.i ≡ there.0 = injected c.in-Some-place.i there.0 (sym c.in-Some-place.is ∙ c.place.ensures.value ∙ same ∙ there.1) in
     let low = there.2 in
@@ -64,10 +64,10 @@ overflow_add-word-in-Some c =
 pub store-requires : goal.store-requires
 store-requires c =
     let t : Start = start_of c.args.station.now.table.shared.key in
-    let r = c.requires.carries in
+    let r = c.requires.passed.carries in
     let e = c.local-e.result in
     let word = sym c.written.ensures ∙ c.in-Some.is in
-    let there = back_place t c.requires.begins Given c.args.self.now.number c.args.cpu.now c.requires.stands e c.in-Some.address c.in-Some.value c.requires.between c.local-e.ensures.event word in
+    let there = back_place t c.requires.passed.begins Given c.args.self.now.number c.args.cpu.now c.requires.passed.stands e c.in-Some.address c.in-Some.value c.requires.local c.local-e.ensures.event word in
     let same = place_same c.args.ram.now t.ram c.in-Some.address c.requires.windows in
     let at : c.in-Some-place.i ≡ there.0 = injected c.in-Some-place.i there.0 (sym c.in-Some-place.is ∙ c.place.ensures.value ∙ same ∙ there.1) in
     let low = there.2 in
@@ -77,13 +77,13 @@ store-requires c =
       r.same,
       omega arith,
       writes_back_told c.args.station.now.table.shared.key _ _ c.args.self.now.number c.args.self.now.seat.me c.args.cpu.now (c.args.station.now.count + 2 + c.in-Some-place.i) there.0 c.in-Some.address c.in-Some.value e
-          (record { is = r.holds; here = c.requires.between; due_is = c.local-e.ensures.event }) word (subst (λ (u : Start). place u.ram c.in-Some.address ≡ Some there.0) (sym r.told) there.1) (omega arith),
+          (record { is = r.holds; here = c.requires.local; due_is = c.local-e.ensures.event }) word (subst (λ (u : Start). place u.ram c.in-Some.address ≡ Some there.0) (sym r.told) there.1) (omega arith),
     )
 
 pub store-requires-in-None : goal.store-requires-in-None
 store-requires-in-None c =
     let t : Start = start_of c.args.station.now.table.shared.key in
-    let r = c.requires.carries in
+    let r = c.requires.passed.carries in
     let e = c.local-e.result in
     let wide = c.args.station.now.wide in
     let counted = c.args.station.now.counted in
@@ -92,7 +92,7 @@ store-requires-in-None c =
       r.same,
       omega arith,
       works_told c.args.station.now.table.shared.key _ _ c.args.self.now.number c.args.self.now.seat.me c.args.cpu.now c.code.result e
-          (record { is = r.holds; here = c.requires.between; due_is = c.local-e.ensures.event }) (sym c.written.ensures ∙ c.in-None.is)
+          (record { is = r.holds; here = c.requires.local; due_is = c.local-e.ensures.event }) (sym c.written.ensures ∙ c.in-None.is)
           (c.code.ensures ∙ ap code (c.phase.ensures ∙ ap (λ (p : Processor). p.phase) becomes)),
     )
 
@@ -110,50 +110,42 @@ invariant_of-self-clause-no_root c =
     (unshown (step c.args.station.now.table.shared.table_id.slots i n 0 none) c.args.self.now.seat.me c.store.new.seat.me n i n (inl (λ (e : i ≡ 1). omega arith)) c.store.ensures.2).1
     ∙ c.args.self.now.no_root
 
-pub returns-in-Some-place-clause-carries : goal.returns-in-Some-place-clause-carries
-returns-in-Some-place-clause-carries c =
+-- the processor is between the barriers afterwards too
+stays : (t : Start) (g : RegisterFile) (e : Event) (p q : Processor) → is_local p.phase ≡ true → ((o : Order) (ps : List Processor) → due o ps p p.phase ≡ Some e) → q ≡ own_step g e p → is_changing q.phase ≡ true
+stays t g e p q here is moved = subst (λ (r : Processor). is_changing r.phase ≡ true) (sym moved) (works_in g p e p.phase refl here is (order_of t Given)).0
+
+pub returns-in-Some-place-clause-passed : goal.returns-in-Some-place-clause-passed
+returns-in-Some-place-clause-passed c =
+    let t : Start = start_of c.args.station.now.table.shared.key in
     let i : ℕ = c.args.station.now.count + 2 + c.in-Some-place.i in
     let n : ℕ = c.in-Some.value in
     let e = c.store.ensures in
-    carries_on c.requires.carries c.store.new.seat.me c.local-e.new.self i n n (step c.args.station.now.table.shared.table_id.slots i n 0 none) (omega arith) e.2
-    (worked (start_of c.args.station.now.table.shared.key) c.args.goal.now c.local-e.result c.args.cpu.now c.local-e.new.self c.requires.goal c.local-e.ensures.event c.local-e.ensures.step) _ e.0
+    let l = c.local-e in
+    let st = step c.args.station.now.table.shared.table_id.slots i n 0 none in
+    let is = worked t c.args.goal.now l.result c.args.cpu.now l.new.self c.requires.goal l.ensures.event l.ensures.step in record {
+      begins = c.requires.passed.begins;
+      carries = carries_on c.requires.passed.carries c.store.new.seat.me l.new.self i n n st (omega arith) e.2 is _ e.0;
+      stands = stands_on c.requires.passed.carries c.store.new.seat.me l.new.self i n n st (omega arith) e.2 is;
+      between = stays t c.args.goal.now l.result c.args.cpu.now l.new.self c.requires.local l.ensures.event l.ensures.step;
+    }
 
-pub returns-in-Some-place-clause-stands : goal.returns-in-Some-place-clause-stands
-returns-in-Some-place-clause-stands c =
-    let i : ℕ = c.args.station.now.count + 2 + c.in-Some-place.i in
-    let n : ℕ = c.in-Some.value in
-    stands_on c.requires.carries c.store.new.seat.me c.local-e.new.self i n n (step c.args.station.now.table.shared.table_id.slots i n 0 none) (omega arith) c.store.ensures.2
-    (worked (start_of c.args.station.now.table.shared.key) c.args.goal.now c.local-e.result c.args.cpu.now c.local-e.new.self c.requires.goal c.local-e.ensures.event c.local-e.ensures.step)
-
--- the processor is between the barriers afterwards too
-between : (t : Start) (g : RegisterFile) (e : Event) (p q : Processor) → is_local p.phase ≡ true → ((o : Order) (ps : List Processor) → due o ps p p.phase ≡ Some e) → q ≡ own_step g e p → is_changing q.phase ≡ true
-between t g e p q here is moved = subst (λ (r : Processor). is_changing r.phase ≡ true) (sym moved) (works_in g p e p.phase refl here is (order_of t Given)).0
-
-pub returns-in-Some-place-clause-between : goal.returns-in-Some-place-clause-between
-returns-in-Some-place-clause-between c =
-    between (start_of c.args.station.now.table.shared.key) c.args.goal.now c.local-e.result c.args.cpu.now c.local-e.new.self c.requires.between c.local-e.ensures.event c.local-e.ensures.step
-
-pub returns-in-None-clause-between : goal.returns-in-None-clause-between
-returns-in-None-clause-between c =
-    between (start_of c.args.station.now.table.shared.key) c.args.goal.now c.local-e.result c.args.cpu.now c.local-e.new.self c.requires.between c.local-e.ensures.event c.local-e.ensures.step
+pub returns-in-None-clause-passed : goal.returns-in-None-clause-passed
+returns-in-None-clause-passed c =
+    let t : Start = start_of c.args.station.now.table.shared.key in
+    let i : ℕ = c.args.self.now.number + 2 in
+    let n : ℕ = c.code.result in
+    let e = c.store-in-None.ensures in
+    let l = c.local-e in
+    let st = step c.args.station.now.table.shared.table_id.slots i n 0 none in
+    let is = worked t c.args.goal.now l.result c.args.cpu.now l.new.self c.requires.goal l.ensures.event l.ensures.step in record {
+      begins = c.requires.passed.begins;
+      carries = carries_on c.requires.passed.carries c.store-in-None.new.seat.me l.new.self i n n st (omega arith) e.2 is _ e.0;
+      stands = stands_on c.requires.passed.carries c.store-in-None.new.seat.me l.new.self i n n st (omega arith) e.2 is;
+      between = stays t c.args.goal.now l.result c.args.cpu.now l.new.self c.requires.local l.ensures.event l.ensures.step;
+    }
 
 pub returns-in-Some-place-clause-becomes : goal.returns-in-Some-place-clause-becomes
 returns-in-Some-place-clause-becomes c = worked (start_of c.args.station.now.table.shared.key) c.args.goal.now c.local-e.result c.args.cpu.now c.local-e.new.self c.requires.goal c.local-e.ensures.event c.local-e.ensures.step
 
 pub returns-in-None-clause-becomes : goal.returns-in-None-clause-becomes
 returns-in-None-clause-becomes c = worked (start_of c.args.station.now.table.shared.key) c.args.goal.now c.local-e.result c.args.cpu.now c.local-e.new.self c.requires.goal c.local-e.ensures.event c.local-e.ensures.step
-
-pub returns-in-None-clause-carries : goal.returns-in-None-clause-carries
-returns-in-None-clause-carries c =
-    let i : ℕ = c.args.self.now.number + 2 in
-    let n : ℕ = c.code.result in
-    let e = c.store-in-None.ensures in
-    carries_on c.requires.carries c.store-in-None.new.seat.me c.local-e.new.self i n n (step c.args.station.now.table.shared.table_id.slots i n 0 none) (omega arith) e.2
-    (worked (start_of c.args.station.now.table.shared.key) c.args.goal.now c.local-e.result c.args.cpu.now c.local-e.new.self c.requires.goal c.local-e.ensures.event c.local-e.ensures.step) _ e.0
-
-pub returns-in-None-clause-stands : goal.returns-in-None-clause-stands
-returns-in-None-clause-stands c =
-    let i : ℕ = c.args.self.now.number + 2 in
-    let n : ℕ = c.code.result in
-    stands_on c.requires.carries c.store-in-None.new.seat.me c.local-e.new.self i n n (step c.args.station.now.table.shared.table_id.slots i n 0 none) (omega arith) c.store-in-None.ensures.2
-    (worked (start_of c.args.station.now.table.shared.key) c.args.goal.now c.local-e.result c.args.cpu.now c.local-e.new.self c.requires.goal c.local-e.ensures.event c.local-e.ensures.step)

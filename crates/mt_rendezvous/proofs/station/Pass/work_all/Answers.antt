@@ -11,4 +11,4 @@ pub loop-self-smaller : goal.loop-self-smaller
 loop-self-smaller c =
     let here : is_local c.loop-self.cpu.phase ≡ true = ap is_local (sym c.phase.ensures) ∙ sym c.is_local.ensures ∙ c.loop-self-test.true in
     subst (λ (q : Processor). left_of q < left_of c.loop-self.cpu) (sym c.work.ensures.becomes)
-    (nearer (start_of c.args.station.now.table.shared.key) c.requires.begins Given c.loop-self.self.number c.loop-self.cpu c.loop-self.invariant.stands here)
+    (nearer (start_of c.args.station.now.table.shared.key) c.requires.passed.begins Given c.loop-self.self.number c.loop-self.cpu c.loop-self.invariant.passed.stands here)

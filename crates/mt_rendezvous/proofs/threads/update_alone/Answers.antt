@@ -7,7 +7,7 @@ use Rattle.mt_core.specs.Rounds.{in_order}
 use Rattle.mt_core.specs.declared.fault.CallFault.{CallFault}
 use Rattle.mt_core.specs.declared.fault.CallFault.TheVariants.{Refused, UnderWay}
 use Rattle.mt_rendezvous.proofs.Running.{updated_alone}
-use Rattle.mt_rendezvous.proofs.threads.lead_alone.Goals as goal
+use Rattle.mt_rendezvous.proofs.threads.update_alone.Goals as goal
 
 pub unreachable-requires : goal.unreachable-requires
 unreachable-requires c = one c.in_default.field-0 c.in_default.is

@@ -9,11 +9,11 @@ use Rattle.mt_bus.specs.Tables.{AreTablesOf}
 use Rattle.mt_rendezvous.specs.Update.{CanUpdate, left_by, tables_left}
 use Rattle.mt_rendezvous.proofs.Renewed.{held_is_left, tables_are_left}
 use Rattle.mt_rendezvous.proofs.Running.{can_update, left_quiet, updated_again}
-use Rattle.mt_rendezvous.proofs.threads.finished.Goals as goal
+use Rattle.mt_rendezvous.proofs.threads.carried_out.Goals as goal
 
 pub put_together-system-requires-clause-tables : goal.put_together-system-requires-clause-tables
 put_together-system-requires-clause-tables g c =
-    let led = c.lead_on_threads-outcome in
+    let led = c.update_on_threads-outcome in
     let goal = c.args.goal.now in
     let ts = c.into_parts-cpus.result.tables.items in
     let left = led.ensures.left ∙ ap (λ (s : System). left_by (is_ok led.result.outcome) s goal) c.into_parts-cpus.ensures.value in
@@ -25,7 +25,7 @@ put_together-system-requires-clause-tables g c =
 
 pub put_together-system-requires-clause-held : goal.put_together-system-requires-clause-held
 put_together-system-requires-clause-held g c =
-    let led = c.lead_on_threads-outcome in
+    let led = c.update_on_threads-outcome in
     let goal = c.args.goal.now in
     let masks = c.into_parts-cpus.result.holders in
     let left = led.ensures.left ∙ ap (λ (s : System). left_by (is_ok led.result.outcome) s goal) c.into_parts-cpus.ensures.value in
@@ -34,28 +34,28 @@ put_together-system-requires-clause-held g c =
 
 pub put_together-system-requires-clause-sound : goal.put_together-system-requires-clause-sound
 put_together-system-requires-clause-sound g c =
-    let led = c.lead_on_threads-outcome in
+    let led = c.update_on_threads-outcome in
     let goal = c.args.goal.now in
     let left = led.ensures.left ∙ ap (λ (s : System). left_by (is_ok led.result.outcome) s goal) c.into_parts-cpus.ensures.value in
     subst IsSound (sym left) (left_quiet (gathered c.args.system.processors c.args.system.memory goal) c.requires.begins (is_ok led.result.outcome)).sound
 
 pub at_rest-requires-clause-quiet : goal.at_rest-requires-clause-quiet
 at_rest-requires-clause-quiet g c =
-    let led = c.lead_on_threads-outcome in
+    let led = c.update_on_threads-outcome in
     let goal = c.args.goal.now in
     let left = c.put_together-system.ensures ∙ led.ensures.left ∙ ap (λ (s : System). left_by (is_ok led.result.outcome) s goal) c.into_parts-cpus.ensures.value in
     subst (λ (s : System). IsQuiet (record { system = s; order = None })) (sym left) (left_quiet (gathered c.args.system.processors c.args.system.memory goal) c.requires.begins (is_ok led.result.outcome))
 
-pub lead_alone-requires : goal.lead_alone-requires
-lead_alone-requires g c =
-    let led = c.lead_on_threads-outcome in
+pub update_alone-requires : goal.update_alone-requires
+update_alone-requires g c =
+    let led = c.update_on_threads-outcome in
     let goal = c.args.goal.now in
     let left = c.put_together-system.ensures ∙ led.ensures.left ∙ ap (λ (s : System). left_by (is_ok led.result.outcome) s goal) c.into_parts-cpus.ensures.value ∙ ap (λ (b : Bool). left_by b c.args.system goal) (ap is_ok c.in-Err.is) in
     subst (λ (s : System). CanUpdate s goal) (sym left) (can_update (gathered c.args.system.processors c.args.system.memory goal) c.requires.begins c.requires.some c.requires.few)
 
 pub returns-in-Err : goal.returns-in-Err
 returns-in-Err g c =
-    let led = c.lead_on_threads-outcome in
+    let led = c.update_on_threads-outcome in
     let goal = c.args.goal.now in
     let left = c.put_together-system.ensures ∙ led.ensures.left ∙ ap (λ (s : System). left_by (is_ok led.result.outcome) s goal) c.into_parts-cpus.ensures.value ∙ ap (λ (b : Bool). left_by b c.args.system goal) (ap is_ok c.in-Err.is) in
-    c.lead_alone.ensures ∙ ap (λ (s : System). updated s [] goal) left ∙ updated_again c.args.system goal
+    c.update_alone.ensures ∙ ap (λ (s : System). updated s [] goal) left ∙ updated_again c.args.system goal

@@ -5,13 +5,13 @@ use Rattle.mt_rendezvous.specs.declared.view.Start.{Start}
 use Rattle.mt_rendezvous.specs.Station.{Begins, broadcast}
 use Rattle.mt_rendezvous.specs.Update.{left_by}
 use Rattle.mt_rendezvous.proofs.Ended.{queue, whole}
-use Rattle.mt_rendezvous.proofs.threads.lead_on_threads.Goals as goal
+use Rattle.mt_rendezvous.proofs.threads.update_on_threads.Goals as goal
 
 pub meet-outcome-requires-clause-waiting : goal.meet-outcome-requires-clause-waiting
-meet-outcome-requires-clause-waiting g c κs within = queue _ _ _ (subst Begins (sym c.in-Ok-gather_station.ensures.gathered.key) c.requires.begins) c.in-Ok-gather_station.ensures.gathered.attendees
+meet-outcome-requires-clause-waiting g c κs within = queue _ _ (subst Begins (sym c.in-Ok-gather_station.ensures.gathered.key) c.requires.begins) c.in-Ok-gather_station.ensures.gathered.attendees
 
-pub returns-in-Ok-gather_station-clause-left : goal.returns-in-Ok-gather_station-clause-left
-returns-in-Ok-gather_station-clause-left g c =
+pub returns-clause-left : goal.returns-clause-left
+returns-clause-left g c =
     let key = c.in-Ok-gather_station.ensures.gathered.key in
     let r = c.meet-outcome.ensures in
     let done = c.meet-outcome.result.done.items in
