@@ -3,7 +3,7 @@ use Rattle.std.specs.Prelude.{◌≡◌, ◌⊎◌, ℕ, ◌≤◌, Bool, true, 
 use Rattle.atomic_table.specs.declared.shared.Seat.{Seat}
 use Rattle.mt_regs.specs.RegisterFile.{RegisterFile}
 use Rattle.mt_machine.specs.declared.go.Go.{Go}
-use Rattle.mt_machine.specs.declared.go.Go.TheVariants.{Given, Pending}
+use Rattle.mt_machine.specs.declared.go.Go.TheVariants.{Cancelled, Given, Pending}
 use Rattle.mt_machine.specs.declared.op.Op.{Op}
 use Rattle.mt_machine.specs.declared.phase.Phase.{Phase}
 use Rattle.mt_machine.specs.declared.phase.Phase.TheVariants.{Arrived, Arrived2, Passed, Running, Taken}
@@ -12,6 +12,7 @@ use Rattle.mt_machine.specs.Machine.{Machine, is_changing}
 use Rattle.mt_rendezvous.specs.declared.view.Start.{Start}
 use Rattle.mt_rendezvous.specs.Calls.{IsRoot, Leads}
 use Rattle.mt_rendezvous.specs.Station.{start_of}
+use Rattle.mt_rendezvous.specs.Update.{decided}
 use Rattle.mt_private.specs.declared.host.Host.{Host}
 use Rattle.mt_private.specs.declared.host.Yard.{Yard}
 use Rattle.mt_private.specs.declared.job.Job.{Job}
@@ -28,7 +29,7 @@ use Rattle.mt_private.specs.Gathered.{AreGathered, IsGathered, IsRest}
 use Rattle.mt_private.specs.Left.{AreBack, Leaves}
 use Rattle.mt_private.specs.Visitors.{AreWaiting, HasCome, IsFresh, IsNew, Returned}
 use Rattle.mt_private.specs.YardCalls.{AreIn, IsDrained, IsLeft, Keeps, Lodges, VisitEnds, Visits, done_in}
-use Rattle.mt_private.specs.YardPlays.{as_sat, has_added}
+use Rattle.mt_private.specs.YardPlays.{Made, as_sat, has_added}
 
 -- from what it was gathered
 abbrev pub start_at : Yard → Start
@@ -51,20 +52,31 @@ HostsIn yard host go = LeadsIn yard host.seat go
 abbrev pub IsHostOf : Yard → Host → Type 0
 IsHostOf yard host = IsRoot yard.table.shared.table_id host.seat.table_id (as_sat host.seat.me)
 
+abbrev pub host_view : Host → YardView
+host_view host = host.seat.me.0
+
 -- what it has said: nothing yet, the go or the cancel
-abbrev pub go_of : Host → Go
-go_of host = host.seat.me.0.go
+abbrev pub said_by : Host → Go
+said_by host = (host_view host).go
 
 -- the residents that it holds
 abbrev pub held_by : Host → List Resident
-held_by host = host.seat.me.0.held
+held_by host = (host_view host).held
 
-abbrev pub view_of : Host → YardView
-view_of host = host.seat.me.0
+abbrev pub HasCancelledIn : Yard → Host → Type 0
+HasCancelledIn yard host = IsHostOf yard host × (said_by host ≡ Cancelled)
+
+-- it has given the go, or cancelled
+abbrev pub HasDecided : Host → Type 0
+HasDecided host = (given : Bool) × (said_by host ≡ decided given)
+
+-- its step that adds this to the first count
+abbrev pub AddsToFirst : ℕ → Host → Host → Type 0
+AddsToFirst n host later = Made 0 n host.seat.me later.seat.me
 
 -- it holds no resident, and no guest has come back
 abbrev pub IsFreshHost : Yard → Host → Type 0
-IsFreshHost yard host = IsFresh (start_at yard) (view_of host) host.owns.items
+IsFreshHost yard host = IsFresh (start_at yard) (host_view host) host.owns.items
 
 -- it holds what it held
 abbrev pub HoldsAsBefore : Host → Host → Type 0
@@ -72,17 +84,20 @@ HoldsAsBefore old new = (held_by new ≡ held_by old) × (new.owns ≡ old.owns)
 
 -- each own system that came back is of a resident that it holds
 abbrev pub KeepsOwns : Host → Type 0
-KeepsOwns host = Keeps (view_of host) host.owns.items
+KeepsOwns host = Keeps (host_view host) host.owns.items
 
 -- every guest has come back
 abbrev pub AllBackIn : Yard → Host → Type 0
-AllBackIn yard host = AreBack yard.count (view_of host) host.owns.items
+AllBackIn yard host = AreBack yard.count (host_view host) host.owns.items
 
 -- the yard ends with this system
 abbrev pub LeavesIn : Yard → Host → System → Type 0
-LeavesIn yard host s = Leaves (start_at yard) (view_of host) s
+LeavesIn yard host s = Leaves (start_at yard) (host_view host) s
 
 -- ---- passes and guests
+
+abbrev pub pass_view : YardPass → YardView
+pass_view pass = pass.seat.me.0
 
 -- the pass's seat lodges its resident, which has this own system
 abbrev pub LodgesIn : Yard → YardPass → System → Bool → Bool → Type 0
@@ -94,7 +109,7 @@ VisitsIn yard pass core added again go first = Visits yard.table.shared.table_id
 
 -- the pass's processor has added to the first count
 abbrev pub HasAdded : YardPass → Type 0
-HasAdded pass = has_added pass.seat.me.0.held ≡ true
+HasAdded pass = has_added (pass_view pass).held ≡ true
 
 -- the accesses that it has done
 abbrev pub done_of : YardPass → List Op
@@ -135,7 +150,7 @@ pub record HasNotTaken (yard : Yard) (pass : YardPass) (core : Machine) : Type 0
 -- the five that follow are of an update that began from a first system, at which the goal could be called
 
 -- it has taken: its buffers are empty, and nothing else has changed
-pub record HasTaken (yard : Yard) (pass : YardPass) (core : Machine) (first : System) : Type 0 where
+pub record IsTaken (yard : Yard) (pass : YardPass) (core : Machine) (first : System) : Type 0 where
   pub visits : VisitsIn yard pass core false false Pending first
   pub phase : AreIn Taken core.system
   pub drained : IsDrained first core.system
@@ -165,12 +180,12 @@ pub record HasArrivedAgain (yard : Yard) (pass : YardPass) (core : Machine) (fir
 pub record IsReleased (yard : Yard) (pass : YardPass) (core : Machine) : Type 0 where
   pub lodges : LodgesIn yard pass core.system true true
   pub runs : AreIn Running core.system
-  pub shown : pass.seat.me.0.shown ≡ Some yard.count
+  pub shown : (pass_view pass).shown ≡ Some yard.count
 
 -- it has left an update that was cancelled, which began from a first system: a load of the first count showed the cancel
 pub record HasLeft (yard : Yard) (pass : YardPass) (core : Machine) (first : System) : Type 0 where
   pub lodges : (added : Bool) × LodgesIn yard pass core.system added false
-  pub cancel : pass.seat.me.0.cancel ≡ true
+  pub cancel : (pass_view pass).cancel ≡ true
   pub left : IsLeft first core.system
 
 -- it takes no part in an update, so it may access its pages

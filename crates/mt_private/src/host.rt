@@ -1,7 +1,6 @@
 // The yard, and the seat of its host.
 ghost use Rattle.std.specs.Prelude.{◌≡◌, ◌+◌, ◌<◌, Some, length, slice_set};
 ghost use Rattle.mt_machine.specs.declared.go.Go.TheVariants.{Cancelled, Given, Pending};
-ghost use Rattle.mt_private.specs.YardPlays.{Made};
 ghost use Rattle.mt_private.specs.YardRule.{yard_both};
 
 use crate::view::{HandsOver, Lodging, YardTurn, YardView};
@@ -44,14 +43,14 @@ impl Coordinator<Yard> for Host {
 }
 
 impl Host {
-    ghost use Rattle.mt_private.specs.InYard.{HoldsAsBefore, HostsIn, IsGuestOf, IsHostOf, KeepsOwns, view_of};
+    ghost use Rattle.mt_private.specs.InYard.{AddsToFirst, HoldsAsBefore, HostsIn, IsGuestOf, IsHostOf, KeepsOwns, host_view, pass_view};
 
     /// Gives the go, once. Its addition to the first count is the event Go.
     pub fn go(&mut self, yard: &Yard)
         requires { HostsIn yard.now self.old Pending }
         ensures hosts { HostsIn yard.now self.new Given }
         ensures same { HoldsAsBefore self.old self.new }
-        ensures event { Made 0 1 self.old.seat.me self.new.seat.me }
+        ensures event { AddsToFirst 1 self.old self.new }
     {
         yard.table
             .shared
@@ -63,7 +62,7 @@ impl Host {
         requires { HostsIn yard.now self.old Pending }
         ensures hosts { HostsIn yard.now self.new Cancelled }
         ensures same { HoldsAsBefore self.old self.new }
-        ensures event { Made 0 4294967296 self.old.seat.me self.new.seat.me }
+        ensures event { AddsToFirst 4294967296 self.old self.new }
     {
         yard.table
             .shared
@@ -76,7 +75,7 @@ impl Host {
         requires lodges { IsGuestOf yard.now guest }
         requires long { length self.old.owns.items ≡ yard.now.count }
         ensures hosts { IsHostOf yard.now self.new }
-        ensures view { view_of self.new ≡ yard_both (view_of self.old) guest.pass.seat.me.0 }
+        ensures view { host_view self.new ≡ yard_both (host_view self.old) (pass_view guest.pass) }
         ensures owns { self.new.owns.items ≡ slice_set self.old.owns.items guest.pass.number (Some guest.own) }
         ensures rest { self.new.rest ≡ self.old.rest }
         ensures keeps { KeepsOwns self.old → KeepsOwns self.new }

@@ -11,8 +11,9 @@ ghost use Rattle.mt_rendezvous.specs.Calls.{gathered};
 ghost use Rattle.mt_private.specs.InYard.{IsGatheredFrom};
 ghost use Rattle.mt_private.specs.Residents.{Opens};
 ghost use Rattle.mt_private.specs.Jobs.{AreOpen, FitsJob, IsOpen, answers_in, ops_in, other_part, room_in};
-ghost use Rattle.mt_private.specs.OneByOne.{at_rest, jobs_one_by_one, ran, ran_each};
+ghost use Rattle.mt_private.specs.OneByOne.{AreOneByOne, at_rest, jobs_one_by_one, ran, ran_each};
 ghost use Rattle.mt_private.specs.Pages.{IsLeastShared, IsPrivate};
+ghost use Rattle.mt_private.specs.Visitors.{CanGoOn};
 ghost use Rattle.mt_private.specs.declared.job.Part.{Part as JobPart};
 ghost use Rattle.mt_private.specs.declared.job.Part.TheVariants.{Before, After};
 
@@ -159,15 +160,7 @@ fn update_and_access(
     jobs: &Vec<Job>,
     told: &mut Vec<Told>,
 )
-    requires quiet { IsQuiet core.old }
-    requires callable { IsEnabled core.old (Calls goal.now) }
-    requires some { 0 < length core.old.system.processors }
-    requires room { HasEraRoom core.old }
-    requires few { length jobs.now.items ≤ 16 }
-    requires processors { length jobs.now.items ≡ length core.old.system.processors }
-    requires one_each { length told.old.items ≡ length jobs.now.items }
-    requires addresses { All FitsJob jobs.now.items }
-    requires open { AreOpen After jobs.now.items told.old.items }
+    requires { CanGoOn core.old goal.now jobs.now.items told.old.items }
     ensures left { core.new ≡ at_rest (ran_each 0 (map (ops_in After) jobs.now.items) (updated core.old.system (in_order core.old) goal.now).system).after }
     ensures after { map (answers_in After) told.new.items ≡ (ran_each 0 (map (ops_in After) jobs.now.items) (updated core.old.system (in_order core.old) goal.now).system).answers }
     ensures before { map (answers_in Before) told.new.items ≡ map (answers_in Before) told.old.items }
@@ -193,9 +186,7 @@ fn visit_all<R: Threads + Wait + Sync, G: Gate>(
     requires addresses { All FitsJob jobs.items }
     requires open { (part : JobPart) → AreOpen part jobs.items told.items }
     ensures kept { IfNone result (core.new ≡ core.old) }
-    ensures left { IfSome result (λ told. core.new ≡ (jobs_one_by_one core.old.system goal jobs.items).left) }
-    ensures before { IfSome result (λ told. map (answers_in Before) told.items ≡ (jobs_one_by_one core.old.system goal jobs.items).before) }
-    ensures after { IfSome result (λ told. map (answers_in After) told.items ≡ (jobs_one_by_one core.old.system goal jobs.items).after) }
+    ensures done { IfSome result (λ told. AreOneByOne core.old.system goal jobs.items core.new told.items) }
 {
     let Some((yard, host, guests)) = gather_core(alloc, core, &goal) else {
         return None;

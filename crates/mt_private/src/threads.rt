@@ -3,7 +3,7 @@ ghost use Rattle.std.specs.Prelude.{◌≡◌, ◌+◌, ◌<◌, [], length, vec
 ghost use Rattle.std.specs.Prelude.{IfSome, IfNone, is_ok};
 ghost use Rattle.mt_machine.specs.declared.go.Go.TheVariants.{Cancelled, Pending};
 ghost use Rattle.mt_rendezvous.specs.Update.{decided};
-ghost use Rattle.mt_private.specs.InYard.{AreWaitingIn, HasComeIn, HasRoom, HostsIn, IsFreshHost, IsNewIn, ReturnedIn, go_of};
+ghost use Rattle.mt_private.specs.InYard.{AreWaitingIn, HasComeIn, HasRoom, HostsIn, IsFreshHost, IsNewIn, ReturnedIn, said_by};
 
 use crate::caller::{Caller, come_here, core_of, start};
 use crate::host::Host;
@@ -22,7 +22,7 @@ fn take_back(session: &Session, visitor: Visitor, host: &mut Host, told: &mut Ve
     requires come { HasComeIn session.now (length told.old.items) visitor }
     requires room { vec_len told.old < vec_capacity told.old }
     ensures returned { ReturnedIn session.now host.new told.new.items }
-    ensures go { go_of host.new ≡ go_of host.old }
+    ensures go { said_by host.new ≡ said_by host.old }
     ensures rest { host.new.rest ≡ host.old.rest }
     ensures count { length told.new.items ≡ length told.old.items + 1 }
     ensures capacity { vec_capacity told.new ≡ vec_capacity told.old }
@@ -74,7 +74,7 @@ fn leave_all<R: Wait, G: Gate>(
     requires fresh { IsFreshHost session.now.yard host.old }
     requires waiting { AreWaitingIn session.now queue.old }
     requires room { HasRoom queue.old }
-    ensures go { go_of host.new ≡ Cancelled }
+    ensures go { said_by host.new ≡ Cancelled }
     ensures returned { ReturnedIn session.now host.new queue.new.told.items }
     ensures rest { host.new.rest ≡ host.old.rest }
     ensures count { length queue.new.told.items ≡ length queue.old.waiting.items }
@@ -100,7 +100,7 @@ fn run_all<'s, E, R: Threads + Wait + Sync, G: Gate>(
     requires fresh { IsFreshHost session.now.yard host.old }
     requires waiting { AreWaitingIn session.now queue.old }
     requires room { HasRoom queue.old }
-    ensures go { go_of host.new ≡ decided (is_ok result) }
+    ensures go { said_by host.new ≡ decided (is_ok result) }
     ensures returned { ReturnedIn session.now host.new queue.new.told.items }
     ensures rest { host.new.rest ≡ host.old.rest }
     ensures count { length queue.new.told.items ≡ length queue.old.waiting.items }
@@ -113,7 +113,8 @@ fn run_all<'s, E, R: Threads + Wait + Sync, G: Gate>(
     match start(caller, scope, session, host, visitor) {
         Ok(child) => {
             let outcome = run_all(caller, scope, session, host, queue);
-            take_back(session, caller.join(child), host, &mut queue.told);
+            let visitor = caller.join(host, child);
+            take_back(session, visitor, host, &mut queue.told);
             outcome
         }
         Err((visitor, refusal)) => {
@@ -143,7 +144,7 @@ pub(crate) fn visit_on_threads<R: Threads + Wait + Sync, G: Gate>(
     requires waiting { AreWaitingIn session.now queue }
     requires room { HasRoom queue }
     ensures returned { ReturnedIn session.now result.host result.told.items }
-    ensures go { go_of result.host ≡ decided (is_ok result.outcome) }
+    ensures go { said_by result.host ≡ decided (is_ok result.outcome) }
     ensures rest { result.host.rest ≡ host.rest }
     ensures count { length result.told.items ≡ length queue.waiting.items }
 {
@@ -154,7 +155,7 @@ pub(crate) fn visit_on_threads<R: Threads + Wait + Sync, G: Gate>(
             requires waiting { AreWaitingIn session.now queue }
             requires room { HasRoom queue }
             ensures returned { ReturnedIn session.entry.now result.host result.told.items }
-            ensures go { go_of result.host ≡ decided (is_ok result.outcome) }
+            ensures go { said_by result.host ≡ decided (is_ok result.outcome) }
             ensures rest { result.host.rest ≡ host.rest }
             ensures count { length result.told.items ≡ length queue.waiting.items }
         {

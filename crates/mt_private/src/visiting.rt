@@ -64,7 +64,7 @@ fn phase_of(core: &Core) -> Phase
 }
 
 impl YardPass {
-    ghost use Rattle.mt_private.specs.InYard.{HasArrivedAgain, HasLeft, HasNotTaken, HasPassed, HasTaken, IsBetween, IsOutside, IsReleased, done_of, goal_at};
+    ghost use Rattle.mt_private.specs.InYard.{HasArrivedAgain, HasLeft, HasNotTaken, HasPassed, IsTaken, IsBetween, IsOutside, IsReleased, done_of, goal_at};
 
     // Exchanges the own event word, which holds what was stored last. That announces the access and is that event. Does
     // the access.
@@ -117,7 +117,7 @@ impl YardPass {
         requires goal { goal.now ≡ goal_at yard.now }
         ensures number { self.new.number ≡ self.old.number }
         ensures done { done_of self.new ≡ done_of self.old }
-        ensures taken { IsTrue result → HasTaken yard.now self.new core.new core.old.system }
+        ensures taken { IsTrue result → IsTaken yard.now self.new core.new core.old.system }
         ensures left { result ≡ false → HasLeft yard.now self.new core.new core.old.system }
         ensures unchanged { result ≡ false → core.new ≡ core.old }
     {

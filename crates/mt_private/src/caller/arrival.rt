@@ -43,7 +43,7 @@ impl Arrival {
         }
     }
 
-    // Tells the caller's gate, once.
+    // Tells the caller's gate.
     pub(super) fn tell<R, G: Gate>(self, caller: &Caller<R, G>) -> Heard<G>
         ensures { result.number ≡ self.number }
     {
@@ -57,14 +57,14 @@ impl Arrival {
 }
 
 impl YardPass {
-    ghost use Rattle.mt_private.specs.InYard.{HasArrived, HasTaken, done_of};
+    ghost use Rattle.mt_private.specs.InYard.{HasArrived, IsTaken, done_of};
 
     // Adds to the first count: the event Arrive, or none where it held the cancel before.
     pub(super) fn arrive(&mut self, yard: &Yard, core: &mut Core) -> Arrival
-        requires taken { (first : System) × HasTaken yard.now self.old core.old first }
+        requires taken { (first : System) × IsTaken yard.now self.old core.old first }
         ensures number { self.new.number ≡ self.old.number }
         ensures done { done_of self.new ≡ done_of self.old }
-        ensures arrived { (first : System) → HasTaken yard.now self.old core.old first → HasArrived yard.now self.new core.new first }
+        ensures arrived { (first : System) → IsTaken yard.now self.old core.old first → HasArrived yard.now self.new core.new first }
         ensures token { result.number ≡ self.old.number }
     {
         let found = yard

@@ -2,7 +2,7 @@
 ghost use Rattle.std.specs.Prelude.{◌≡◌, IfErr, IfOk};
 ghost use Rattle.std.specs.Thread.{IsSync};
 ghost use Rattle.mt_machine.specs.declared.go.Go.TheVariants.{Cancelled, Pending};
-ghost use Rattle.mt_private.specs.InYard.{HasComeIn, HoldsAsBefore, HostsIn, IsHostOf, IsNewIn, go_of};
+ghost use Rattle.mt_private.specs.InYard.{HasCancelledIn, HasComeIn, HoldsAsBefore, HostsIn, IsNewIn};
 
 use super::visits::visit_with;
 use crate::caller::Caller;
@@ -17,18 +17,18 @@ use std::thread::{Promise, Scope};
 
 // What the thread of a visitor promises: it comes back, and its visit has ended. Only this file can make one.
 #[derive(Drop)]
-pub(crate) struct Visits {
+pub(crate) struct ComesBack {
     session: Snapshot<Session>,
     number: u64,
 }
 
-impl Promise<Visitor> for Visits {
+impl Promise<Visitor> for ComesBack {
     ghost use Rattle.mt_private.specs.InYard.{HasComeIn};
 
     ghost kept_by = { λ p v. HasComeIn p.session.value p.number v };
 }
 
-impl OfProcessor for Visits {
+impl OfProcessor for ComesBack {
     ghost number = { λ p. p.number };
 }
 
@@ -41,8 +41,7 @@ pub(crate) fn come_here<R: Wait, G: Gate>(
     _host: &Host,
     visitor: &mut Visitor,
 )
-    requires host { IsHostOf session.now.yard _host.now }
-    requires cancelled { go_of _host.now ≡ Cancelled }
+    requires cancelled { HasCancelledIn session.now.yard _host.now }
     requires new { IsNewIn session.now visitor.old.pass.number visitor.old }
     ensures { HasComeIn session.now visitor.old.pass.number visitor.new }
 {
@@ -74,7 +73,7 @@ pub(crate) fn start<'s, E, R: Wait + Sync, G: Gate>(
     session: &'s Session,
     host: &mut Host,
     visitor: Visitor,
-) -> Result<Started<Visitor, Visits, G>, (Visitor, Refusal)>
+) -> Result<Started<Visitor, ComesBack, G>, (Visitor, Refusal)>
     requires hosts { HostsIn session.now.yard host.old Pending }
     requires new { IsNewIn session.now visitor.pass.number visitor }
     ensures same { HoldsAsBefore host.old host.new }
@@ -83,7 +82,7 @@ pub(crate) fn start<'s, E, R: Wait + Sync, G: Gate>(
     ensures cancelled { IfErr result (λ e. HostsIn session.now.yard host.new Cancelled) }
     ensures come { IfErr result (λ e. HasComeIn session.now visitor.pass.number e.0) }
 {
-    let promise = Visits {
+    let promise = ComesBack {
         session: Snapshot::of(session),
         number: visitor.pass.number,
     };

@@ -6,29 +6,27 @@ ghost use Rattle.mt_machine.specs.Update.{updated};
 
 use super::arrival::Heard;
 use crate::caller::Caller;
-use crate::host::{CANCEL, Yard};
+use crate::host::{CANCEL, Host, Yard};
 use crate::view::YardTurn;
 use crate::visiting::YardPass;
 use mt_core::Core;
 use mt_ports::Gate;
 use mt_rendezvous::Started;
-use std::hint;
 use std::sync::Wait;
-use std::thread;
 use std::thread::{Promise, Scope, Threads};
+use std::{hint, thread};
 
-// After so many loads of a word that don't end the wait, the thread yields its processor.
-const LOADS_BEFORE_YIELD: u32 = 64;
+// How often a wait pauses between two loads before it yields the processor.
+const SPINS: u32 = 64;
 
-// Pauses behind a load that didn't end the wait, and behind the last of so many yields the processor. The result is how many
-// loads have been made since the thread last yielded.
-fn pause(loads: u32) -> u32 {
-    if loads < LOADS_BEFORE_YIELD {
-        hint::spin_loop();
-        return loads + 1;
+// Pauses, or yields the processor if no pause is left before that. Returns how many are left.
+fn pause(spins: u32) -> u32 {
+    if spins == 0 {
+        thread::yield_now();
+        return SPINS;
     }
-    thread::yield_now();
-    0
+    hint::spin_loop();
+    spins - 1
 }
 
 // The runtime of a call. A loop without a measure needs one.
@@ -45,6 +43,8 @@ impl<R> Waiter<R> {
 }
 
 impl<R: Threads + Wait, G: Gate> Caller<R, G> {
+    ghost use Rattle.mt_private.specs.InYard.{HasDecided};
+
     // Calls f with a scope, and waits for the threads that f starts there.
     pub(crate) fn scope<'e, F: for<'s> FnOnce(&'s Scope<'s, &'e ()>) -> T, T>(&self, f: F) -> T
         requires { F.IsAlwaysCallable f }
@@ -53,8 +53,10 @@ impl<R: Threads + Wait, G: Gate> Caller<R, G> {
         thread::scope(thread::scope_env(), &self.waiter.rt, f)
     }
 
-    // Waits for the end of a thread that a crew with a gate of this caller's type has started.
-    pub(crate) fn join<T, P: Promise<T>>(&self, child: Started<T, P, G>) -> T
+    // Waits for the end of a thread that a crew with a gate of this caller's type has started, once the host has given the go or
+    // cancelled.
+    pub(crate) fn join<T, P: Promise<T>>(&self, _host: &Host, child: Started<T, P, G>) -> T
+        requires { HasDecided _host.now }
         ensures { P.kept_by child.promise.value result }
     {
         self.crew.join(&self.waiter.rt, child)
@@ -64,8 +66,8 @@ impl<R: Threads + Wait, G: Gate> Caller<R, G> {
 impl YardPass {
     ghost use Rattle.mt_private.specs.InYard.{HasArrived, HasArrivedAgain, HasLeft, HasPassed, IsReleased, done_of, goal_at};
 
-    // Waits for the others, once the gate was told of the arrival. The load of the first count that ends it is the event
-    // Pass, and the result is true, or Leave. Each load before it is none.
+    // Waits for the others. It spends what says that a gate of the caller's type was told of this pass. The load of the first
+    // count that ends it is the event Pass, and the result is true, or Leave. Each load before it is none.
     pub(super) fn wait_first<R: Wait, G>(
         &mut self,
         caller: &Caller<R, G>,
@@ -81,7 +83,7 @@ impl YardPass {
         ensures left { result ≡ false → (first : System) → HasArrived yard.now self.old core.old first → HasLeft yard.now self.new core.new first }
     {
         heard.spend();
-        let mut loads = 0;
+        let mut spins = SPINS;
         for _ in caller.waiter.rt.forever() {
             let found = yard.table.shared.load::<YardTurn>(&mut self.seat, 0);
             if found >= CANCEL {
@@ -94,7 +96,7 @@ impl YardPass {
                 core.step(0);
                 return true;
             }
-            loads = pause(loads);
+            spins = pause(spins);
         }
         unreachable!()
     }
@@ -113,14 +115,14 @@ impl YardPass {
         ensures released { IsReleased yard.now self.new core.new }
         ensures whole { (first : System) → HasArrivedAgain yard.now self.old core.old first → core.new ≡ updated first (0 ∷ []) (goal_at yard.now) }
     {
-        let mut loads = 0;
+        let mut spins = SPINS;
         for _ in caller.waiter.rt.forever() {
             let found = yard.table.shared.load::<YardTurn>(&mut self.seat, 1);
             if found == yard.count {
                 core.step(0);
                 return;
             }
-            loads = pause(loads);
+            spins = pause(spins);
         }
         unreachable!()
     }

@@ -27,6 +27,31 @@ returns-in_default-answers_for-clause-no_memory g c is =
     let good : IsAccepted c.args.goal = search rules in
     (none, good, private_where_none c.args.core.now.system c.shared_page.result c.in_default-shared_page.not-Some c.shared_page.ensures.none)
 
+pub visit_all-requires-clause-opens : goal.visit_all-requires-clause-opens
+visit_all-requires-clause-opens g c κs within =
+    let none : c.args.core.now.order ≡ None = search rules in
+    let good : IsAccepted c.args.goal = search rules in
+    opens_of c.args.core.now c.args.goal c.a_core_arises.ensures none c.is_register_file.ensures good (private_where_none c.args.core.now.system c.shared_page.result c.in_default-shared_page.not-Some c.shared_page.ensures.none) c.requires.some c.requires.fits c.requires.room
+
+pub returns-clause-refused : goal.returns-clause-refused
+returns-clause-refused g c =
+    let good : IsAccepted c.args.goal = search rules in
+    accepted c.args.core.now.order c.args.goal _ (λ fault is. absurd (cc)) good
+
+pub returns-clause-shared : goal.returns-clause-shared
+returns-clause-shared g c =
+    unshared c.args.core.now.order c.args.goal _ c.args.core.now.system c.shared_page.result (λ n is. absurd (cc)) c.in_default-shared_page.not-Some c.shared_page.ensures.least
+
+pub returns-in_default-visit_all-clause-shared : goal.returns-in_default-visit_all-clause-shared
+returns-in_default-visit_all-clause-shared g c =
+    unshared c.args.core.now.order c.args.goal _ c.args.core.now.system c.shared_page.result (λ n is. absurd (cc)) c.in_default-shared_page.not-Some c.shared_page.ensures.least
+
+pub returns-in_default-visit_all-clause-no_memory : goal.returns-in_default-visit_all-clause-no_memory
+returns-in_default-visit_all-clause-no_memory g c is =
+    let none : c.args.core.now.order ≡ None = search rules in
+    let good : IsAccepted c.args.goal = search rules in
+    (none, good, private_where_none c.args.core.now.system c.shared_page.result c.in_default-shared_page.not-Some c.shared_page.ensures.none)
+
 pub visit_all-requires-clause-open : goal.visit_all-requires-clause-open
 visit_all-requires-clause-open g c κs within part = subst (λ (js : List Job). AreOpen part js c.in-Ok.told.items) c.as_slice.ensures.value (c.in-Ok.ensures.open part)
 
