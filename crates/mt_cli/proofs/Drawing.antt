@@ -15,8 +15,8 @@ use Rattle.mt_private.specs.declared.job.Part.{Part}
 use Rattle.mt_private.specs.declared.job.Part.TheVariants.{After, Before}
 use Rattle.mt_private.specs.declared.job.Told.{Told}
 use Rattle.mt_private.specs.Jobs.{answers_in, ops_in}
-use Rattle.mt_private.specs.OneByOne.{jobs_one_by_one, one_by_one}
-use Rattle.mt_cli.specs.Measured.{AreRan, all_values_from, behind_op, behind_ops, drawn_op, drawn_ops, file_of, measured, measured_machine, measured_text, ops_after, ops_before, sums_text, text_of, values_from, words_sum}
+use Rattle.mt_private.specs.OneByOne.{AreOneByOne, jobs_one_by_one, one_by_one}
+use Rattle.mt_cli.specs.Measured.{all_values_from, behind_op, behind_ops, drawn_op, drawn_ops, file_of, measured, measured_machine, measured_text, ops_after, ops_before, sums_text, text_of, values_from, words_sum}
 
 pub ops_on : (count i x : ℕ) (ops whole : List Op) → i < count → ops ++ drawn_ops (count - i) x ≡ whole → (ops ++ drawn_op x ∷ []) ++ drawn_ops (count - (i + 1)) (behind_op x) ≡ whole
 unfolding drawn_ops
@@ -38,14 +38,14 @@ behind_end x end so_far = so_far
 
 -- the answers of a part, and then of the other
 pub sums : (s : System) (jobs : List Job) (told : List Told) (after : Machine) (count n accesses first last : ℕ)
-    → AreRan s (file_of 4) jobs told after → s ≡ (measured_machine count).system → map (ops_in Before) jobs ≡ map (ops_before n accesses) (ascending count) → map (ops_in After) jobs ≡ map (ops_after n accesses) (ascending count)
+    → AreOneByOne s (file_of 4) jobs after told → s ≡ (measured_machine count).system → map (ops_in Before) jobs ≡ map (ops_before n accesses) (ascending count) → map (ops_in After) jobs ≡ map (ops_after n accesses) (ascending count)
     → first ≡ fold (λ v t. values_from v (answers_in Before t)) 0 told → last ≡ fold (λ v t. values_from v (answers_in After t)) first told
     → sums_text last (words_sum after.system.memory.words) ≡ measured_text count n accesses
 unfolding measured_text
 sums s jobs told after count n accesses first last ran at before_is after_is first_is last_is =
     let o : jobs_one_by_one s (file_of 4) jobs ≡ measured count n accesses = (λ i. one_by_one (at i) (file_of 4) (before_is i) (after_is i)) in
     let one : first ≡ all_values_from 0 (jobs_one_by_one s (file_of 4) jobs).before = first_is ∙ sym (fold-map values_from (answers_in Before) 0 told) ∙ ap (all_values_from 0) ran.before in
-    let two : last ≡ all_values_from first (jobs_one_by_one s (file_of 4) jobs).after = last_is ∙ sym (fold-map values_from (answers_in After) first told) ∙ ap (all_values_from first) ran.after_update in
+    let two : last ≡ all_values_from first (jobs_one_by_one s (file_of 4) jobs).after = last_is ∙ sym (fold-map values_from (answers_in After) first told) ∙ ap (all_values_from first) ran.after in
     (λ i. sums_text ((two ∙ ap (λ (v : ℕ). all_values_from v (jobs_one_by_one s (file_of 4) jobs).after) one) i) (words_sum (ran.left i).system.memory.words))
     ∙ ap text_of o
 

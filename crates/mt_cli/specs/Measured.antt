@@ -12,16 +12,11 @@ use Rattle.mt_machine.specs.declared.done.Done.{Done}
 use Rattle.mt_machine.specs.declared.done.Done.TheVariants.{Value}
 use Rattle.mt_machine.specs.declared.op.Op.{Op}
 use Rattle.mt_machine.specs.declared.op.Op.TheVariants.{Load, Store}
-use Rattle.mt_machine.specs.System.{System}
 use Rattle.mt_machine.specs.Machine.{Controls, FitsGoal, Machine, next}
 use Rattle.mt_machine.specs.Start.{start_machine}
 use Rattle.mt_core.specs.Arises.{grown}
 use Rattle.mt_core.specs.Rounds.{ascending}
-use Rattle.mt_private.specs.declared.job.Job.{Job}
-use Rattle.mt_private.specs.declared.job.Told.{Told}
-use Rattle.mt_private.specs.declared.job.Part.TheVariants.{Before, After}
-use Rattle.mt_private.specs.Jobs.{answers_in}
-use Rattle.mt_private.specs.OneByOne.{OneByOne, jobs_one_by_one, one_by_one}
+use Rattle.mt_private.specs.OneByOne.{OneByOne, one_by_one}
 use Rattle.mt_dump.specs.Canon.{value_text}
 use Rattle.mt_output.specs.Lines.{line}
 use Rattle.mt_answers.specs.Generator.{drawn, stepped}
@@ -82,12 +77,6 @@ pub record IsSetUp (count : ℕ) (m : Machine) : Type 0 where
   pub size : length m.system.processors ≡ count
   pub fits : All (FitsGoal (file_of 4)) m.system.processors
   pub eras : All (λ p. p.era ≡ 0) m.system.processors
-
--- what the jobs leave, and their answers
-pub record AreRan (s : System) (goal : RegisterFile) (jobs : List Job) (told : List Told) (after : Machine) : Type 0 where
-  pub left : after ≡ (jobs_one_by_one s goal jobs).left
-  pub before : map (answers_in Before) told ≡ (jobs_one_by_one s goal jobs).before
-  pub after_update : map (answers_in After) told ≡ (jobs_one_by_one s goal jobs).after
 
 -- ---- sums modulo 2 ^ 64
 

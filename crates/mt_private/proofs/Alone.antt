@@ -24,7 +24,7 @@ use Rattle.mt_rendezvous.specs.declared.view.Start.{Start}
 use Rattle.mt_rendezvous.specs.Station.{order_of}
 use Rattle.mt_rendezvous.proofs.Steps.{due_pass, due_release}
 use Rattle.mt_private.specs.OneByOne.{at_rest}
-use Rattle.mt_private.specs.YardCalls.{AreIn, HasTaken, IsLeft, in_phase}
+use Rattle.mt_private.specs.YardCalls.{AreIn, IsDrained, IsLeft, in_phase}
 
 -- ---- one processor
 
@@ -190,7 +190,7 @@ pub one_drained : (s : System) (p : Processor) → s.processors ≡ p ∷ [] →
 one_drained s p alone = one_of (drain 0 s).processors (stage_of p) (drain_stages 0 s ∙ ap (map stage_of) alone)
 
 -- a step that moves the phase of one that has taken
-pub taken_on : (ph : Phase) (first own : System) (p : Processor) → own.processors ≡ p ∷ [] → HasTaken first own → change (λ (q : Processor). record q { phase = ph }) 0 own ≡ in_phase ph (drain 0 first)
+pub taken_on : (ph : Phase) (first own : System) (p : Processor) → own.processors ≡ p ∷ [] → IsDrained first own → change (λ (q : Processor). record q { phase = ph }) 0 own ≡ in_phase ph (drain 0 first)
 taken_on ph first own p alone has = in_phase_one ph own p alone ∙ ap (in_phase ph) has.1 ∙ in_phase_twice ph has.0 (drain 0 first)
 
 -- ---- a system whose one processor runs

@@ -13,13 +13,15 @@ use Rattle.mt_machine.specs.declared.op.Op.{Op}
 use Rattle.mt_machine.specs.Memory.{Memory}
 use Rattle.mt_machine.specs.System.{Processor, System, change}
 use Rattle.mt_machine.specs.Access.{access}
-use Rattle.mt_machine.specs.Machine.{FitsGoal, Machine, Steps, before_own, common_era, due, own_step, step}
+use Rattle.mt_machine.specs.Machine.{Calls, FitsGoal, IsEnabled, Machine, Steps, before_own, common_era, due, own_step, step}
+use Rattle.mt_machine.specs.Start.{IsQuiet}
 use Rattle.mt_core.specs.Rounds.{Rounds}
 use Rattle.mt_core.specs.Steps.{under_way}
 use Rattle.mt_rendezvous.specs.declared.view.Start.{Start}
 use Rattle.mt_rendezvous.specs.Station.{held, order_of}
 use Rattle.mt_private.specs.declared.view.Resident.{Resident}
 use Rattle.mt_private.specs.declared.view.YardView.{YardView}
+use Rattle.mt_private.specs.OneByOne.{at_rest}
 use Rattle.mt_private.specs.Residents.{Opens, accessed_by, in_system, own_of, stepped_by, with_first, with_stored}
 use Rattle.mt_private.specs.YardRule.{with_one}
 use Rattle.mt_private.specs.YardPlays.{AccessesYard, ArrivesAgainYard, ArrivesYard, IsCallable, OfOne, OfPass, OfSeat, PassesYard, ReleasesYard, TakesYard, Tells, TurnsUnshown, WorksYard, YardSat, has_added}
@@ -198,9 +200,10 @@ module _ {table : TableId} {t : Start} {its : TableId} {me : YardSat} {number : 
       )
 
   -- and its own machine after the call and the take
-  pub visits_first : (new : Machine) (its' : TableId) (me' : YardSat) (shown : Option ℕ) (cancel : Bool) → (o : Onward t Pending own r.cpu Take new) → r.cpu.phase ≡ Running → r.cpu.era ≡ common_era t.cpus → its' ≡ its → me'.1 ≡ me.1
+  pub visits_first : (new : Machine) (its' : TableId) (me' : YardSat) (shown : Option ℕ) (cancel : Bool) → IsQuiet (at_rest own) → IsEnabled (at_rest own) (Calls t.goal) → (o : Onward t Pending own r.cpu Take new) → r.cpu.phase ≡ Running
+      → r.cpu.era ≡ common_era t.cpus → its' ≡ its → me'.1 ≡ me.1
       → me'.0 ≡ with_one me.0 (stepped_by t Take its_guest) shown cancel → Visits table t its' me' number new added again Pending own
-  visits_first new its' me' shown cancel o runs era same bare turns =
+  visits_first new its' me' shown cancel quiet enabled o runs era same bare turns =
       let alone : new.system.processors ≡ o.q.cpu ∷ [] = ap (λ (m : Machine). m.system.processors) o.is ∙ o.q.alone in
       let is = stepped_is Take o.q.cpu o.q.alone in
       record {
@@ -209,6 +212,8 @@ module _ {table : TableId} {t : Start} {its : TableId} {me : YardSat} {number : 
         order = ap (λ (m : Machine). m.order) o.is;
         era = ap common_era alone ∙ o.era;
         one = ap (λ (ps : List Processor). length ps) r.alone;
+        quiet = quiet;
+        enabled = enabled;
         rounds = λ n later.
             subst (λ (m : Machine). Rounds m n) (sym (called_given t own r.cpu r.alone era))
             (round_on t own r.cpu o.q.cpu Take n r.alone (due_take t Given r.cpu runs era refl) o.q.alone o.era (subst (λ (m : Machine). Rounds (under_way (order_of t Given) m.system) n) o.is later));
@@ -247,6 +252,8 @@ module _ {table : TableId} {t : Start} {its : TableId} {me : YardSat} {number : 
         order = ap (λ (m : Machine). m.order) o.is;
         era = ap common_era alone ∙ o.era;
         one = v.one;
+        quiet = v.quiet;
+        enabled = v.enabled;
         rounds = λ n later.
             v.rounds n (round_on t core.system v.lodges.cpu o.q.cpu e n v.lodges.alone due_given o.q.alone o.era (subst (λ (m : Machine). Rounds (under_way (order_of t Given) m.system) n) o.is later));
       }

@@ -15,7 +15,7 @@ use Rattle.mt_laws.proofs.Barrier.Claims.{all_get}
 use Rattle.mt_laws.proofs.Barrier.Ranks.{and_left, and_right}
 use Rattle.mt_laws.proofs.Updates.Addresses.{length_addresses}
 use Rattle.mt_private.specs.Own.{own_memory, pages_of, words_on}
-use Rattle.mt_private.specs.declared.gather.Room.{Room}
+use Rattle.mt_bus.specs.declared.system_parts.SystemParts.{SystemParts}
 use Rattle.mt_private.specs.Gathered.{AreRooms, IsRoom}
 use Rattle.mt_private.proofs.Alone.{one_all}
 use Rattle.mt_private.proofs.Own.Buses.{in_pages}
@@ -129,7 +129,7 @@ front_tables ps ts p t h = record {
   each = λ k q u at_q at_u. h.each k q u (at_front ps (p ∷ []) k q at_q) (at_front ts (t ∷ []) k u at_u);
 }
 
-pub front_rooms : (ps : List Processor) (m : Memory) (rs : List Room) (p : Processor) (r : Room) → AreRooms (ps ++ p ∷ []) m (rs ++ r ∷ []) → AreRooms ps m rs
+pub front_rooms : (ps : List Processor) (m : Memory) (rs : List SystemParts) (p : Processor) (r : SystemParts) → AreRooms (ps ++ p ∷ []) m (rs ++ r ∷ []) → AreRooms ps m rs
 front_rooms ps m rs p r h = record {
   count = (let a = h.count in let b = length-append ps (p ∷ []) in let c = length-append rs (r ∷ []) in omega arith);
   each = λ k q u at_q at_u. h.each k q u (at_front ps (p ∷ []) k q at_q) (at_front rs (r ∷ []) k u at_u);
@@ -149,7 +149,7 @@ last_tables ps ts p t h =
     let same : length ts ≡ length ps = omega arith in
     own_tables (ps ++ p ∷ []) (ts ++ t ∷ []) (length ps) p t h (at_back ps p) (subst (λ (n : ℕ). slice_get (ts ++ t ∷ []) n ≡ Some t) same (at_back ts t))
 
-pub last_room : (ps : List Processor) (m : Memory) (rs : List Room) (p : Processor) (r : Room) → AreRooms (ps ++ p ∷ []) m (rs ++ r ∷ []) → IsRoom p m r
+pub last_room : (ps : List Processor) (m : Memory) (rs : List SystemParts) (p : Processor) (r : SystemParts) → AreRooms (ps ++ p ∷ []) m (rs ++ r ∷ []) → IsRoom p m r
 last_room ps m rs p r h =
     let a = h.count in
     let b = length-append ps (p ∷ []) in

@@ -34,12 +34,12 @@ use Rattle.mt_private.specs.declared.job.Part.TheVariants.{After, Before}
 use Rattle.mt_private.specs.declared.view.Resident.{Resident}
 use Rattle.mt_private.specs.declared.visiting.Visited.{Visited}
 use Rattle.mt_private.specs.declared.visiting.Visited.TheVariants.{Cancelled, Complete}
-use Rattle.mt_private.specs.Jobs.{AreOpen, IsOpen, answers_in, ops_in}
+use Rattle.mt_private.specs.Jobs.{AreOpen, FitsJob, IsOpen, answers_in, ops_in}
 use Rattle.mt_private.specs.Left.{AreOwnsOf, Leaves}
-use Rattle.mt_private.specs.OneByOne.{OneByOne, at_rest, jobs_one_by_one, ran, ran_each}
+use Rattle.mt_private.specs.OneByOne.{AreOneByOne, OneByOne, at_rest, jobs_one_by_one, ran, ran_each}
 use Rattle.mt_private.specs.Own.{own_memory, own_system}
 use Rattle.mt_private.specs.Residents.{FitsYard, held_of, pages_at, pages_left, system_of, yard_machine}
-use Rattle.mt_private.specs.Visitors.{CameBack, Returned, own_at}
+use Rattle.mt_private.specs.Visitors.{CameBack, CanGoOn, Returned, own_at}
 use Rattle.mt_private.specs.YardCalls.{Lodges, VisitEnds, updated_own}
 use Rattle.mt_private.specs.YardPlays.{YardSat}
 use Rattle.mt_private.proofs.Carried.{its_guest}
@@ -255,6 +255,9 @@ module _ (table : TableId) (t : Start) (jobs : List Job) (its : TableId) (me : Y
               ∙ ap (λ (ds : List Done). Some ds) (sym (whole k low).4),
         ))
 
+    pub all_given : AreOneByOne (system_of t) t.goal jobs (at_rest s) told
+    all_given = record { left = ap at_rest left_given; before = answers_before; after = answers_after }
+
   module _ (stopped : me.0.go ≡ Stopped) where
     not_whole : (k : ℕ) (low : k < length t.cpus) → Lodges table t (came k low).its (came k low).me k (came k low).own true true → ⊥
     not_whole k low l =
@@ -351,6 +354,23 @@ module _ (table : TableId) (t : Start) (jobs : List Job) (its : TableId) (me : Y
 
     pub answers_stopped : (ran_each 0 afters done).answers ≡ one_by.after
     answers_stopped = ap (λ (u : System). (ran_each 0 afters u).answers) done_whole
+
+    pub can_go_on : All FitsJob jobs → CanGoOn (at_rest s) t.goal jobs told
+    can_go_on fits = record {
+      quiet = quiet_stopped;
+      callable = callable_stopped;
+      some = some_stopped;
+      room = room_stopped;
+      few = (let few = leaves.yard.resides.opens.few in omega arith);
+      processors = size ∙ sym many;
+      one_each = long;
+      addresses = fits;
+      has_places = open_after;
+    }
+
+    pub all_stopped : (m : Machine) (later : List Told) → m ≡ at_rest (ran_each 0 afters done).after → map (answers_in After) later ≡ (ran_each 0 afters done).answers → map (answers_in Before) later ≡ map (answers_in Before) told
+        → AreOneByOne (system_of t) t.goal jobs m later
+    all_stopped m later left told_after told_before = record { left = left ∙ left_stopped; before = told_before ∙ answers_before; after = told_after ∙ answers_stopped }
 
   -- ---- either way
 

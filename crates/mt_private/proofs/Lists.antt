@@ -1,5 +1,5 @@
 -- Elements of lists by their places.
-use Rattle.std.proofs.Common.{◌≡◌, ◌≢◌, ◌∙◌, ap, refl, sym, Bool, true, false, ℕ, zero, suc, ◌+◌, ◌<◌, List, [], ◌∷◌, ◌++◌, drop, length, replicate, Some, inl, inr, ⊎_elim, arith}
+use Rattle.std.proofs.Common.{◌≡◌, ◌≢◌, ◌∙◌, ap, refl, subst, sym, Bool, true, false, ℕ, zero, suc, ◌+◌, ◌<◌, List, [], ◌∷◌, ◌++◌, drop, length, replicate, Some, inl, inr, ⊎_elim, arith}
 use Rattle.std.specs.Prelude.{◌⊎◌, ◌||◌, slice_get, slice_set}
 use Rattle.std.specs.List.{fold, list_any}
 use Rattle.std.proofs.lemmas.List.{drop_more}
@@ -49,3 +49,10 @@ pub got : {X : Type 0} (xs : List X) (k : ℕ) → k < length xs → (x : X) × 
 got [] k low = absurd (omega arith)
 got (x ∷ xs) zero low = (x, refl)
 got (x ∷ xs) (suc k) low = got xs k (omega arith)
+
+-- what is so of the element at a place
+pub there : {X : Type 0} (P : X → Type 0) (xs : List X) (k : ℕ) (x : X) → slice_get xs k ≡ Some x → (y : X) × (slice_get xs k ≡ Some y) × P y → P x
+there {X = X} P xs k x at found = subst P (same found.0 x (sym found.1 ∙ at)) found.2
+  where
+    same : (a b : X) → Some a ≡ Some b → a ≡ b
+    same a b e = cc

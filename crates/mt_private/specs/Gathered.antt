@@ -1,10 +1,10 @@
 -- What a gathering makes (own).
 use Rattle.std.specs.Prelude.{◌≡◌, ℕ, ◌≤◌, false, List, [], ◌∷◌, drop, length, slice_get, vec_capacity, None, Some}
 use Rattle.atomic_table.specs.Seated.{TableId}
+use Rattle.mt_bus.specs.declared.system_parts.SystemParts.{SystemParts}
 use Rattle.mt_machine.specs.Memory.{Memory}
 use Rattle.mt_machine.specs.System.{Processor, System}
 use Rattle.mt_rendezvous.specs.declared.view.Start.{Start}
-use Rattle.mt_private.specs.declared.gather.Room.{Room}
 use Rattle.mt_private.specs.declared.visiting.Guest.{Guest}
 use Rattle.mt_private.specs.Own.{own_memory, own_system, pages_of}
 use Rattle.mt_private.specs.Residents.{pages_at, pages_left, system_of}
@@ -33,16 +33,16 @@ abbrev pub AreGathered : TableId → Start → List Guest → Type 0
 AreGathered table t guests = (k : ℕ) (g : Guest) → slice_get guests k ≡ Some g → IsGathered table t k g.pass.seat.table_id g.pass.seat.me g.pass.number g.own
 
 -- room for one processor, with the words of the pages that this one names
-abbrev pub IsRoom : Processor → Memory → Room → Type 0
+abbrev pub IsRoom : Processor → Memory → SystemParts → Type 0
 IsRoom p m r = (r.ram ≡ own_memory (pages_of p) m) × (r.cpus.items ≡ []) × (1 ≤ vec_capacity r.cpus) × (r.tables.items ≡ []) × (1 ≤ vec_capacity r.tables)
 
 -- one for each
-pub record AreRooms (ps : List Processor) (m : Memory) (rooms : List Room) : Type 0 where
+pub record AreRooms (ps : List Processor) (m : Memory) (rooms : List SystemParts) : Type 0 where
   pub count : length rooms ≡ length ps
-  pub each : (k : ℕ) (p : Processor) (r : Room) → slice_get ps k ≡ Some p → slice_get rooms k ≡ Some r → IsRoom p m r
+  pub each : (k : ℕ) (p : Processor) (r : SystemParts) → slice_get ps k ≡ Some p → slice_get rooms k ≡ Some r → IsRoom p m r
 
 -- what the host keeps besides: the emptied lists of the gathered system with their room, and the words of the pages that no processor named
-pub record IsRest (t : Start) (rest : Room) : Type 0 where
+pub record IsRest (t : Start) (rest : SystemParts) : Type 0 where
   pub no_processors : rest.cpus.items ≡ []
   pub no_tables : rest.tables.items ≡ []
   pub processors_fit : length t.cpus ≤ vec_capacity rest.cpus

@@ -1,31 +1,35 @@
 -- What holds in a yard: relations on a table and what it was gathered from, applied to the yard's own, and to seats, passes, guests and visitors.
-use Rattle.std.specs.Prelude.{◌≡◌, ℕ, Bool, true, List, [], ◌∷◌}
+use Rattle.std.specs.Prelude.{◌≡◌, ◌⊎◌, ℕ, ◌≤◌, Bool, true, false, List, [], length, slice_get, vec_capacity, None, Some}
 use Rattle.atomic_table.specs.declared.shared.Seat.{Seat}
 use Rattle.mt_regs.specs.RegisterFile.{RegisterFile}
 use Rattle.mt_machine.specs.declared.go.Go.{Go}
-use Rattle.mt_machine.specs.declared.go.Go.TheVariants.{Given}
+use Rattle.mt_machine.specs.declared.go.Go.TheVariants.{Cancelled, Given, Pending}
 use Rattle.mt_machine.specs.declared.op.Op.{Op}
+use Rattle.mt_machine.specs.declared.phase.Phase.{Phase}
+use Rattle.mt_machine.specs.declared.phase.Phase.TheVariants.{Arrived, Arrived2, Passed, Running, Taken}
 use Rattle.mt_machine.specs.System.{System}
-use Rattle.mt_machine.specs.Machine.{Calls, IsEnabled, Machine}
-use Rattle.mt_machine.specs.Start.{IsQuiet}
-use Rattle.mt_machine.specs.Update.{updated}
+use Rattle.mt_machine.specs.Machine.{Machine, is_changing}
 use Rattle.mt_rendezvous.specs.declared.view.Start.{Start}
 use Rattle.mt_rendezvous.specs.Calls.{IsRoot, Leads}
 use Rattle.mt_rendezvous.specs.Station.{start_of}
+use Rattle.mt_rendezvous.specs.Update.{decided}
 use Rattle.mt_private.specs.declared.host.Host.{Host}
 use Rattle.mt_private.specs.declared.host.Yard.{Yard}
 use Rattle.mt_private.specs.declared.job.Job.{Job}
 use Rattle.mt_private.specs.declared.job.Told.{Told}
+use Rattle.mt_private.specs.declared.session.Queue.{Queue}
+use Rattle.mt_private.specs.declared.session.Session.{Session}
+use Rattle.mt_private.specs.declared.view.Resident.{Resident}
 use Rattle.mt_private.specs.declared.view.YardView.{YardView}
 use Rattle.mt_private.specs.declared.visiting.Guest.{Guest}
 use Rattle.mt_private.specs.declared.visiting.Visited.{Visited}
 use Rattle.mt_private.specs.declared.visiting.YardPass.{YardPass}
 use Rattle.mt_private.specs.declared.visitor.Visitor.{Visitor}
-use Rattle.mt_private.specs.Gathered.{AreGathered, IsGathered}
-use Rattle.mt_private.specs.OneByOne.{at_rest}
-use Rattle.mt_private.specs.Visitors.{AreWaiting, HasCome, IsNew, OneLess, Returned}
-use Rattle.mt_private.specs.YardCalls.{Lodges, VisitEnds, Visits}
-use Rattle.mt_private.specs.YardPlays.{as_sat, has_added}
+use Rattle.mt_private.specs.Gathered.{AreGathered, IsGathered, IsRest}
+use Rattle.mt_private.specs.Left.{AreBack, Leaves}
+use Rattle.mt_private.specs.Visitors.{AreWaiting, HasCome, IsFresh, IsNew, Returned}
+use Rattle.mt_private.specs.YardCalls.{AreIn, IsDrained, IsLeft, Keeps, Lodges, VisitEnds, Visits, done_in}
+use Rattle.mt_private.specs.YardPlays.{Made, as_sat, has_added}
 
 -- from what it was gathered
 abbrev pub start_at : Yard → Start
@@ -34,41 +38,86 @@ start_at yard = start_of yard.table.shared.key
 abbrev pub goal_at : Yard → RegisterFile
 goal_at yard = yard.table.shared.key.goal.value
 
--- ---- the host's seat
+-- ---- the host
 
+-- a seat is the root's of this yard, and has said this
 abbrev pub LeadsIn : Yard → Seat Op YardView → Go → Type 0
 LeadsIn yard seat go = Leads yard.table.shared.table_id (start_at yard) seat.table_id (as_sat seat.me) go
 
-abbrev pub IsRootIn : Yard → Seat Op YardView → Type 0
-IsRootIn yard seat = IsRoot yard.table.shared.table_id seat.table_id (as_sat seat.me)
+-- the host is of this yard, and has said this
+abbrev pub HostsIn : Yard → Host → Go → Type 0
+HostsIn yard host go = LeadsIn yard host.seat go
+
+-- the host is of this yard, whatever it has said
+abbrev pub IsHostOf : Yard → Host → Type 0
+IsHostOf yard host = IsRoot yard.table.shared.table_id host.seat.table_id (as_sat host.seat.me)
+
+abbrev pub host_view : Host → YardView
+host_view host = host.seat.me.0
+
+-- what it has said: nothing yet, the go or the cancel
+abbrev pub said_by : Host → Go
+said_by host = (host_view host).go
+
+-- the residents that it holds
+abbrev pub held_by : Host → List Resident
+held_by host = (host_view host).held
+
+abbrev pub HasCancelledIn : Yard → Host → Type 0
+HasCancelledIn yard host = IsHostOf yard host × (said_by host ≡ Cancelled)
+
+-- it has given the go, or cancelled
+abbrev pub HasDecided : Host → Type 0
+HasDecided host = (given : Bool) × (said_by host ≡ decided given)
+
+-- its step that adds this to the first count
+abbrev pub AddsToFirst : ℕ → Host → Host → Type 0
+AddsToFirst n host later = Made 0 n host.seat.me later.seat.me
+
+-- it holds no resident, and no guest has come back
+abbrev pub IsFreshHost : Yard → Host → Type 0
+IsFreshHost yard host = IsFresh (start_at yard) (host_view host) host.owns.items
+
+-- it holds what it held
+abbrev pub HoldsAsBefore : Host → Host → Type 0
+HoldsAsBefore old new = (held_by new ≡ held_by old) × (new.owns ≡ old.owns) × (new.rest ≡ old.rest)
+
+-- each own system that came back is of a resident that it holds
+abbrev pub KeepsOwns : Host → Type 0
+KeepsOwns host = Keeps (host_view host) host.owns.items
+
+-- every guest has come back
+abbrev pub AllBackIn : Yard → Host → Type 0
+AllBackIn yard host = AreBack yard.count (host_view host) host.owns.items
+
+-- the yard ends with this system
+abbrev pub LeavesIn : Yard → Host → System → Type 0
+LeavesIn yard host s = Leaves (start_at yard) (host_view host) s
 
 -- ---- passes and guests
+
+abbrev pub pass_view : YardPass → YardView
+pass_view pass = pass.seat.me.0
 
 -- the pass's seat lodges its resident, which has this own system
 abbrev pub LodgesIn : Yard → YardPass → System → Bool → Bool → Type 0
 LodgesIn yard pass own added again = Lodges yard.table.shared.table_id (start_at yard) pass.seat.table_id pass.seat.me pass.number own added again
 
--- where the pass lodged one with that own system, it lodges one with this, whatever it has added
-abbrev pub KeepsLodging : Yard → YardPass → System → YardPass → System → Type 0
-KeepsLodging yard pass own later new = (added again : Bool) → LodgesIn yard pass own added again → LodgesIn yard later new added again
-
 -- the resident's own machine takes part in the update, from a first system
 abbrev pub VisitsIn : Yard → YardPass → Machine → Bool → Bool → Go → System → Type 0
-VisitsIn yard pass core added again go = Visits yard.table.shared.table_id (start_at yard) pass.seat.table_id pass.seat.me pass.number core added again go
+VisitsIn yard pass core added again go first = Visits yard.table.shared.table_id (start_at yard) pass.seat.table_id pass.seat.me pass.number core added again go first
 
 -- the pass's processor has added to the first count
 abbrev pub HasAdded : YardPass → Type 0
-HasAdded pass = has_added pass.seat.me.0.held ≡ true
+HasAdded pass = has_added (pass_view pass).held ≡ true
 
--- from whatever first system it took part before, it does after
-abbrev pub KeepsVisit : (System → Type 0) → (System → Type 0) → Type 0
-KeepsVisit before after = (first : System) → before first → after first
+-- the accesses that it has done
+abbrev pub done_of : YardPass → List Op
+done_of pass = done_in pass.seat.me
 
--- from whatever first system it took part, where the goal could be called there the machine is now that of the whole update
-abbrev pub IsWholeUpdate : Yard → YardPass → Machine → Machine → Type 0
-IsWholeUpdate yard pass core new =
-    (first : System) → VisitsIn yard pass core true true Given first → IsQuiet (at_rest first) → IsEnabled (at_rest first) (Calls (goal_at yard))
-    → new ≡ updated first (0 ∷ []) (goal_at yard)
+-- the guest is of this yard, whatever its pass has added
+abbrev pub IsGuestOf : Yard → Guest → Type 0
+IsGuestOf yard guest = (added : Bool) × (again : Bool) × LodgesIn yard guest.pass guest.own added again
 
 -- what comes of a guest with that pass and own system
 abbrev pub VisitEndsIn : Visited → Yard → RegisterFile → Job → YardPass → System → YardPass → System → Told → Type 0
@@ -81,19 +130,91 @@ IsGatheredIn yard k guest = IsGathered yard.table.shared.table_id (start_at yard
 abbrev pub AreGatheredIn : Yard → List Guest → Type 0
 AreGatheredIn yard guests = AreGathered yard.table.shared.table_id (start_at yard) guests
 
--- ---- visitors
+-- what is gathered from this start: the yard, its host, which has said nothing, and a guest for each processor
+pub record IsGatheredFrom (t : Start) (yard : Yard) (host : Host) (guests : List Guest) : Type 0 where
+  pub key : start_at yard ≡ t
+  pub hosts : HostsIn yard host Pending
+  pub fresh : IsFreshHost yard host
+  pub rest : IsRest t host.rest
+  pub count : length guests ≡ length t.cpus
+  pub guests_are : AreGatheredIn yard guests
 
-abbrev pub IsNewIn : Yard → Job → ℕ → Visitor → Type 0
-IsNewIn yard job k visitor = IsNew yard.table.shared.table_id (start_at yard) job k visitor
+-- ---- the states of a visitor, which its pass and its own machine are in
 
-abbrev pub HasComeIn : Yard → Job → ℕ → Visitor → Type 0
-HasComeIn yard job k visitor = HasCome yard.table.shared.table_id (start_at yard) job k visitor
+-- it hasn't taken: its processor runs, and its pass has added to no count
+pub record HasNotTaken (yard : Yard) (pass : YardPass) (core : Machine) : Type 0 where
+  pub lodges : LodgesIn yard pass core.system false false
+  pub runs : AreIn Running core.system
+  pub idle : core.order ≡ None
 
-abbrev pub AreWaitingIn : Yard → List Job → List Guest → List Told → Type 0
-AreWaitingIn yard jobs waiting told = AreWaiting yard.table.shared.table_id (start_at yard) jobs waiting told
+-- the five that follow are of an update that began from a first system, at which the goal could be called
 
-abbrev pub OneLessIn : Yard → List Job → List Guest → List Guest → List Told → Type 0
-OneLessIn yard jobs waiting less told = OneLess yard.table.shared.table_id (start_at yard) jobs waiting less told
+-- it has taken: its buffers are empty, and nothing else has changed
+pub record IsTaken (yard : Yard) (pass : YardPass) (core : Machine) (first : System) : Type 0 where
+  pub visits : VisitsIn yard pass core false false Pending first
+  pub phase : AreIn Taken core.system
+  pub drained : IsDrained first core.system
 
-abbrev pub ReturnedIn : Yard → List Job → Host → List Told → Type 0
-ReturnedIn yard jobs host told = Returned yard.table.shared.table_id (start_at yard) jobs host.seat.table_id host.seat.me host.owns.items told
+-- its pass has added to the first count, which is the event Arrive unless the count held the cancel
+pub record HasArrived (yard : Yard) (pass : YardPass) (core : Machine) (first : System) : Type 0 where
+  pub visits : VisitsIn yard pass core true false Pending first
+  pub phase : AreIn Taken core.system ⊎ AreIn Arrived core.system
+  pub drained : IsDrained first core.system
+
+-- it has passed the first barrier
+pub record HasPassed (yard : Yard) (pass : YardPass) (core : Machine) (first : System) : Type 0 where
+  pub visits : VisitsIn yard pass core true false Given first
+  pub phase : AreIn Passed core.system
+
+-- it is between the barriers
+pub record IsBetween (yard : Yard) (pass : YardPass) (core : Machine) (first : System) : Type 0 where
+  pub visits : VisitsIn yard pass core true false Given first
+  pub phase : (ph : Phase) × AreIn ph core.system × (is_changing ph ≡ true)
+
+-- its pass has added to the second count
+pub record HasArrivedAgain (yard : Yard) (pass : YardPass) (core : Machine) (first : System) : Type 0 where
+  pub visits : VisitsIn yard pass core true true Given first
+  pub phase : AreIn Arrived2 core.system
+
+-- it has left the second barrier: its processor runs, and a load of the second count showed all processors
+pub record IsReleased (yard : Yard) (pass : YardPass) (core : Machine) : Type 0 where
+  pub lodges : LodgesIn yard pass core.system true true
+  pub runs : AreIn Running core.system
+  pub shown : (pass_view pass).shown ≡ Some yard.count
+
+-- it has left an update that was cancelled, which began from a first system: a load of the first count showed the cancel
+pub record HasLeft (yard : Yard) (pass : YardPass) (core : Machine) (first : System) : Type 0 where
+  pub lodges : (added : Bool) × LodgesIn yard pass core.system added false
+  pub cancel : (pass_view pass).cancel ≡ true
+  pub left : IsLeft first core.system
+
+-- it takes no part in an update, so it may access its pages
+abbrev pub IsOutside : Yard → YardPass → Machine → Type 0
+IsOutside yard pass core = HasNotTaken yard pass core ⊎ IsReleased yard pass core
+
+-- ---- visitors of a session
+
+-- it has this number and the job at that place, and has not begun
+pub record IsNewIn (session : Session) (k : ℕ) (visitor : Visitor) : Type 0 where
+  pub job : Job
+  pub at : slice_get session.jobs.items k ≡ Some job
+  pub new : IsNew session.yard.table.shared.table_id (start_at session.yard) job k visitor
+
+-- it has this number and the job at that place, and its visit has ended
+pub record HasComeIn (session : Session) (k : ℕ) (visitor : Visitor) : Type 0 where
+  pub job : Job
+  pub at : slice_get session.jobs.items k ≡ Some job
+  pub come : HasCome session.yard.table.shared.table_id (start_at session.yard) job k visitor
+
+-- none of the guests in the queue has begun, and each has a place for its answers
+abbrev pub AreWaitingIn : Session → Queue → Type 0
+AreWaitingIn session queue = AreWaiting session.yard.table.shared.table_id (start_at session.yard) session.jobs.items queue.waiting.items queue.told.items
+
+-- the answers of all guests in the queue fit the list that has their places now
+abbrev pub HasRoom : Queue → Type 0
+HasRoom queue = length queue.waiting.items ≤ vec_capacity queue.told
+
+-- the first visitors have come back, as many as there are answers
+abbrev pub ReturnedIn : Session → Host → List Told → Type 0
+ReturnedIn session host told =
+    Returned session.yard.table.shared.table_id (start_at session.yard) session.jobs.items host.seat.table_id host.seat.me host.owns.items told

@@ -1,5 +1,5 @@
 -- Jobs of processors and one update, one after the other (own).
-use Rattle.std.specs.Prelude.{ℕ, ◌+◌, List, [], ◌∷◌, map, None}
+use Rattle.std.specs.Prelude.{◌≡◌, ℕ, ◌+◌, List, [], ◌∷◌, map, None}
 use Rattle.mt_regs.specs.RegisterFile.{RegisterFile}
 use Rattle.mt_machine.specs.declared.op.Op.{Op}
 use Rattle.mt_machine.specs.declared.done.Done.{Done}
@@ -10,7 +10,8 @@ use Rattle.mt_machine.specs.Update.{updated}
 use Rattle.mt_core.specs.Rounds.{in_order}
 use Rattle.mt_private.specs.declared.job.Job.{Job}
 use Rattle.mt_private.specs.declared.job.Part.TheVariants.{Before, After}
-use Rattle.mt_private.specs.Jobs.{ops_in}
+use Rattle.mt_private.specs.declared.job.Told.{Told}
+use Rattle.mt_private.specs.Jobs.{answers_in, ops_in}
 
 -- answers, and the system after them
 pub record Ran : Type 0 where
@@ -56,3 +57,9 @@ one_by_one s goal before after =
 -- the same of jobs
 abbrev pub jobs_one_by_one : System → RegisterFile → List Job → OneByOne
 jobs_one_by_one s goal jobs = one_by_one s goal (map (ops_in Before) jobs) (map (ops_in After) jobs)
+
+-- the machine and the answers are those
+pub record AreOneByOne (s : System) (goal : RegisterFile) (jobs : List Job) (m : Machine) (told : List Told) : Type 0 where
+  pub left : m ≡ (jobs_one_by_one s goal jobs).left
+  pub before : map (answers_in Before) told ≡ (jobs_one_by_one s goal jobs).before
+  pub after : map (answers_in After) told ≡ (jobs_one_by_one s goal jobs).after

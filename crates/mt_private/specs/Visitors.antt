@@ -1,12 +1,15 @@
 -- Visitors of a yard on threads (own).
-use Rattle.std.specs.Prelude.{◌≡◌, ℕ, ◌+◌, ◌≤◌, true, List, [], ◌∷◌, length, map, replicate, slice_get, Option, None, Some}
+use Rattle.std.specs.Prelude.{◌≡◌, ℕ, ◌<◌, ◌≤◌, true, List, [], ◌∷◌, length, map, replicate, slice_get, Option, None, Some}
 use Rattle.std.specs.List.{All}
 use mathlib.Core.Option.{some}
 use lib.ListN.{get_elem?}
 use Rattle.atomic_table.specs.Seated.{TableId}
 use Rattle.mt_machine.specs.declared.go.Go.TheVariants.{Given}
 use Rattle.mt_machine.specs.declared.phase.Phase.TheVariants.{Running}
+use Rattle.mt_regs.specs.RegisterFile.{RegisterFile}
 use Rattle.mt_machine.specs.System.{System}
+use Rattle.mt_machine.specs.Machine.{Calls, IsEnabled, Machine}
+use Rattle.mt_machine.specs.Start.{HasEraRoom, IsQuiet}
 use Rattle.mt_rendezvous.specs.declared.view.Start.{Start}
 use Rattle.mt_rendezvous.specs.Calls.{IsRoot}
 use Rattle.mt_private.specs.declared.job.Job.{Job}
@@ -60,10 +63,6 @@ pub record AreWaiting (table : TableId) (t : Start) (jobs : List Job) (waiting :
   pub fits : All FitsJob jobs
   pub has_room : (part : Part) → AreOpen part jobs told
 
--- one fewer are left of them
-abbrev pub OneLess : TableId → Start → List Job → List Guest → List Guest → List Told → Type 0
-OneLess table t jobs waiting less told = (length waiting ≡ length less + 1) × AreWaiting table t jobs less told
-
 -- the host holds no resident and keeps nothing yet
 abbrev pub IsFresh : Start → YardView → List (Option System) → Type 0
 IsFresh t v owns = (v.held ≡ []) × (owns ≡ replicate (length t.cpus) None)
@@ -87,6 +86,18 @@ pub record Returned (table : TableId) (t : Start) (jobs : List Job) (its : Table
   pub size : length owns ≡ length t.cpus
   pub keeps : Keeps me.0 owns
   pub each : (k : ℕ) (job : Job) (r : Told) → slice_get jobs k ≡ Some job → slice_get told k ≡ Some r → CameBack table t job k me.0 owns r
+
+-- the whole update can be done in one piece, and then the accesses after it, for whose answers there are places
+pub record CanGoOn (m : Machine) (goal : RegisterFile) (jobs : List Job) (told : List Told) : Type 0 where
+  pub quiet : IsQuiet m
+  pub callable : IsEnabled m (Calls goal)
+  pub some : 0 < length m.system.processors
+  pub room : HasEraRoom m
+  pub few : length jobs ≤ 16
+  pub processors : length jobs ≡ length m.system.processors
+  pub one_each : length told ≡ length jobs
+  pub addresses : All FitsJob jobs
+  pub has_places : AreOpen After jobs told
 
 -- ---- law
 

@@ -10,7 +10,8 @@ use Rattle.mt_machine.specs.declared.go.Go.{Go}
 use Rattle.mt_machine.specs.declared.go.Go.TheVariants.{Given}
 use Rattle.mt_machine.specs.Bus.{drain}
 use Rattle.mt_machine.specs.System.{Processor, System}
-use Rattle.mt_machine.specs.Machine.{Calls, Machine, common_era, next}
+use Rattle.mt_machine.specs.Machine.{Calls, IsEnabled, Machine, common_era, next}
+use Rattle.mt_machine.specs.Start.{IsQuiet}
 use Rattle.mt_machine.specs.Update.{updated}
 use Rattle.mt_regs.specs.RegisterFile.{RegisterFile}
 use Rattle.mt_core.specs.Rounds.{Rounds, with_go_given}
@@ -65,17 +66,19 @@ AreIn ph s = map (λ (p : Processor). p.phase) s.processors ≡ ph ∷ []
 abbrev pub in_phase : Phase → System → System
 in_phase ph s = record s { processors = map (λ (p : Processor). record p { phase = ph }) s.processors }
 
--- the resident's own machine takes part in the yard's update; and where its rounds end once the go is given, there end those from a call on the first system
+-- the resident's own machine takes part in the yard's update; the goal could be called on the first system; and where the machine's rounds end once the go is given, there end those from that call
 pub record Visits (table : TableId) (t : Start) (its : TableId) (me : YardSat) (number : ℕ) (core : Machine) (added again : Bool) (go : Go) (first : System) : Type 0 where
   pub lodges : Lodges table t its me number core.system added again
   pub order : core.order ≡ Some (order_of t go)
   pub era : common_era core.system.processors ≡ common_era t.cpus
   pub one : length first.processors ≡ 1
+  pub quiet : IsQuiet (at_rest first)
+  pub enabled : IsEnabled (at_rest first) (Calls t.goal)
   pub rounds : (n : Machine) → Rounds (under_way (order_of t Given) core.system) n → Rounds (with_go_given (next (at_rest first) (Calls t.goal))) n
 
 -- the first system once its buffers are emptied, in some phase
-abbrev pub HasTaken : System → System → Type 0
-HasTaken first own = (ph : Phase) × (own ≡ in_phase ph (drain 0 first))
+abbrev pub IsDrained : System → System → Type 0
+IsDrained first own = (ph : Phase) × (own ≡ in_phase ph (drain 0 first))
 
 -- a resident's own system after the whole update
 abbrev pub updated_own : RegisterFile → System → System

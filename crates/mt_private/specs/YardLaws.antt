@@ -24,7 +24,7 @@ use Rattle.mt_private.specs.declared.view.YardView.{YardView}
 use Rattle.mt_private.specs.OneByOne.{at_rest}
 use Rattle.mt_private.specs.Residents.{Decides, Follows, Opens, Yard, accessed_by, own_of, stepped_by, system_of, with_held, with_stored}
 use Rattle.mt_private.specs.YardPlays.{Tells, YardSat, word_after}
-use Rattle.mt_private.specs.YardRule.{MeetsYard, first_yard_view, its_machine, with_one, with_said, yard_both, yard_left, yard_right, yard_spent}
+use Rattle.mt_private.specs.YardRule.{MeetsYard, first_yard_view, its_machine, with_one, with_decision, yard_both, yard_left, yard_right, yard_spent}
 
 -- a yard, and its resident k, whose pass has added so
 pub record Has (t : Start) (all : List Resident) (go : Go) (first second : ℕ) (s : System) (k : ℕ) (y : Resident) (added again : Bool) : Type 0 where
@@ -155,11 +155,11 @@ MoveIsOneEvent =
     → IsOneEvent key s (record { words = slice_set s.words i n; homes = s.homes; views = slice_set s.views id (with_one v w shown cancel) }) m e
 
 -- a step of the root by which it says so
-abbrev pub SayingIsOneEvent : Type 0
-SayingIsOneEvent =
+abbrev pub DecisionIsOneEvent : Type 0
+DecisionIsOneEvent =
     (key : Key) (s : YardState) (m : MeetsYard key s) (id n : ℕ) (v : YardView) (go : Go) (e : MachineEvent) → get_elem? s.views id ≡ some v → v.root ≡ true
     → 0 < length s.words → slice_index (slice_set s.words 0 n) 1 ≡ slice_index s.words 1 → m.go ≡ Pending → Decides (start_of key) m.all go n (slice_index s.words 1) m.system e
-    → IsOneEvent key s (record { words = slice_set s.words 0 n; homes = s.homes; views = slice_set s.views id (with_said v go) }) m (Some e)
+    → IsOneEvent key s (record { words = slice_set s.words 0 n; homes = s.homes; views = slice_set s.views id (with_decision v go) }) m (Some e)
 
 -- ---- every step at once
 

@@ -17,13 +17,13 @@ use Rattle.mt_rendezvous.specs.Plays.{Sat, arrive, arrive_again, does, late, own
 use Rattle.mt_private.specs.declared.view.Resident.{Resident}
 use Rattle.mt_private.specs.declared.view.YardView.{YardView}
 use Rattle.mt_private.specs.Residents.{Decides, Follows, Opens, Yard, accessed_by, stepped_by, with_held, with_stored}
-use Rattle.mt_private.specs.YardRule.{as_view, with_one, with_said}
+use Rattle.mt_private.specs.YardRule.{as_view, with_one, with_decision}
 
 abbrev pub YardSat : Type 0
 YardSat = Me Op YardView
 
 -- the coordinator says so, and the first count becomes this: there are residents for whom it is this event
-pub record Said (t : Start) (count : ℕ) (e : MachineEvent) (go : Go) : Type 0 where
+pub record IsDecided (t : Start) (count : ℕ) (e : MachineEvent) (go : Go) : Type 0 where
   pub all : List Resident
   pub second : ℕ
   pub system : System
@@ -35,10 +35,10 @@ sum_word st found = (found + st.first) % 2 ^ 64
 
 -- the root's additions to the first count: Go and Cancel. Each is said once
 abbrev pub GivesYard : Step Op → YardSat → ℕ → YardSat → Type 0
-GivesYard st me found new = (new.1 ≡ me.1) × (new.0 ≡ with_said me.0 Given) × Said me.0.start (sum_word st found) Goes Given × (me.0.go ≡ Pending)
+GivesYard st me found new = (new.1 ≡ me.1) × (new.0 ≡ with_decision me.0 Given) × IsDecided me.0.start (sum_word st found) Goes Given × (me.0.go ≡ Pending)
 
 abbrev pub CancelsYard : Step Op → YardSat → ℕ → YardSat → Type 0
-CancelsYard st me found new = (new.1 ≡ me.1) × (new.0 ≡ with_said me.0 Cancelled) × Said me.0.start (sum_word st found) Cancels Cancelled × (me.0.go ≡ Pending) × (st.first ≡ 4294967296)
+CancelsYard st me found new = (new.1 ≡ me.1) × (new.0 ≡ with_decision me.0 Cancelled) × IsDecided me.0.start (sum_word st found) Cancels Cancelled × (me.0.go ≡ Pending) × (st.first ≡ 4294967296)
 
 -- what a seat has of one at a rendezvous, where none has slots
 abbrev pub as_sat : YardSat → Sat

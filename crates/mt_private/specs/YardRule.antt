@@ -28,8 +28,8 @@ abbrev pub with_one : YardView → Resident → Option ℕ → Bool → YardView
 with_one v w shown cancel = record v { held = w ∷ []; shown = shown; cancel = cancel }
 
 -- the root's, where it has said so
-abbrev pub with_said : YardView → Go → YardView
-with_said v go = record v { go = go }
+abbrev pub with_decision : YardView → Go → YardView
+with_decision v go = record v { go = go }
 
 -- processors from number k on, each with its own words, as they are gathered
 abbrev pub residents : Start → ℕ → List Processor → List Resident

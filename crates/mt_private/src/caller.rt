@@ -2,7 +2,6 @@
 use mt_ports::Gate;
 use mt_rendezvous::{Crew, Lent};
 use std::sync::Wait;
-use std::thread::Threads;
 use waits::Waiter;
 
 mod arrival;
@@ -14,17 +13,15 @@ pub(crate) use starting::{come_here, start};
 pub(crate) use visits::core_of;
 pub use visits::visit;
 
-/// The runtime and the gate of a call. Only `caller/waits.rt` takes the runtime out, to wait at the two barriers and for
-/// threads that end. Only this module uses the crew, to ask the gate and to tell it. So a function that has a caller, and no
-/// runtime, can make no other caller: it asks and tells this one's gate, and each loop of its own terminates.
+/// The runtime and the gate of a call. No field is public, and no call hands one out. Only `caller/waits.rt` reads the runtime:
+/// it waits at the two barriers, and for threads. Only this module and those below it use the crew, to ask the gate and to tell
+/// it. So a function without a runtime of its own, which has a caller, waits by the calls of `caller/waits.rt` alone. No type
+/// keeps it from making a second caller, over a runtime and a gate of its own making.
 #[derive(Drop)]
 pub struct Caller<R, G> {
     waiter: Waiter<R>,
     crew: Crew<G>,
 }
-
-// It starts and joins threads, and doesn't lend what waits.
-impl<R: Threads, G> Threads for Caller<R, G> {}
 
 impl<'a, R: Wait, G: Gate> Caller<&'a R, Lent<'a, G>> {
     /// The caller with this runtime and this gate.

@@ -11,7 +11,7 @@ ghost use Rattle.mt_private.specs.Alone.{named_by_none};
 ghost use Rattle.mt_private.specs.Own.{own_memory, own_system, pages_of};
 ghost use Rattle.mt_private.specs.Residents.{Opens, pages_at, system_of};
 ghost use Rattle.mt_private.specs.Gathered.{AreRooms, IsOwnOf, IsRest, IsRoom, OffersFrom};
-ghost use Rattle.mt_private.specs.InYard.{AreGatheredIn, IsGatheredIn, LeadsIn, start_at};
+ghost use Rattle.mt_private.specs.InYard.{AreGatheredIn, HostsIn, IsFreshHost, IsGatheredIn, LeadsIn, start_at};
 ghost use Rattle.mt_private.specs.Left.{word_beside, word_by_word};
 
 use crate::host::{Host, Yard};
@@ -63,16 +63,9 @@ fn own_ram(alloc: Global, cpu: &Cpu, ram: &Ram) -> Option<Ram>
     Some(own)
 }
 
-// What a system is made in: lists with room for its processors and their tables, its memory, and its holders.
-#[derive(Drop)]
-pub struct Room {
-    pub cpus: Vec<Cpu>,
-    pub ram: Ram,
-    pub tables: Vec<KindTable>,
-    pub holders: Holders,
-}
-
-fn room_for(alloc: Global, cpu: &Cpu, ram: &Ram) -> Option<Room>
+// What a guest's own system is made in: empty lists with room for one processor and its table, the words of the pages that
+// the processor names, and no masks.
+fn room_for(alloc: Global, cpu: &Cpu, ram: &Ram) -> Option<SystemParts>
     ensures { IfSome result (λ r. IsRoom cpu.now ram.now r) }
 {
     let Ok(cpus) = Vec::with_capacity(alloc, 1) else {
@@ -82,7 +75,7 @@ fn room_for(alloc: Global, cpu: &Cpu, ram: &Ram) -> Option<Room>
         return None;
     };
     let ram = own_ram(alloc, cpu, ram)?;
-    Some(Room {
+    Some(SystemParts {
         cpus,
         ram,
         tables,
@@ -91,7 +84,7 @@ fn room_for(alloc: Global, cpu: &Cpu, ram: &Ram) -> Option<Room>
 }
 
 // Room for each guest.
-fn rooms_for(alloc: Global, cpus: &[Cpu], ram: &Ram) -> Option<Vec<Room>>
+fn rooms_for(alloc: Global, cpus: &[Cpu], ram: &Ram) -> Option<Vec<SystemParts>>
     ensures { IfSome result (λ rooms. AreRooms cpus.now ram.now rooms.items) }
 {
     let Ok(mut rooms) = Vec::with_capacity(alloc, cpus.len()) else {
@@ -127,7 +120,7 @@ pub(crate) fn put_words(joint: Joint, own: &Ram, ram: &mut Ram)
 }
 
 // Leaves the words of the pages that no processor names, and puts 0 in place of the others.
-fn keep_left(cpus: &[Cpu], rooms: &[Room], ram: &mut Ram)
+fn keep_left(cpus: &[Cpu], rooms: &[SystemParts], ram: &mut Ram)
     requires memory { IsMemory ram.old }
     requires rooms { AreRooms cpus.now ram.old rooms.now }
     ensures { ram.new ≡ own_memory (named_by_none cpus.now) ram.old }
@@ -152,27 +145,16 @@ fn places_for(alloc: Global, count: usize) -> Option<Vec<Option<System>>>
 }
 
 // The guest's own system.
-fn settle(cpu: Cpu, table: KindTable, room: Room) -> System
+fn settle(cpu: Cpu, table: KindTable, mut room: SystemParts) -> System
     requires sound { IsSound (record { processors = cpu ∷ []; memory = room.ram }) }
     requires tables { AreTablesOf (cpu ∷ []) (table ∷ []) }
     requires room { (room.cpus.items ≡ []) × (1 ≤ vec_capacity room.cpus) × (room.tables.items ≡ []) × (1 ≤ vec_capacity room.tables) }
     ensures { result ≡ record { processors = cpu ∷ []; memory = room.ram } }
 {
-    let Room {
-        mut cpus,
-        ram,
-        mut tables,
-        mut holders,
-    } = room;
-    cpus.push_reserved(cpu);
-    tables.push_reserved(table);
-    holders.forget();
-    System::from_parts(SystemParts {
-        cpus,
-        ram,
-        tables,
-        holders,
-    })
+    room.cpus.push_reserved(cpu);
+    room.tables.push_reserved(table);
+    room.holders.forget();
+    System::from_parts(room)
 }
 
 // The root's next resident goes to a new pass.
@@ -199,39 +181,40 @@ fn give_away(yard: &Yard, seat: &mut Seat<Op, YardView>, own: System, i: usize) 
 fn give_all(
     yard: &Yard,
     seat: &mut Seat<Op, YardView>,
-    cpus: &mut Vec<Cpu>,
-    tables: &mut Vec<KindTable>,
-    rooms: &mut Vec<Room>,
+    parts: &mut SystemParts,
+    rooms: &mut Vec<SystemParts>,
     guests: &mut Vec<Guest>,
 )
     requires hosts { LeadsIn yard.now seat.old Pending }
     requires offers { OffersFrom (start_at yard.now) 0 seat.old.me }
     requires sound { IsSound (system_of (start_at yard.now)) }
-    requires first { (k : ℕ) (p : Processor) → slice_get cpus.old.items k ≡ Some p → slice_get yard.now.table.shared.key.cpus.value.items k ≡ Some p }
-    requires tables { AreTablesOf cpus.old.items tables.old.items }
-    requires rooms { AreRooms cpus.old.items yard.now.table.shared.key.ram.value rooms.old.items }
-    requires room { length cpus.old.items ≤ vec_capacity guests.old }
+    requires first { (k : ℕ) (p : Processor) → slice_get parts.old.cpus.items k ≡ Some p → slice_get (start_at yard.now).cpus k ≡ Some p }
+    requires tables { AreTablesOf parts.old.cpus.items parts.old.tables.items }
+    requires rooms { AreRooms parts.old.cpus.items (start_at yard.now).ram rooms.old.items }
+    requires room { length parts.old.cpus.items ≤ vec_capacity guests.old }
     requires empty { guests.old.items ≡ [] }
     ensures hosts { LeadsIn yard.now seat.new Pending }
-    ensures offers { OffersFrom (start_at yard.now) (length cpus.old.items) seat.new.me }
-    ensures emptied { (cpus.new.items ≡ []) × (tables.new.items ≡ []) }
-    ensures places { (vec_capacity cpus.new ≡ vec_capacity cpus.old) × (vec_capacity tables.new ≡ vec_capacity tables.old) }
-    ensures count { length guests.new.items ≡ length cpus.old.items }
+    ensures offers { OffersFrom (start_at yard.now) (length parts.old.cpus.items) seat.new.me }
+    ensures emptied { (parts.new.cpus.items ≡ []) × (parts.new.tables.items ≡ []) }
+    ensures processors_fit { vec_capacity parts.new.cpus ≡ vec_capacity parts.old.cpus }
+    ensures tables_fit { vec_capacity parts.new.tables ≡ vec_capacity parts.old.tables }
+    ensures words { parts.new.ram ≡ parts.old.ram }
+    ensures count { length guests.new.items ≡ length parts.old.cpus.items }
     ensures room { vec_capacity guests.new ≡ vec_capacity guests.old }
     ensures each { AreGatheredIn yard.now guests.new.items }
 {
-    let Some(cpu) = cpus.pop() else {
+    let Some(cpu) = parts.cpus.pop() else {
         return;
     };
-    let Some(table) = tables.pop() else {
+    let Some(table) = parts.tables.pop() else {
         unreachable!()
     };
     let Some(room) = rooms.pop() else {
         unreachable!()
     };
-    let i = cpus.len();
+    let i = parts.cpus.len();
     let own = settle(cpu, table, room);
-    give_all(yard, seat, cpus, tables, rooms, guests);
+    give_all(yard, seat, parts, rooms, guests);
     let guest = give_away(yard, seat, own, i);
     guests.push_reserved(guest);
 }
@@ -279,8 +262,8 @@ impl Yard {
         goal: &RegFile,
     ) -> Result<(Yard, Host, Vec<Guest>), System>
         requires opens { Opens (gathered system.processors system.memory goal.now) }
-        ensures host { IfOk result (λ y. LeadsIn y.0 y.1.seat Pending) }
-        ensures empty { IfOk result (λ y. (y.1.seat.me.0.held ≡ []) × (y.1.owns.items ≡ replicate (length system.processors) None)) }
+        ensures host { IfOk result (λ y. HostsIn y.0 y.1 Pending) }
+        ensures fresh { IfOk result (λ y. IsFreshHost y.0 y.1) }
         ensures rest { IfOk result (λ y. IsRest (start_at y.0) y.1.rest) }
         ensures key { IfOk result (λ y. start_at y.0 ≡ gathered system.processors system.memory goal.now) }
         ensures count { IfOk result (λ y. length y.2.items ≡ length system.processors) }
@@ -297,31 +280,17 @@ impl Yard {
         let Some(mut rooms) = rooms_for(alloc, system.cpus(), system.ram()) else {
             return Err(system);
         };
-        let parts = system.into_parts();
+        let mut parts = system.into_parts();
         let Some((yard, mut seat)) = open(alloc, &parts.cpus, &parts.ram, goal) else {
             return Err(System::from_parts(parts));
         };
-        let SystemParts {
-            mut cpus,
-            mut ram,
-            mut tables,
-            holders,
-        } = parts;
-        keep_left(cpus.as_slice(), rooms.as_slice(), &mut ram);
-        give_all(
-            &yard,
-            &mut seat,
-            &mut cpus,
-            &mut tables,
-            &mut rooms,
-            &mut guests,
-        );
-        let rest = Room {
-            cpus,
-            ram,
-            tables,
-            holders,
+        keep_left(parts.cpus.as_slice(), rooms.as_slice(), &mut parts.ram);
+        give_all(&yard, &mut seat, &mut parts, &mut rooms, &mut guests);
+        let host = Host {
+            seat,
+            owns,
+            rest: parts,
         };
-        Ok((yard, Host { seat, owns, rest }, guests))
+        Ok((yard, host, guests))
     }
 }

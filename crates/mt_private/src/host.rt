@@ -1,15 +1,12 @@
 // The yard, and the seat of its host.
-ghost use Rattle.std.specs.Prelude.{◌≡◌, ◌+◌, ◌<◌, Bool, Some, length, slice_set};
+ghost use Rattle.std.specs.Prelude.{◌≡◌, ◌+◌, ◌<◌, Some, length, slice_set};
 ghost use Rattle.mt_machine.specs.declared.go.Go.TheVariants.{Cancelled, Given, Pending};
-ghost use Rattle.mt_private.specs.YardCalls.{Keeps};
-ghost use Rattle.mt_private.specs.YardPlays.{Made};
 ghost use Rattle.mt_private.specs.YardRule.{yard_both};
 
-use crate::gather::Room;
 use crate::view::{HandsOver, Lodging, YardTurn, YardView};
 use crate::visiting::{Guest, YardPass};
 use atomic_table::{Seat, Table};
-use mt_bus::System;
+use mt_bus::{System, SystemParts};
 use mt_machine::Op;
 use mt_rendezvous::{Coordinator, Key};
 use std::alloc::Global;
@@ -36,26 +33,24 @@ pub struct Host {
     /// By number, the own system of each guest that came back.
     pub owns: Vec<Option<System>>,
     /// The emptied lists of the gathered system, and the words of the pages that no processor named.
-    pub rest: Room,
+    pub rest: SystemParts,
 }
 
 impl Coordinator<Yard> for Host {
-    ghost use Rattle.mt_private.specs.InYard.{LeadsIn};
+    ghost use Rattle.mt_private.specs.InYard.{HostsIn};
 
-    ghost has_cancelled = { λ y h. LeadsIn y h.seat Cancelled };
+    ghost has_cancelled = { λ y h. HostsIn y h Cancelled };
 }
 
 impl Host {
-    ghost use Rattle.mt_private.specs.InYard.{IsRootIn, LeadsIn, LodgesIn};
+    ghost use Rattle.mt_private.specs.InYard.{AddsToFirst, HoldsAsBefore, HostsIn, IsGuestOf, IsHostOf, KeepsOwns, host_view, pass_view};
 
     /// Gives the go, once. Its addition to the first count is the event Go.
     pub fn go(&mut self, yard: &Yard)
-        requires { LeadsIn yard.now self.old.seat Pending }
-        ensures hosts { LeadsIn yard.now self.new.seat Given }
-        ensures held { self.new.seat.me.0.held ≡ self.old.seat.me.0.held }
-        ensures owns { self.new.owns ≡ self.old.owns }
-        ensures rest { self.new.rest ≡ self.old.rest }
-        ensures event { Made 0 1 self.old.seat.me self.new.seat.me }
+        requires { HostsIn yard.now self.old Pending }
+        ensures hosts { HostsIn yard.now self.new Given }
+        ensures same { HoldsAsBefore self.old self.new }
+        ensures event { AddsToFirst 1 self.old self.new }
     {
         yard.table
             .shared
@@ -64,12 +59,10 @@ impl Host {
 
     /// Cancels, once, in place of the go. Its addition to the first count is the event Cancel.
     pub fn cancel(&mut self, yard: &Yard)
-        requires { LeadsIn yard.now self.old.seat Pending }
-        ensures hosts { LeadsIn yard.now self.new.seat Cancelled }
-        ensures held { self.new.seat.me.0.held ≡ self.old.seat.me.0.held }
-        ensures owns { self.new.owns ≡ self.old.owns }
-        ensures rest { self.new.rest ≡ self.old.rest }
-        ensures event { Made 0 4294967296 self.old.seat.me self.new.seat.me }
+        requires { HostsIn yard.now self.old Pending }
+        ensures hosts { HostsIn yard.now self.new Cancelled }
+        ensures same { HoldsAsBefore self.old self.new }
+        ensures event { AddsToFirst 4294967296 self.old self.new }
     {
         yard.table
             .shared
@@ -78,14 +71,14 @@ impl Host {
 
     /// Takes a guest back: joins its pass, and keeps its processor and the words of its pages.
     pub fn take_back(&mut self, yard: &Yard, guest: Guest)
-        requires hosts { IsRootIn yard.now self.old.seat }
-        requires lodges { (added : Bool) × (again : Bool) × LodgesIn yard.now guest.pass guest.own added again }
+        requires hosts { IsHostOf yard.now self.old }
+        requires lodges { IsGuestOf yard.now guest }
         requires long { length self.old.owns.items ≡ yard.now.count }
-        ensures hosts { IsRootIn yard.now self.new.seat }
-        ensures view { self.new.seat.me.0 ≡ yard_both self.old.seat.me.0 guest.pass.seat.me.0 }
+        ensures hosts { IsHostOf yard.now self.new }
+        ensures view { host_view self.new ≡ yard_both (host_view self.old) (pass_view guest.pass) }
         ensures owns { self.new.owns.items ≡ slice_set self.old.owns.items guest.pass.number (Some guest.own) }
         ensures rest { self.new.rest ≡ self.old.rest }
-        ensures keeps { Keeps self.old.seat.me.0 self.old.owns.items → Keeps self.new.seat.me.0 self.new.owns.items }
+        ensures keeps { KeepsOwns self.old → KeepsOwns self.new }
     {
         let Guest { own, pass } = guest;
         let YardPass {

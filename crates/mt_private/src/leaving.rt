@@ -4,18 +4,17 @@ ghost use Rattle.std.specs.List.{fold};
 ghost use Rattle.mt_machine.specs.System.{IsSound};
 ghost use Rattle.mt_bus.specs.Tables.{AreTablesOf};
 ghost use Rattle.mt_private.specs.Gathered.{IsRest};
-ghost use Rattle.mt_private.specs.InYard.{IsRootIn, start_at};
-ghost use Rattle.mt_private.specs.Left.{AreAsGathered, AreBack, AreOwnsOf, AreParts, Leaves, over, processors_in, with_words_of, word_by_word};
+ghost use Rattle.mt_private.specs.InYard.{AllBackIn, IsHostOf, LeavesIn, start_at};
+ghost use Rattle.mt_private.specs.Left.{AreAsGathered, AreOwnsOf, AreParts, over, processors_in, with_words_of, word_by_word};
 ghost use Rattle.mt_private.specs.Residents.{system_of};
 
-use crate::gather::{Room, put_words};
+use crate::gather::put_words;
 use crate::host::{Host, Yard};
 use crate::joint::Joint;
 use mt_bus::{System, SystemParts};
-use mt_ram::Ram;
 
 // The one processor and its table go to the end of the lists, and its words to their places.
-fn bring(own: System, room: &mut Room)
+fn bring(own: System, room: &mut SystemParts)
     requires one { length own.processors ≡ 1 }
     requires words { length own.memory.words ≡ length room.old.ram.words }
     requires processors { vec_len room.old.cpus < vec_capacity room.old.cpus }
@@ -45,7 +44,7 @@ fn bring(own: System, room: &mut Room)
 }
 
 // All of these, by their numbers.
-fn bring_all(owns: &mut Vec<Option<System>>, room: &mut Room)
+fn bring_all(owns: &mut Vec<Option<System>>, room: &mut SystemParts)
     requires parts { AreParts room.old.ram owns.old.items }
     requires empty { (room.old.cpus.items ≡ []) × (room.old.tables.items ≡ []) }
     requires processors { length owns.old.items ≤ vec_capacity room.old.cpus }
@@ -64,34 +63,23 @@ fn bring_all(owns: &mut Vec<Option<System>>, room: &mut Room)
     bring(own, room);
 }
 
-fn assembled(rest: Room) -> System
+fn assembled(mut rest: SystemParts) -> System
     requires sound { IsSound (record { processors = rest.cpus.items; memory = rest.ram }) }
     requires tables { AreTablesOf rest.cpus.items rest.tables.items }
     ensures { result ≡ record { processors = rest.cpus.items; memory = rest.ram } }
 {
-    let Room {
-        cpus,
-        ram,
-        tables,
-        mut holders,
-    } = rest;
-    holders.forget();
-    System::from_parts(SystemParts {
-        cpus,
-        ram,
-        tables,
-        holders,
-    })
+    rest.holders.forget();
+    System::from_parts(rest)
 }
 
 /// Ends the yard, whose guests have all come back, and leaves the system that its words and views stand for. Its
 /// processors and the words of their pages are those of the guests' own systems; all other words are as they were
 /// gathered. It takes no memory.
 pub fn leave(yard: Yard, host: Host) -> System
-    requires hosts { IsRootIn yard host.seat }
-    requires back { AreBack yard.count host.seat.me.0 host.owns.items }
+    requires hosts { IsHostOf yard host }
+    requires back { AllBackIn yard host }
     requires rest { IsRest (start_at yard) host.rest }
-    ensures leaves { Leaves (start_at yard) host.seat.me.0 result }
+    ensures leaves { LeavesIn yard host result }
     ensures owns { AreOwnsOf (start_at yard) host.owns.items result }
     ensures unvisited { AreAsGathered (start_at yard) host.owns.items → result ≡ system_of (start_at yard) }
 {

@@ -10,6 +10,7 @@ mod joint;
 mod leaving;
 mod pages;
 mod runs;
+mod session;
 mod threads;
 mod view;
 mod visiting;

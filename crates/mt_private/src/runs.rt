@@ -1,20 +1,19 @@
 // Jobs of processors and one update, as they are done one after the other.
-ghost use Rattle.std.specs.Prelude.{◌≡◌, ℕ, ◌+◌, ◌++◌, ◌<◌, ◌≤◌, ◌↔◌, [], None, Some, IsSome, Err, OnErr, IfNone, IfOk, IfSome, length, replicate, map, slice_get, vec_len, vec_capacity};
+ghost use Rattle.std.specs.Prelude.{◌≡◌, ℕ, ◌+◌, ◌++◌, ◌<◌, ◌≤◌, ◌↔◌, [], None, Some, IsSome, Err, OnErr, IfNone, IfOk, IfSome, length, map, slice_get, vec_len, vec_capacity};
 ghost use Rattle.std.specs.List.{All};
 ghost use Rattle.mt_regs.specs.declared.fault.Fault.{Fault};
 ghost use Rattle.mt_regs.specs.Faults.{IsAccepted, IsFirstFault};
-ghost use Rattle.mt_machine.specs.declared.go.Go.TheVariants.{Pending};
 ghost use Rattle.mt_machine.specs.Machine.{Calls, FitsGoal, FitsOp, IsEnabled};
 ghost use Rattle.mt_machine.specs.Start.{HasEraRoom, IsQuiet};
 ghost use Rattle.mt_machine.specs.Update.{updated};
 ghost use Rattle.mt_core.specs.Rounds.{in_order};
 ghost use Rattle.mt_rendezvous.specs.Calls.{gathered};
-ghost use Rattle.mt_private.specs.Gathered.{IsRest};
-ghost use Rattle.mt_private.specs.InYard.{AreGatheredIn, LeadsIn, start_at};
+ghost use Rattle.mt_private.specs.InYard.{IsGatheredFrom};
 ghost use Rattle.mt_private.specs.Residents.{Opens};
 ghost use Rattle.mt_private.specs.Jobs.{AreOpen, FitsJob, IsOpen, answers_in, ops_in, other_part, room_in};
-ghost use Rattle.mt_private.specs.OneByOne.{at_rest, jobs_one_by_one, ran, ran_each};
+ghost use Rattle.mt_private.specs.OneByOne.{AreOneByOne, at_rest, jobs_one_by_one, ran, ran_each};
 ghost use Rattle.mt_private.specs.Pages.{IsLeastShared, IsPrivate};
+ghost use Rattle.mt_private.specs.Visitors.{CanGoOn};
 ghost use Rattle.mt_private.specs.declared.job.Part.{Part as JobPart};
 ghost use Rattle.mt_private.specs.declared.job.Part.TheVariants.{Before, After};
 
@@ -24,7 +23,8 @@ use crate::host::{Host, Yard};
 use crate::job::{Job, Part, Told};
 use crate::leaving::leave;
 use crate::pages::shared_page;
-use crate::threads::{Ended, meet};
+use crate::session::{Queue, Session};
+use crate::threads::{Ended, visit_on_threads};
 use crate::visiting::Guest;
 use mt_bus::System;
 use mt_core::{Core, a_core_arises};
@@ -95,8 +95,8 @@ fn do_parts(core: &mut Core, part: Part, jobs: &[Job], told: &mut [Told])
     }
 }
 
-// Room for the answers to all jobs.
-fn room_for(alloc: Global, jobs: &[Job]) -> Result<Vec<Told>, NoMemory>
+// A place for the answers of each job.
+fn answers_for(alloc: Global, jobs: &[Job]) -> Result<Vec<Told>, NoMemory>
     ensures count { IfOk result (λ told. length told.items ≡ length jobs.now) }
     ensures open { IfOk result (λ told. (part : JobPart) → AreOpen part jobs.now told.items) }
 {
@@ -125,12 +125,8 @@ fn gather_core(alloc: Global, core: &mut Core, goal: &RegFile) -> Option<(Yard, 
     requires none { core.old.order ≡ None }
     requires opens { Opens (gathered core.old.system.processors core.old.system.memory goal.now) }
     ensures kept { IfNone result (core.new ≡ core.old) }
-    ensures host { IfSome result (λ y. LeadsIn y.0 y.1.seat Pending) }
-    ensures empty { IfSome result (λ y. (y.1.seat.me.0.held ≡ []) × (y.1.owns.items ≡ replicate (length core.old.system.processors) None)) }
-    ensures rest { IfSome result (λ y. IsRest (start_at y.0) y.1.rest) }
-    ensures key { IfSome result (λ y. start_at y.0 ≡ gathered core.old.system.processors core.old.system.memory goal.now) }
-    ensures count { IfSome result (λ y. length y.2.items ≡ length core.old.system.processors) }
-    ensures guests { IfSome result (λ y. AreGatheredIn y.0 y.2.items) }
+    ensures gathered { let start = gathered core.old.system.processors core.old.system.memory goal.now in
+        IfSome result (λ y. IsGatheredFrom start y.0 y.1 y.2.items) }
 {
     let system = core.take_system(alloc);
     match Yard::gather(alloc, system, goal) {
@@ -156,59 +152,61 @@ fn update_alone(core: &mut Core, goal: &RegFile)
     core.round();
 }
 
-// What is left where no thread went on: the update, and the accesses after it. A refusal alone allows it.
-fn end_alone(refusal: Refusal, core: &mut Core, goal: &RegFile, jobs: &[Job], told: &mut Vec<Told>)
-    requires quiet { IsQuiet core.old }
-    requires callable { IsEnabled core.old (Calls goal.now) }
-    requires some { 0 < length core.old.system.processors }
-    requires room { HasEraRoom core.old }
-    requires few { length jobs.now ≤ 16 }
-    requires processors { length jobs.now ≡ length core.old.system.processors }
-    requires one_each { length told.old.items ≡ length jobs.now }
-    requires addresses { All FitsJob jobs.now }
-    requires open { AreOpen After jobs.now told.old.items }
-    ensures left { core.new ≡ at_rest (ran_each 0 (map (ops_in After) jobs.now) (updated core.old.system (in_order core.old) goal.now).system).after }
-    ensures after { map (answers_in After) told.new.items ≡ (ran_each 0 (map (ops_in After) jobs.now) (updated core.old.system (in_order core.old) goal.now).system).answers }
+// The update on this thread, and then the accesses after it. A refusal alone allows it.
+fn update_and_access(
+    refusal: Refusal,
+    core: &mut Core,
+    goal: &RegFile,
+    jobs: &Vec<Job>,
+    told: &mut Vec<Told>,
+)
+    requires { CanGoOn core.old goal.now jobs.now.items told.old.items }
+    ensures left { core.new ≡ at_rest (ran_each 0 (map (ops_in After) jobs.now.items) (updated core.old.system (in_order core.old) goal.now).system).after }
+    ensures after { map (answers_in After) told.new.items ≡ (ran_each 0 (map (ops_in After) jobs.now.items) (updated core.old.system (in_order core.old) goal.now).system).answers }
     ensures before { map (answers_in Before) told.new.items ≡ map (answers_in Before) told.old.items }
 {
     refusal.spend();
     update_alone(core, goal);
-    do_parts(core, Part::After, jobs, told.as_mut_slice());
+    do_parts(core, Part::After, jobs.as_slice(), told.as_mut_slice());
 }
 
-// The jobs and the update, on a thread for each processor, where there is memory for the yard.
+// The jobs and the update, on a thread for each processor, if there is memory for the yard.
 fn visit_all<R: Threads + Wait + Sync, G: Gate>(
     caller: &Caller<R, G>,
     alloc: Global,
     core: &mut Core,
-    goal: &RegFile,
-    jobs: &[Job],
+    goal: RegFile,
+    jobs: Vec<Job>,
     told: Vec<Told>,
 ) -> Option<Vec<Told>>
     requires none { core.old.order ≡ None }
-    requires opens { Opens (gathered core.old.system.processors core.old.system.memory goal.now) }
-    requires processors { length jobs.now ≡ length core.old.system.processors }
-    requires one_each { length told.items ≡ length jobs.now }
-    requires addresses { All FitsJob jobs.now }
-    requires open { (part : JobPart) → AreOpen part jobs.now told.items }
+    requires opens { Opens (gathered core.old.system.processors core.old.system.memory goal) }
+    requires processors { length jobs.items ≡ length core.old.system.processors }
+    requires one_each { length told.items ≡ length jobs.items }
+    requires addresses { All FitsJob jobs.items }
+    requires open { (part : JobPart) → AreOpen part jobs.items told.items }
     ensures kept { IfNone result (core.new ≡ core.old) }
-    ensures left { IfSome result (λ told. core.new ≡ (jobs_one_by_one core.old.system goal.now jobs.now).left) }
-    ensures before { IfSome result (λ told. map (answers_in Before) told.items ≡ (jobs_one_by_one core.old.system goal.now jobs.now).before) }
-    ensures after { IfSome result (λ told. map (answers_in After) told.items ≡ (jobs_one_by_one core.old.system goal.now jobs.now).after) }
+    ensures done { IfSome result (λ told. AreOneByOne core.old.system goal jobs.items core.new told.items) }
 {
-    let Some((yard, host, guests)) = gather_core(alloc, core, goal) else {
+    let Some((yard, host, guests)) = gather_core(alloc, core, &goal) else {
         return None;
+    };
+    let session = Session { yard, goal, jobs };
+    let queue = Queue {
+        waiting: guests,
+        told,
     };
     let Ended {
         outcome,
         host,
         mut told,
-    } = meet(caller, alloc, &yard, host, goal, jobs, guests, told);
+    } = visit_on_threads(caller, &session, host, queue);
+    let Session { yard, goal, jobs } = session;
     *core = rested(leave(yard, host));
     match outcome {
         Ok(()) => Some(told),
         Err(refusal) => {
-            end_alone(refusal, core, goal, jobs, &mut told);
+            update_and_access(refusal, core, &goal, &jobs, &mut told);
             Some(told)
         }
     }
@@ -249,12 +247,12 @@ pub fn run_private_with<R: Threads + Wait + Sync, G: Gate>(
     if let Some(page) = shared_page(core) {
         return Err(PrivateFault::Shared(page));
     }
-    let Ok(told) = room_for(alloc, jobs.as_slice()) else {
+    let Ok(told) = answers_for(alloc, jobs.as_slice()) else {
         return Err(PrivateFault::NoMemory);
     };
     a_core_arises(core); // a fact for the proof
     goal.is_register_file(); // a fact for the proof
-    let Some(told) = visit_all(caller, alloc, core, &goal, jobs.as_slice(), told) else {
+    let Some(told) = visit_all(caller, alloc, core, goal, jobs, told) else {
         return Err(PrivateFault::NoMemory);
     };
     Ok(told)

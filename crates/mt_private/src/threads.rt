@@ -1,38 +1,32 @@
 // The guests of a yard on threads: one for each, in a scope.
-ghost use Rattle.std.specs.Prelude.{◌≡◌, ℕ, ◌+◌, ◌<◌, ◌≤◌, [], length, slice_get, vec_capacity, vec_len};
-ghost use Rattle.std.specs.Prelude.{Some, IfSome, IfNone, is_ok};
+ghost use Rattle.std.specs.Prelude.{◌≡◌, ◌+◌, ◌<◌, [], length, vec_capacity, vec_len};
+ghost use Rattle.std.specs.Prelude.{IfSome, IfNone, is_ok};
 ghost use Rattle.mt_machine.specs.declared.go.Go.TheVariants.{Cancelled, Pending};
 ghost use Rattle.mt_rendezvous.specs.Update.{decided};
-ghost use Rattle.mt_private.specs.declared.job.Job.{Job as ItsJob};
-ghost use Rattle.mt_private.specs.InYard.{AreWaitingIn, HasComeIn, IsNewIn, IsRootIn, LeadsIn, OneLessIn, ReturnedIn, goal_at, start_at};
-ghost use Rattle.mt_private.specs.Visitors.{IsFresh};
+ghost use Rattle.mt_private.specs.InYard.{AreWaitingIn, HasComeIn, HasRoom, HostsIn, IsFreshHost, IsNewIn, ReturnedIn, said_by};
 
 use crate::caller::{Caller, come_here, core_of, start};
-use crate::host::{Host, Yard};
-use crate::job::{Job, Told};
+use crate::host::Host;
+use crate::job::Told;
+use crate::session::{Queue, Session};
 use crate::visiting::{Guest, Visited};
 use crate::visitor::Visitor;
 use mt_ports::Gate;
-use mt_regs::RegFile;
 use mt_rendezvous::Refusal;
-use std::alloc::Global;
 use std::sync::Wait;
 use std::thread::{Scope, Threads};
 
 // The visitor's guest comes back, and its answers go behind those of the ones before it.
-fn finish(yard: &Yard, jobs: &[Job], visitor: Visitor, host: &mut Host, told: &mut Vec<Told>)
-    requires returned { ReturnedIn yard.now jobs.now host.old told.old.items }
-    requires come { (job : ItsJob) → slice_get jobs.now (length told.old.items) ≡ Some job → HasComeIn yard.now job (length told.old.items) visitor }
-    requires below { length told.old.items < yard.now.count }
-    requires job { length told.old.items < length jobs.now }
+fn take_back(session: &Session, visitor: Visitor, host: &mut Host, told: &mut Vec<Told>)
+    requires returned { ReturnedIn session.now host.old told.old.items }
+    requires come { HasComeIn session.now (length told.old.items) visitor }
     requires room { vec_len told.old < vec_capacity told.old }
-    ensures returned { ReturnedIn yard.now jobs.now host.new told.new.items }
-    ensures go { host.new.seat.me.0.go ≡ host.old.seat.me.0.go }
+    ensures returned { ReturnedIn session.now host.new told.new.items }
+    ensures go { said_by host.new ≡ said_by host.old }
     ensures rest { host.new.rest ≡ host.old.rest }
     ensures count { length told.new.items ≡ length told.old.items + 1 }
     ensures capacity { vec_capacity told.new ≡ vec_capacity told.old }
 {
-    let _ = jobs.len(); // a fact for the proof
     let Visitor {
         core,
         pass,
@@ -40,27 +34,23 @@ fn finish(yard: &Yard, jobs: &[Job], visitor: Visitor, host: &mut Host, told: &m
         visited: _,
     } = visitor;
     let own = core.into_system();
-    host.take_back(yard, Guest { own, pass });
+    host.take_back(&session.yard, Guest { own, pass });
     told.push_reserved(answers);
 }
 
 // The last guest, with its place for answers.
-fn last(
-    yard: &Yard,
-    jobs: &[Job],
-    waiting: &mut Vec<Guest>,
-    told: &mut Vec<Told>,
-) -> Option<Visitor>
-    requires { AreWaitingIn yard.now jobs.now waiting.old.items told.old.items }
-    ensures none { IfNone result ((length waiting.old.items ≡ 0) × (told.new.items ≡ [])) }
-    ensures number { IfSome result (λ v. v.pass.number ≡ length waiting.new.items) }
-    ensures some { IfSome result (λ v. (job : ItsJob) → slice_get jobs.now (length waiting.new.items) ≡ Some job → IsNewIn yard.now job (length waiting.new.items) v) }
-    ensures rest { IfSome result (λ v. OneLessIn yard.now jobs.now waiting.old.items waiting.new.items told.new.items) }
-    ensures capacity { vec_capacity told.new ≡ vec_capacity told.old }
+fn last(session: &Session, queue: &mut Queue) -> Option<Visitor>
+    requires { AreWaitingIn session.now queue.old }
+    ensures none { IfNone result ((length queue.old.waiting.items ≡ 0) × (queue.new.told.items ≡ [])) }
+    ensures number { IfSome result (λ v. v.pass.number ≡ length queue.new.waiting.items) }
+    ensures some { IfSome result (λ v. IsNewIn session.now v.pass.number v) }
+    ensures fewer { IfSome result (λ v. length queue.old.waiting.items ≡ length queue.new.waiting.items + 1) }
+    ensures rest { IfSome result (λ v. AreWaitingIn session.now queue.new) }
+    ensures capacity { vec_capacity queue.new.told ≡ vec_capacity queue.old.told }
 {
-    let _ = (yard.count, jobs.len()); // a fact for the proof
-    let Guest { own, pass } = waiting.pop()?;
-    let Some(answers) = told.pop() else {
+    let _ = session.jobs.len(); // a fact for the proof
+    let Guest { own, pass } = queue.waiting.pop()?;
+    let Some(answers) = queue.told.pop() else {
         unreachable!()
     };
     Some(Visitor {
@@ -71,143 +61,106 @@ fn last(
     })
 }
 
-fn job_at(jobs: &[Job], k: usize) -> &Job
-    requires { k < length jobs.now }
-    ensures { slice_get jobs.now k ≡ Some result.now }
-{
-    &jobs[k]
-}
-
 // With the cancel given, all of these do their accesses before the update on this thread, and leave. A refusal alone allows
 // it.
 fn leave_all<R: Wait, G: Gate>(
     caller: &Caller<R, G>,
     refusal: &Refusal,
-    yard: &Yard,
+    session: &Session,
     host: &mut Host,
-    goal: &RegFile,
-    jobs: &[Job],
-    waiting: &mut Vec<Guest>,
-    told: &mut Vec<Told>,
+    queue: &mut Queue,
 )
-    requires hosts { IsRootIn yard.now host.old.seat }
-    requires cancelled { host.old.seat.me.0.go ≡ Cancelled }
-    requires fresh { IsFresh (start_at yard.now) host.old.seat.me.0 host.old.owns.items }
-    requires waiting { AreWaitingIn yard.now jobs.now waiting.old.items told.old.items }
-    requires few { length waiting.old.items ≤ yard.now.count }
-    requires room { length waiting.old.items ≤ vec_capacity told.old }
-    requires goal { goal.now ≡ goal_at yard.now }
-    ensures go { host.new.seat.me.0.go ≡ host.old.seat.me.0.go }
-    ensures returned { ReturnedIn yard.now jobs.now host.new told.new.items }
+    requires hosts { HostsIn session.now.yard host.old Cancelled }
+    requires fresh { IsFreshHost session.now.yard host.old }
+    requires waiting { AreWaitingIn session.now queue.old }
+    requires room { HasRoom queue.old }
+    ensures go { said_by host.new ≡ Cancelled }
+    ensures returned { ReturnedIn session.now host.new queue.new.told.items }
     ensures rest { host.new.rest ≡ host.old.rest }
-    ensures count { length told.new.items ≡ length waiting.old.items }
-    ensures capacity { vec_capacity told.new ≡ vec_capacity told.old }
+    ensures count { length queue.new.told.items ≡ length queue.old.waiting.items }
+    ensures capacity { vec_capacity queue.new.told ≡ vec_capacity queue.old.told }
 {
-    let Some(mut visitor) = last(yard, jobs, waiting, told) else {
+    let Some(mut visitor) = last(session, queue) else {
         return;
     };
-    let job = job_at(jobs, waiting.len());
-    leave_all(caller, refusal, yard, host, goal, jobs, waiting, told);
-    come_here(refusal, caller, yard, host, &mut visitor, goal, job);
-    finish(yard, jobs, visitor, host, told);
+    leave_all(caller, refusal, session, host, queue);
+    come_here(refusal, caller, session, host, &mut visitor);
+    take_back(session, visitor, host, &mut queue.told);
 }
 
-// Starts a thread for each of these, gives the go, and takes all back. Where one isn't started it cancels.
+// Starts a thread for each of these, gives the go, and takes all back. If one isn't started it cancels.
 fn run_all<'s, E, R: Threads + Wait + Sync, G: Gate>(
     caller: &'s Caller<R, G>,
-    alloc: Global,
     scope: &Scope<'s, E>,
-    yard: &'s Yard,
+    session: &'s Session,
     host: &mut Host,
-    goal: &'s RegFile,
-    jobs: &'s [Job],
-    waiting: &mut Vec<Guest>,
-    told: &mut Vec<Told>,
+    queue: &mut Queue,
 ) -> Result<(), Refusal>
-    requires hosts { LeadsIn yard.now host.old.seat Pending }
-    requires fresh { IsFresh (start_at yard.now) host.old.seat.me.0 host.old.owns.items }
-    requires waiting { AreWaitingIn yard.now jobs.now waiting.old.items told.old.items }
-    requires few { length waiting.old.items ≤ yard.now.count }
-    requires room { length waiting.old.items ≤ vec_capacity told.old }
-    requires goal { goal.now ≡ goal_at yard.now }
-    ensures go { host.new.seat.me.0.go ≡ decided (is_ok result) }
-    ensures returned { ReturnedIn yard.now jobs.now host.new told.new.items }
+    requires hosts { HostsIn session.now.yard host.old Pending }
+    requires fresh { IsFreshHost session.now.yard host.old }
+    requires waiting { AreWaitingIn session.now queue.old }
+    requires room { HasRoom queue.old }
+    ensures go { said_by host.new ≡ decided (is_ok result) }
+    ensures returned { ReturnedIn session.now host.new queue.new.told.items }
     ensures rest { host.new.rest ≡ host.old.rest }
-    ensures count { length told.new.items ≡ length waiting.old.items }
-    ensures capacity { vec_capacity told.new ≡ vec_capacity told.old }
+    ensures count { length queue.new.told.items ≡ length queue.old.waiting.items }
+    ensures capacity { vec_capacity queue.new.told ≡ vec_capacity queue.old.told }
 {
-    let Some(visitor) = last(yard, jobs, waiting, told) else {
-        host.go(yard);
+    let Some(visitor) = last(session, queue) else {
+        host.go(&session.yard);
         return Ok(());
     };
-    let job = job_at(jobs, waiting.len());
-    match start(caller, alloc, scope, yard, host, visitor, goal, job) {
+    match start(caller, scope, session, host, visitor) {
         Ok(child) => {
-            let outcome = run_all(caller, alloc, scope, yard, host, goal, jobs, waiting, told);
-            finish(yard, jobs, Box::into_inner(child.join(caller)), host, told);
+            let outcome = run_all(caller, scope, session, host, queue);
+            let visitor = caller.join(host, child);
+            take_back(session, visitor, host, &mut queue.told);
             outcome
         }
         Err((visitor, refusal)) => {
-            leave_all(caller, &refusal, yard, host, goal, jobs, waiting, told);
-            finish(yard, jobs, visitor, host, told);
+            leave_all(caller, &refusal, session, host, queue);
+            take_back(session, visitor, host, &mut queue.told);
             Err(refusal)
         }
     }
 }
 
-// Where the threads have ended: whether the go was given, or what was refused, the host, and the answers.
+// The state when the threads have ended: whether the go was given or what was refused, the host, and the answers.
 pub(crate) struct Ended {
     pub(crate) outcome: Result<(), Refusal>,
     pub(crate) host: Host,
     pub(crate) told: Vec<Told>,
 }
 
-// The scope of the threads.
-pub(crate) fn meet<R: Threads + Wait + Sync, G: Gate>(
+// All visits, in the scope of their threads.
+pub(crate) fn visit_on_threads<R: Threads + Wait + Sync, G: Gate>(
     caller: &Caller<R, G>,
-    alloc: Global,
-    yard: &Yard,
+    session: &Session,
     mut host: Host,
-    goal: &RegFile,
-    jobs: &[Job],
-    mut waiting: Vec<Guest>,
-    mut told: Vec<Told>,
+    mut queue: Queue,
 ) -> Ended
-    requires hosts { LeadsIn yard.now host.seat Pending }
-    requires fresh { IsFresh (start_at yard.now) host.seat.me.0 host.owns.items }
-    requires waiting { AreWaitingIn yard.now jobs.now waiting.items told.items }
-    requires few { length waiting.items ≤ yard.now.count }
-    requires room { length waiting.items ≤ vec_capacity told }
-    requires goal { goal.now ≡ goal_at yard.now }
-    ensures returned { ReturnedIn yard.now jobs.now result.host result.told.items }
-    ensures go { result.host.seat.me.0.go ≡ decided (is_ok result.outcome) }
+    requires hosts { HostsIn session.now.yard host Pending }
+    requires fresh { IsFreshHost session.now.yard host }
+    requires waiting { AreWaitingIn session.now queue }
+    requires room { HasRoom queue }
+    ensures returned { ReturnedIn session.now result.host result.told.items }
+    ensures go { said_by result.host ≡ decided (is_ok result.outcome) }
     ensures rest { result.host.rest ≡ host.rest }
-    ensures count { length result.told.items ≡ length waiting.items }
+    ensures count { length result.told.items ≡ length queue.waiting.items }
 {
     caller.scope(
         move |scope| -> Ended
-            requires hosts { LeadsIn yard.now host.seat Pending }
-            requires fresh { IsFresh (start_at yard.now) host.seat.me.0 host.owns.items }
-            requires waiting { AreWaitingIn yard.now jobs.now waiting.items told.items }
-            requires few { length waiting.items ≤ yard.now.count }
-            requires room { length waiting.items ≤ vec_capacity told }
-            requires same { goal.now ≡ goal_at yard.now }
-            ensures returned { ReturnedIn yard.entry.now jobs.entry.now result.host result.told.items }
-            ensures go { result.host.seat.me.0.go ≡ decided (is_ok result.outcome) }
+            requires hosts { HostsIn session.now.yard host Pending }
+            requires fresh { IsFreshHost session.now.yard host }
+            requires waiting { AreWaitingIn session.now queue }
+            requires room { HasRoom queue }
+            ensures returned { ReturnedIn session.entry.now result.host result.told.items }
+            ensures go { said_by result.host ≡ decided (is_ok result.outcome) }
             ensures rest { result.host.rest ≡ host.rest }
-            ensures count { length result.told.items ≡ length waiting.items }
+            ensures count { length result.told.items ≡ length queue.waiting.items }
         {
-            let outcome = run_all(
-                caller,
-                alloc,
-                scope,
-                yard,
-                &mut host,
-                goal,
-                jobs,
-                &mut waiting,
-                &mut told,
-            );
+            let outcome = run_all(caller, scope, session, &mut host, &mut queue);
+            let Queue { waiting: _, told } = queue;
             Ended {
                 outcome,
                 host,

@@ -1,17 +1,15 @@
 // A processor on its own thread, with its pass: its accesses, and its events of one update.
-ghost use Rattle.std.specs.Prelude.{◌≡◌, ◌<◌, ◌≤◌, ◌⊎◌, ◌++◌, [], ◌∷◌, Bool, true, false, None, Some, IsTrue, length, slice_get, vec_capacity};
+ghost use Rattle.std.specs.Prelude.{◌≡◌, ◌<◌, ◌≤◌, ◌++◌, [], ◌∷◌, false, Some, IsTrue, length, slice_get, vec_capacity};
 ghost use Rattle.std.specs.List.{All};
 ghost use Rattle.mt_machine.specs.declared.phase.Phase.{Phase as MachinePhase};
-ghost use Rattle.mt_machine.specs.declared.phase.Phase.TheVariants.{Arrived, Arrived2, Passed, Restored, Running, Taken};
-ghost use Rattle.mt_machine.specs.declared.go.Go.TheVariants.{Given, Pending};
+ghost use Rattle.mt_machine.specs.declared.phase.Phase.TheVariants.{Restored};
 ghost use Rattle.mt_machine.specs.Access.{access};
 ghost use Rattle.mt_machine.specs.System.{System as MachineSystem};
-ghost use Rattle.mt_machine.specs.Machine.{Calls, FitsOp, IsEnabled, is_changing};
-ghost use Rattle.mt_machine.specs.Start.{IsQuiet};
+ghost use Rattle.mt_machine.specs.Machine.{FitsOp};
 ghost use Rattle.mt_cpu.specs.Steps.{is_local};
 ghost use Rattle.mt_core.specs.Steps.{step_after};
-ghost use Rattle.mt_private.specs.OneByOne.{at_rest, ran};
-ghost use Rattle.mt_private.specs.YardCalls.{AreIn, HasTaken, done_in, stored_in};
+ghost use Rattle.mt_private.specs.OneByOne.{ran};
+ghost use Rattle.mt_private.specs.YardCalls.{AreIn, stored_in};
 
 use crate::host::{CANCEL, Yard};
 use crate::view::{YardTurn, YardView};
@@ -66,18 +64,16 @@ fn phase_of(core: &Core) -> Phase
 }
 
 impl YardPass {
-    ghost use Rattle.mt_private.specs.InYard.{KeepsLodging, KeepsVisit, LodgesIn, VisitsIn, goal_at};
+    ghost use Rattle.mt_private.specs.InYard.{HasArrivedAgain, HasLeft, HasNotTaken, HasPassed, IsTaken, IsBetween, IsOutside, IsReleased, done_of, goal_at};
 
     // Exchanges the own event word, which holds what was stored last. That announces the access and is that event. Does
     // the access.
     fn access(&mut self, yard: &Yard, core: &mut Core, op: Op) -> Done
-        requires lodges { (added : Bool) × (again : Bool) × LodgesIn yard.now self.old core.old.system added again }
-        requires runs { AreIn Running core.old.system }
+        requires outside { IsOutside yard.now self.old core.old }
         requires fits { FitsOp op }
-        ensures lodges { KeepsLodging yard.now self.old core.old.system self.new core.new.system }
-        ensures runs { AreIn Running core.new.system }
-        ensures done { done_in self.new.seat.me ≡ done_in self.old.seat.me ++ op ∷ [] }
-        ensures shown { self.new.seat.me.0.shown ≡ self.old.seat.me.0.shown }
+        ensures not_taken { HasNotTaken yard.now self.old core.old → HasNotTaken yard.now self.new core.new }
+        ensures released { IsReleased yard.now self.old core.old → IsReleased yard.now self.new core.new }
+        ensures done { done_of self.new ≡ done_of self.old ++ op ∷ [] }
         ensures number { self.new.number ≡ self.old.number }
         ensures answer { result ≡ (access core.old.system 0 op).answer }
         ensures after { core.new ≡ record core.old { system = (access core.old.system 0 op).after } }
@@ -99,15 +95,13 @@ impl YardPass {
         ops: &[Op],
         told: &mut Vec<Done>,
     )
-        requires lodges { (added : Bool) × (again : Bool) × LodgesIn yard.now self.old core.old.system added again }
-        requires runs { AreIn Running core.old.system }
+        requires outside { IsOutside yard.now self.old core.old }
         requires fits { All FitsOp ops.now }
         requires empty { told.old.items ≡ [] }
         requires room { length ops.now ≤ vec_capacity told.old }
-        ensures lodges { KeepsLodging yard.now self.old core.old.system self.new core.new.system }
-        ensures runs { AreIn Running core.new.system }
-        ensures done { done_in self.new.seat.me ≡ done_in self.old.seat.me ++ ops.now }
-        ensures shown { self.new.seat.me.0.shown ≡ self.old.seat.me.0.shown }
+        ensures not_taken { HasNotTaken yard.now self.old core.old → HasNotTaken yard.now self.new core.new }
+        ensures released { IsReleased yard.now self.old core.old → IsReleased yard.now self.new core.new }
+        ensures done { done_of self.new ≡ done_of self.old ++ ops.now }
         ensures number { self.new.number ≡ self.old.number }
         ensures after { core.new ≡ record core.old { system = (ran 0 ops.now core.old.system).after } }
         ensures answers { told.new.items ≡ (ran 0 ops.now core.old.system).answers }
@@ -117,18 +111,15 @@ impl YardPass {
         }
     }
 
-    // Loads the first count. Where it shows no cancel that is Take, and the answer is true; else it is no event.
+    // Loads the first count. If it shows no cancel that is Take, and the result is true; else it is no event.
     pub(crate) fn take(&mut self, yard: &Yard, core: &mut Core, goal: &RegFile) -> bool
-        requires lodges { LodgesIn yard.now self.old core.old.system false false }
-        requires runs { AreIn Running core.old.system }
-        requires idle { core.old.order ≡ None }
+        requires ready { HasNotTaken yard.now self.old core.old }
         requires goal { goal.now ≡ goal_at yard.now }
         ensures number { self.new.number ≡ self.old.number }
-        ensures done { done_in self.new.seat.me ≡ done_in self.old.seat.me }
-        ensures visits { IsTrue result → VisitsIn yard.now self.new core.new false false Pending core.old.system }
-        ensures taken { IsTrue result → AreIn Taken core.new.system × HasTaken core.old.system core.new.system }
-        ensures callable { IsTrue result → IsQuiet (at_rest core.old.system) × IsEnabled (at_rest core.old.system) (Calls goal.now) }
-        ensures stays { result ≡ false → LodgesIn yard.now self.new core.new.system false false × (self.new.seat.me.0.cancel ≡ true) × (core.new ≡ core.old) }
+        ensures done { done_of self.new ≡ done_of self.old }
+        ensures taken { IsTrue result → IsTaken yard.now self.new core.new core.old.system }
+        ensures left { result ≡ false → HasLeft yard.now self.new core.new core.old.system }
+        ensures unchanged { result ≡ false → core.new ≡ core.old }
     {
         a_core_arises(core); // a fact for the proof
         let found = yard.table.shared.load::<YardTurn>(&mut self.seat, 0);
@@ -144,12 +135,11 @@ impl YardPass {
 
     // Does the processor's next event between the barriers. Its store of the own event word is that event.
     fn work(&mut self, yard: &Yard, core: &mut Core)
-        requires visits { (first : MachineSystem) × VisitsIn yard.now self.old core.old true false Given first }
-        requires between { (phase : MachinePhase) × AreIn phase core.old.system × IsTrue (is_local phase) }
+        requires between { (first : MachineSystem) × IsBetween yard.now self.old core.old first }
+        requires local { (phase : MachinePhase) × AreIn phase core.old.system × IsTrue (is_local phase) }
         ensures number { self.new.number ≡ self.old.number }
-        ensures done { done_in self.new.seat.me ≡ done_in self.old.seat.me }
-        ensures visits { KeepsVisit (VisitsIn yard.now self.old core.old true false Given) (VisitsIn yard.now self.new core.new true false Given) }
-        ensures between { (phase : MachinePhase) × AreIn phase core.new.system × (is_changing phase ≡ true) }
+        ensures done { done_of self.new ≡ done_of self.old }
+        ensures between { (first : MachineSystem) → IsBetween yard.now self.old core.old first → IsBetween yard.now self.new core.new first }
         ensures after { core.new ≡ step_after core.old 0 }
     {
         let word = self.number as usize + 2;
@@ -161,13 +151,12 @@ impl YardPass {
         core.step(0);
     }
 
-    // Does all events between the barriers, which are so many as are left to do.
+    // Does all events that are left to do between the barriers.
     fn work_all(&mut self, yard: &Yard, core: &mut Core)
-        requires visits { (first : MachineSystem) × VisitsIn yard.now self.old core.old true false Given first }
-        requires between { (phase : MachinePhase) × AreIn phase core.old.system × (is_changing phase ≡ true) }
+        requires between { (first : MachineSystem) × IsBetween yard.now self.old core.old first }
         ensures number { self.new.number ≡ self.old.number }
-        ensures done { done_in self.new.seat.me ≡ done_in self.old.seat.me }
-        ensures visits { KeepsVisit (VisitsIn yard.now self.old core.old true false Given) (VisitsIn yard.now self.new core.new true false Given) }
+        ensures done { done_of self.new ≡ done_of self.old }
+        ensures between { (first : MachineSystem) → IsBetween yard.now self.old core.old first → IsBetween yard.now self.new core.new first }
         ensures restored { AreIn Restored core.new.system }
     {
         while is_local(phase_of(core)) {
@@ -178,12 +167,11 @@ impl YardPass {
 
     // Adds to the second count: the event ArriveAgain.
     fn arrive_again(&mut self, yard: &Yard, core: &mut Core)
-        requires visits { (first : MachineSystem) × VisitsIn yard.now self.old core.old true false Given first }
+        requires between { (first : MachineSystem) × IsBetween yard.now self.old core.old first }
         requires restored { AreIn Restored core.old.system }
         ensures number { self.new.number ≡ self.old.number }
-        ensures done { done_in self.new.seat.me ≡ done_in self.old.seat.me }
-        ensures visits { KeepsVisit (VisitsIn yard.now self.old core.old true false Given) (VisitsIn yard.now self.new core.new true true Given) }
-        ensures waits { AreIn Arrived2 core.new.system }
+        ensures done { done_of self.new ≡ done_of self.old }
+        ensures arrived { (first : MachineSystem) → IsBetween yard.now self.old core.old first → HasArrivedAgain yard.now self.new core.new first }
     {
         yard.table
             .shared
@@ -193,12 +181,10 @@ impl YardPass {
 
     // Does all that lies between the two waits: the events between the barriers, and then ArriveAgain.
     pub(crate) fn change(&mut self, yard: &Yard, core: &mut Core)
-        requires visits { (first : MachineSystem) × VisitsIn yard.now self.old core.old true false Given first }
-        requires passed { AreIn Passed core.old.system }
+        requires passed { (first : MachineSystem) × HasPassed yard.now self.old core.old first }
         ensures number { self.new.number ≡ self.old.number }
-        ensures done { done_in self.new.seat.me ≡ done_in self.old.seat.me }
-        ensures visits { KeepsVisit (VisitsIn yard.now self.old core.old true false Given) (VisitsIn yard.now self.new core.new true true Given) }
-        ensures waits { AreIn Arrived2 core.new.system }
+        ensures done { done_of self.new ≡ done_of self.old }
+        ensures arrived { (first : MachineSystem) → HasPassed yard.now self.old core.old first → HasArrivedAgain yard.now self.new core.new first }
     {
         self.work_all(yard, core);
         self.arrive_again(yard, core);

@@ -25,7 +25,7 @@ use Rattle.mt_private.specs.Pages.{IsPrivate, names, naming}
 use Rattle.mt_private.specs.Residents.{Opens, Yard, held_of, pages_at, system_of}
 use Rattle.mt_thread_laws.specs.WorkedYard.{at_start, both_lodged, first_lodged, lodged, lodger, lodging}
 use Rattle.mt_private.specs.YardLaws.{Has, IsOneEvent, YardState}
-use Rattle.mt_private.specs.YardRule.{AreAt, MeetsYard, as_view, first_yard_view, its_machine, residents, rest_of, with_said, yard_left}
+use Rattle.mt_private.specs.YardRule.{AreAt, MeetsYard, as_view, first_yard_view, its_machine, residents, rest_of, with_decision, yard_left}
 use Rattle.mt_thread_laws.proofs.JobOnWorked.{is_memory}
 use Rattle.mt_private.proofs.Residents.Opened.{opened, resides}
 use Rattle.mt_thread_laws.proofs.Residents.Unique.{one_machine}
@@ -161,9 +161,9 @@ module _ (key : Key) (is : start_of key ≡ lodging) where
           only (as_view (yard_left (first_yard_view key))).held i h (ap (λ (t : Start). map held_of (rest_of (residents t 0 t.cpus))) is) (subst (λ (u : View). get_elem? u.held i ≡ some h) (sym (some-injective (as_view (yard_left (first_yard_view key))) v at)) holds) n
       nowhere (suc j, v, i, h, at, holds, n) = absurd (some-ne-none v (sym at))
 
-  pub not_uncounted : MeetsYard key (opening (0 ∷ 0 ∷ 0 ∷ 0 ∷ []) [] (with_said (first_yard_view key) Given)) → ⊥
+  pub not_uncounted : MeetsYard key (opening (0 ∷ 0 ∷ 0 ∷ 0 ∷ []) [] (with_decision (first_yard_view key) Given)) → ⊥
   not_uncounted m =
-      let go : go_weight m.go ≡ 1 = ap go_weight (sym ((m.sits 0 (as_view (with_said (first_yard_view key) Given)) refl).root refl).1) in
+      let go : go_weight m.go ≡ 1 = ap go_weight (sym ((m.sits 0 (as_view (with_decision (first_yard_view key) Given)) refl).root refl).1) in
       let e : 0 ≡ total added_of (map held_of m.all) + go_weight m.go = m.yard.first_count in
       omega arith
 

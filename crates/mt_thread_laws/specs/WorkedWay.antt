@@ -23,7 +23,7 @@ use Rattle.mt_private.specs.Residents.{Follows, Yard, pages_at}
 use Rattle.mt_thread_laws.specs.WorkedYard.{alone, first_taken, lodger, lodging, no_counts}
 use Rattle.mt_private.specs.YardLaws.{IsOneEvent, IsOneStep, YardState}
 use Rattle.mt_private.specs.YardPlays.{Tells, YardSat}
-use Rattle.mt_private.specs.YardRule.{MeetsYard, first_yard_view, with_one, with_said, yard_both, yard_left, yard_right, yard_spent}
+use Rattle.mt_private.specs.YardRule.{MeetsYard, first_yard_view, with_one, with_decision, yard_both, yard_left, yard_right, yard_spent}
 
 abbrev pub first_words : Memory
 first_words = own_memory (pages_at lodging 0) lodging.ram
@@ -57,7 +57,7 @@ seat_shown shown cancel y = (record { root = false; held = y ∷ []; go = Pendin
 
 -- the root has said go; or the first resident, which was given away, takes, or is taken back
 abbrev pub given : Key → YardState
-given key = record { words = 1 ∷ 0 ∷ 0 ∷ 0 ∷ []; homes = []; views = with_said (first_yard_view key) Given ∷ [] }
+given key = record { words = 1 ∷ 0 ∷ 0 ∷ 0 ∷ []; homes = []; views = with_decision (first_yard_view key) Given ∷ [] }
 
 abbrev pub split_taken : Key → YardState
 split_taken key = record { words = no_counts; homes = []; views = yard_left (first_yard_view key) ∷ with_one (yard_right (first_yard_view key)) first_taken None false ∷ [] }

@@ -15,7 +15,7 @@ ghost use Rattle.mt_private.specs.Residents.{with_stored};
 ghost use Rattle.mt_thread_laws.specs.Worked.{first_page, marked, pair, second_page, shared, sharing, uncached};
 ghost use Rattle.mt_thread_laws.specs.WorkedYard.{at_start, both_lodged, first_lodged, first_state, lodged, lodging};
 ghost use Rattle.mt_private.specs.YardLaws.{ComesOf, Has, IsOneEvent, Settles, Stores};
-ghost use Rattle.mt_private.specs.YardRule.{MeetsYard, first_yard_view, with_said, yard_left};
+ghost use Rattle.mt_private.specs.YardRule.{MeetsYard, first_yard_view, with_decision, yard_left};
 
 /// Two processors that name no page in common.
 pub fn worked_shared()
@@ -96,7 +96,7 @@ pub fn worked_yard_rule()
     ensures short { (key : Key) → start_of key ≡ lodging → MeetsYard key (at_start key (0 ∷ 0 ∷ 0 ∷ [])) → ⊥ }
     ensures counted { (key : Key) → start_of key ≡ lodging → MeetsYard key (at_start key (1 ∷ 0 ∷ 0 ∷ 0 ∷ [])) → ⊥ }
     ensures missing { (key : Key) → start_of key ≡ lodging → MeetsYard key (opening (0 ∷ 0 ∷ 0 ∷ 0 ∷ []) [] (yard_left (first_yard_view key))) → ⊥ }
-    ensures uncounted { (key : Key) → start_of key ≡ lodging → MeetsYard key (opening (0 ∷ 0 ∷ 0 ∷ 0 ∷ []) [] (with_said (first_yard_view key) Given)) → ⊥ }
+    ensures uncounted { (key : Key) → start_of key ≡ lodging → MeetsYard key (opening (0 ∷ 0 ∷ 0 ∷ 0 ∷ []) [] (with_decision (first_yard_view key) Given)) → ⊥ }
     ensures untold { (key : Key) → start_of key ≡ lodging → MeetsYard key (opening (0 ∷ 0 ∷ 0 ∷ 0 ∷ []) [] (record (first_yard_view key) { cancel = true })) → ⊥ }
     ensures not_kept { (key : Key) → start_of key ≡ lodging → (m : MeetsYard key (first_state key)) → IsOneEvent key (first_state key) (at_start key (0 ∷ 0 ∷ 0 ∷ [])) m None → ⊥ }
     ensures not_enabled { (key : Key) → start_of key ≡ lodging → (m : MeetsYard key (first_state key)) → IsOneEvent key (first_state key) (first_state key) m (Some (Steps 7 Arrive)) → ⊥ }

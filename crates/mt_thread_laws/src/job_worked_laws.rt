@@ -23,7 +23,7 @@ ghost use Rattle.mt_private.specs.Visitors.{EndsOneByOne, Returned};
 ghost use Rattle.mt_thread_laws.specs.WorkedWay.{Becomes, GoesOn, HasNoAnswers, IsEmptyJob, LoadsFirst, TakesUnshown, changed, fills_not, given, guest, joined, last_seat, left, released, settled, split_taken};
 ghost use Rattle.mt_thread_laws.specs.WorkedYard.{alone, first_state, lodged, lodging, split_state};
 ghost use Rattle.mt_private.specs.YardLaws.{AdditionArrives, AdditionArrivesAgain, AdditionDecides, LoadLeaves, LoadPasses, LoadReleases, LoadStays, LoadTakes, StoreAccesses, StoreWorks};
-ghost use Rattle.mt_private.specs.YardLaws.{EachStepFollows, IsOneMachine, IsReached, JoinIsNone, LeftWhereCancelled, MoveIsOneEvent, ReleasedWhereFull, SayingIsOneEvent, Settles, ShownIsFound, SplitIsNone, StartMeetsRule, YardsSettle};
+ghost use Rattle.mt_private.specs.YardLaws.{EachStepFollows, IsOneMachine, IsReached, JoinIsNone, LeftWhereCancelled, MoveIsOneEvent, ReleasedWhereFull, DecisionIsOneEvent, Settles, ShownIsFound, SplitIsNone, StartMeetsRule, YardsSettle};
 ghost use Rattle.mt_private.specs.YardRule.{MeetsYard, its_machine};
 
 /// Loads of the counts.
@@ -56,7 +56,7 @@ pub fn worked_laws_of_tables()
     ensures start { StartMeetsRule → (key : Key) → start_of key ≡ lodging → MeetsYard key (first_state key) }
     ensures reached { IsReached → (key : Key) → start_of key ≡ lodging → (m : MeetsYard key (first_state key)) × Reached (broadcast (start_of key)) (its_machine key (first_state key) m) }
     ensures one { IsOneMachine → (key : Key) (m n : MeetsYard key (first_state key)) → its_machine key (first_state key) m ≡ its_machine key (first_state key) n }
-    ensures says { SayingIsOneEvent → (key : Key) → start_of key ≡ lodging → Becomes key (first_state key) (given key) (Some Goes) }
+    ensures decides { DecisionIsOneEvent → (key : Key) → start_of key ≡ lodging → Becomes key (first_state key) (given key) (Some Goes) }
     ensures split { SplitIsNone → (key : Key) → start_of key ≡ lodging → Becomes key (first_state key) (split_state key) None }
     ensures moves { MoveIsOneEvent → (key : Key) → start_of key ≡ lodging → Becomes key (split_state key) (split_taken key) (Some (Steps 0 Take)) }
     ensures steps { EachStepFollows → (key : Key) → start_of key ≡ lodging → LoadsFirst key (split_state key) }

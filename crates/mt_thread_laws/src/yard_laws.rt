@@ -1,6 +1,6 @@
 // Laws on yards: what each step of a seat makes of the machine that words and views stand for.
 ghost use Rattle.mt_private.specs.Visitors.{EndsOneByOne};
-ghost use Rattle.mt_private.specs.YardLaws.{AdditionArrives, AdditionArrivesAgain, AdditionDecides, EachStepFollows, IsOneMachine, IsReached, JoinIsNone, LeftWhereCancelled, LoadLeaves, LoadPasses, LoadReleases, LoadStays, LoadTakes, MoveIsOneEvent, ReleasedWhereFull, SayingIsOneEvent, ShownIsFound, SplitIsNone, StartMeetsRule, StoreAccesses, StoreWorks, YardsSettle};
+ghost use Rattle.mt_private.specs.YardLaws.{AdditionArrives, AdditionArrivesAgain, AdditionDecides, EachStepFollows, IsOneMachine, IsReached, JoinIsNone, LeftWhereCancelled, LoadLeaves, LoadPasses, LoadReleases, LoadStays, LoadTakes, MoveIsOneEvent, ReleasedWhereFull, DecisionIsOneEvent, ShownIsFound, SplitIsNone, StartMeetsRule, StoreAccesses, StoreWorks, YardsSettle};
 
 /// An addition to one of the two counts, and a load of one, is the event that the count tells of, or none: a processor
 /// takes, arrives, passes, leaves, arrives again and is released by what it finds there alone.
@@ -42,7 +42,7 @@ pub fn each_yard_step_is_one_event()
     ensures steps { EachStepFollows }
     ensures shown { ShownIsFound }
     ensures moves { MoveIsOneEvent }
-    ensures says { SayingIsOneEvent }
+    ensures decides { DecisionIsOneEvent }
     ensures split { SplitIsNone }
     ensures join { JoinIsNone }
 {}

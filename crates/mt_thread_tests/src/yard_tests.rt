@@ -1,5 +1,5 @@
 //! A yard gathered from a core's system, and the visits of its guests.
-ghost use Rattle.std.specs.Prelude.{◌≡◌, ℕ, ◌+◌, ◌<◌, Bool, IsTrue, IfSome, IfNone, length};
+ghost use Rattle.std.specs.Prelude.{◌≡◌, ℕ, ◌+◌, ◌<◌, IsTrue, IfSome, IfNone, length};
 ghost use Rattle.std.specs.List.{All};
 ghost use Rattle.std.specs.Thread.{IsSync};
 ghost use Rattle.mt_machine.specs.declared.go.Go.TheVariants.{Pending};
@@ -7,7 +7,7 @@ ghost use Rattle.mt_machine.specs.declared.phase.Phase.TheVariants.{Running};
 ghost use Rattle.mt_machine.specs.Machine.{FitsGoal};
 ghost use Rattle.mt_machine.specs.Start.{HasEraRoom};
 ghost use Rattle.mt_private.specs.declared.job.Part.{Part as JobPart};
-ghost use Rattle.mt_private.specs.InYard.{AreGatheredIn, IsGatheredIn, IsRootIn, LeadsIn, LodgesIn, goal_at};
+ghost use Rattle.mt_private.specs.InYard.{AreGatheredIn, HostsIn, IsGatheredIn, IsGuestOf, IsHostOf, goal_at};
 ghost use Rattle.mt_private.specs.Jobs.{FitsJob, IsOpen};
 ghost use Rattle.mt_private.specs.YardCalls.{AreIn};
 
@@ -32,7 +32,7 @@ fn gather_of(alloc: Global, core: Core, goal: &RegFile) -> Option<(Yard, Host, V
     requires some { 0 < length core.system.processors }
     requires fits { All (FitsGoal goal.now) core.system.processors }
     requires room { HasEraRoom core }
-    ensures host { IfSome result (λ y. LeadsIn y.0 y.1.seat Pending) }
+    ensures host { IfSome result (λ y. HostsIn y.0 y.1 Pending) }
     ensures goal { IfSome result (λ y. goal.now ≡ goal_at y.0) }
     ensures guests { IfSome result (λ y. AreGatheredIn y.0 y.2.items) }
 {
@@ -97,7 +97,7 @@ fn visit_whole<R: Wait>(
     requires goal { goal.now ≡ goal_at yard.now }
     requires addresses { FitsJob job.now }
     requires open { (part : JobPart) → IsOpen part job.now told }
-    ensures { (added : Bool) × (again : Bool) × LodgesIn yard.now result.guest.pass result.guest.own added again }
+    ensures { IsGuestOf yard.now result.guest }
 {
     let _ = k;
     let (guest, visited) = visit(rt, yard, guest, goal, job, &mut told, gate);
@@ -115,9 +115,9 @@ struct Comes {
 }
 
 impl Promise<Visit> for Comes {
-    ghost use Rattle.mt_private.specs.InYard.{LodgesIn};
+    ghost use Rattle.mt_private.specs.InYard.{IsGuestOf};
 
-    ghost kept_by = { λ p v. (added : Bool) × (again : Bool) × LodgesIn p.yard.value v.guest.pass v.guest.own added again };
+    ghost kept_by = { λ p v. IsGuestOf p.yard.value v.guest };
 }
 
 /// Starts a thread for the visit of a guest as it was gathered.
@@ -151,7 +151,7 @@ fn start<'s, E, R: Threads + Wait + Sync>(
             requires goal { goal.now ≡ goal_at yard.now }
             requires addresses { FitsJob job.now }
             requires open { (part : JobPart) → IsOpen part job.now told }
-            ensures { (added : Bool) × (again : Bool) × LodgesIn yard.entry.now result.guest.pass result.guest.own added again }
+            ensures { IsGuestOf yard.entry.now result.guest }
         { visit_whole(rt, yard, k, guest, goal, job, told, gate) },
     ) else {
         return None;
@@ -161,8 +161,8 @@ fn start<'s, E, R: Threads + Wait + Sync>(
 
 /// Gives the go, or cancels.
 fn say(yard: &Yard, host: &mut Host, given: bool)
-    requires { LeadsIn yard.now host.old.seat Pending }
-    ensures { IsRootIn yard.now host.new.seat }
+    requires { HostsIn yard.now host.old Pending }
+    ensures { IsHostOf yard.now host.new }
 {
     if given {
         host.go(yard);
@@ -185,9 +185,9 @@ fn taken(owns: &mut Vec<Option<System>>, k: usize) -> Option<System> {
 
 /// Takes the guest back, and hands out what the host then keeps at this place.
 fn take_from(yard: &Yard, host: &mut Host, k: usize, done: Visit) -> Option<Came>
-    requires hosts { IsRootIn yard.now host.old.seat }
-    requires lodges { (added : Bool) × (again : Bool) × LodgesIn yard.now done.guest.pass done.guest.own added again }
-    ensures { IsRootIn yard.now host.new.seat }
+    requires hosts { IsHostOf yard.now host.old }
+    requires lodges { IsGuestOf yard.now done.guest }
+    ensures { IsHostOf yard.now host.new }
 {
     let Visit {
         guest,
@@ -214,7 +214,7 @@ fn come_alone<R: Wait>(
     given: bool,
     gate: &AllBut,
 ) -> Option<Came>
-    requires hosts { LeadsIn yard.now host.old.seat Pending }
+    requires hosts { HostsIn yard.now host.old Pending }
     requires guests { AreGatheredIn yard.now waiting.old.items }
     requires goal { goal.now ≡ goal_at yard.now }
 {
@@ -292,7 +292,7 @@ fn come_both<'s, E, R: Threads + Wait + Sync>(
     given: bool,
     gate: &'s AllBut,
 ) -> Option<Pair>
-    requires hosts { LeadsIn yard.now host.old.seat Pending }
+    requires hosts { HostsIn yard.now host.old Pending }
     requires guests { AreGatheredIn yard.now waiting.old.items }
     requires goal { goal.now ≡ goal_at yard.now }
 {
@@ -333,7 +333,7 @@ fn both<R: Threads + Wait + Sync>(rt: &R, alloc: Global, given: bool) -> Option<
         thread::scope_env(),
         rt,
         move |scope| -> Option<Pair>
-            requires hosts { LeadsIn all.now host.seat Pending }
+            requires hosts { HostsIn all.now host Pending }
             requires guests { AreGatheredIn all.now waiting.items }
             requires goal { goal.now ≡ goal_at all.now }
         {

@@ -15,9 +15,9 @@ use Rattle.mt_rendezvous.specs.Station.{added_of, start_of}
 use Rattle.mt_rendezvous.proofs.Keeps.{total_small, weight_small}
 use Rattle.mt_private.specs.declared.view.YardView.{YardView}
 use Rattle.mt_private.specs.Residents.{Decides, Yard, held_of}
-use Rattle.mt_private.specs.YardRule.{MeetsYard, as_view, with_said}
+use Rattle.mt_private.specs.YardRule.{MeetsYard, as_view, with_decision}
 use Rattle.mt_private.specs.YardLaws.{IsOneEvent}
-use Rattle.mt_private.specs.YardPlays.{CancelsYard, GivesYard, Made, OfSeat, Said, Tells, YardSat, has_added}
+use Rattle.mt_private.specs.YardPlays.{CancelsYard, GivesYard, Made, OfSeat, IsDecided, Tells, YardSat, has_added}
 use Rattle.mt_private.proofs.Residents.Decisions.{cancels, gives}
 use Rattle.mt_private.proofs.Residents.Seats.{mapped_at, says}
 
@@ -59,10 +59,10 @@ module _ (key : Key) where
 
     -- a decision, and what it tells
     pub said : (n : ℕ) (go : Go) (e : MachineEvent) → Decides t m.all go n (slice_index s.words 1) m.system e
-        → IsOneEvent key s (record { words = set s.words 0 n; homes = s.homes; views = set s.views id (with_said v go) }) m (Some e) × Said v.start n e go
+        → IsOneEvent key s (record { words = set s.words 0 n; homes = s.homes; views = set s.views id (with_decision v go) }) m (Some e) × IsDecided v.start n e go
     said n go e d = (
       says key s m id n v go e at root some_word (second_stays n) was d,
-      subst (λ (x : Start). Said x n e go) (sym started) (record { all = m.all; second = slice_index s.words 1; system = m.system; decides = d }),
+      subst (λ (x : Start). IsDecided x n e go) (sym started) (record { all = m.all; second = slice_index s.words 1; system = m.system; decides = d }),
     )
 
     pub giving : Decides t m.all Given ((get_or s.words 0 0 + 1) % 18446744073709551616) (slice_index s.words 1) m.system Goes
@@ -87,7 +87,7 @@ module _ (key : Key) where
       of_host me root (λ host. Allows (MeetsYard key) slots id me 0 (λ n. (n + 1) % 2 ^ 64) (OfSeat host 0 1 none (has_added me.0.held) (step slots 0 1 0 none) me))
       (λ s m _ at small.
       let p = said s m id me.0 at root is ((get_or s.words 0 0 + 1) % 18446744073709551616) Given Goes (giving s m id me.0 at root is) in
-      (with_said me.0 Given, keeps, tt, p.0.kept, (refl, refl, p.1, is)))
+      (with_decision me.0 Given, keeps, tt, p.0.kept, (refl, refl, p.1, is)))
 
   pub cancels_yard : (slots id : ℕ) (me : Me Op YardView) → me.0.root ≡ true → me.0.go ≡ Pending
       → Allows (MeetsYard key) slots id me 0 (λ n. (n + 4294967296) % 2 ^ 64) (Tells (step slots 0 4294967296 0 none) me)
@@ -95,14 +95,14 @@ module _ (key : Key) where
       of_host me root (λ host. Allows (MeetsYard key) slots id me 0 (λ n. (n + 4294967296) % 2 ^ 64) (OfSeat host 0 4294967296 none (has_added me.0.held) (step slots 0 4294967296 0 none) me))
       (λ s m _ at small.
       let p = said s m id me.0 at root is ((get_or s.words 0 0 + 4294967296) % 18446744073709551616) Cancelled Cancels (cancelling s m id me.0 at root is) in
-      (with_said me.0 Cancelled, keeps, tt, p.0.kept, (refl, refl, p.1, is, refl)))
+      (with_decision me.0 Cancelled, keeps, tt, p.0.kept, (refl, refl, p.1, is, refl)))
 
 -- the host's step, by its seat
-pub said_go : (slots found : ℕ) (me new : YardSat) → me.0.root ≡ true → Tells (step slots 0 1 0 none) me found new → GivesYard (step slots 0 1 0 none) me found new
-said_go slots found me new root tells = subst (λ (host : Bool). OfSeat host 0 1 none (has_added me.0.held) (step slots 0 1 0 none) me found new) root tells
+pub told_go : (slots found : ℕ) (me new : YardSat) → me.0.root ≡ true → Tells (step slots 0 1 0 none) me found new → GivesYard (step slots 0 1 0 none) me found new
+told_go slots found me new root tells = subst (λ (host : Bool). OfSeat host 0 1 none (has_added me.0.held) (step slots 0 1 0 none) me found new) root tells
 
-pub said_cancel : (slots found : ℕ) (me new : YardSat) → me.0.root ≡ true → Tells (step slots 0 4294967296 0 none) me found new → CancelsYard (step slots 0 4294967296 0 none) me found new
-said_cancel slots found me new root tells = subst (λ (host : Bool). OfSeat host 0 4294967296 none (has_added me.0.held) (step slots 0 4294967296 0 none) me found new) root tells
+pub told_cancel : (slots found : ℕ) (me new : YardSat) → me.0.root ≡ true → Tells (step slots 0 4294967296 0 none) me found new → CancelsYard (step slots 0 4294967296 0 none) me found new
+told_cancel slots found me new root tells = subst (λ (host : Bool). OfSeat host 0 4294967296 none (has_added me.0.held) (step slots 0 4294967296 0 none) me found new) root tells
 
 -- and by what it was made
 pub made : (slots i a found : ℕ) (me new : YardSat) → slots ≡ 0 → Tells (step slots i a 0 none) me found new → Made i a me new

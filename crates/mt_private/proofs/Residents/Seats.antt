@@ -22,7 +22,7 @@ use Rattle.mt_private.specs.declared.view.Resident.{Resident}
 use Rattle.mt_private.specs.declared.view.YardView.{YardView}
 use Rattle.mt_private.specs.Residents.{Decides, Follows, Yard, held_of, yard_machine}
 use Rattle.mt_private.specs.YardLaws.{IsOneEvent, Stores}
-use Rattle.mt_private.specs.YardRule.{AreAt, HoldsStored, MeetsYard, as_view, one_of, rest_of, with_one, with_said, yard_both, yard_left, yard_right, yard_spent}
+use Rattle.mt_private.specs.YardRule.{AreAt, HoldsStored, MeetsYard, as_view, one_of, rest_of, with_one, with_decision, yard_both, yard_left, yard_right, yard_spent}
 
 -- ---- lists
 
@@ -154,7 +154,7 @@ module _ (key : Key) (s : State Op YardView) (m : MeetsYard key s) where
 
   -- it says so: the first count is n then
   pub says : (id n : ℕ) (v : YardView) (go : Go) (e : MachineEvent) → get_elem? s.views id ≡ some v → v.root ≡ true → 0 < length s.words → slice_index (set s.words 0 n) 1 ≡ slice_index s.words 1
-      → m.go ≡ Pending → Decides t m.all go n (slice_index s.words 1) m.system e → IsOneEvent key s (record { words = set s.words 0 n; homes = s.homes; views = set s.views id (with_said v go) }) m (Some e)
+      → m.go ≡ Pending → Decides t m.all go n (slice_index s.words 1) m.system e → IsOneEvent key s (record { words = set s.words 0 n; homes = s.homes; views = set s.views id (with_decision v go) }) m (Some e)
   says id n v go e at root some_word stays was d = record {
     kept = record {
       all = m.all;
@@ -167,13 +167,13 @@ module _ (key : Key) (s : State Op YardView) (m : MeetsYard key s) where
       present = λ k b. subst (λ (vs : List View). IsHeld vs k) (sym views_are) (kept_present views id (as_view v) (with_go (as_view v) go) at_view (λ i h e. (i, h, e, refl)) k (m.present k b));
       sits = subst (λ (vs : List View). AllSit t hs go m.owner vs) (sym views_are) (seats_decided t hs m.go m.owner views m.sits id (as_view v) at_view go root);
       same = λ j u e. ⊎_elim
-          (λ (x : (j ≡ id) × (with_said v go ≡ u)). subst (λ (u : YardView). AreAt m.all u.held) x.1 (m.same id v at))
+          (λ (x : (j ≡ id) × (with_decision v go ≡ u)). subst (λ (u : YardView). AreAt m.all u.held) x.1 (m.same id v at))
           (λ (x : (j ≢ id) × (get_elem? s.views j ≡ some u)). m.same j u x.1)
-          (at_set s.views id j (with_said v go) u e);
+          (at_set s.views id j (with_decision v go) u e);
       cancels = λ j u e shown. ⊎_elim
-          (λ (x : (j ≡ id) × (with_said v go ≡ u)). never (m.cancels id v at (ap (λ (u : YardView). u.cancel) x.1 ∙ shown)))
+          (λ (x : (j ≡ id) × (with_decision v go ≡ u)). never (m.cancels id v at (ap (λ (u : YardView). u.cancel) x.1 ∙ shown)))
           (λ (x : (j ≢ id) × (get_elem? s.views j ≡ some u)). never (m.cancels j u x.1 shown))
-          (at_set s.views id j (with_said v go) u e);
+          (at_set s.views id j (with_decision v go) u e);
     };
     enabled = subst (λ (g : Go). IsEnabled (yard_machine t g m.system) e) (sym was) d.enabled;
     becomes = d.becomes ∙ ap (λ (g : Go). next (yard_machine t g m.system) e) (sym was);
@@ -186,8 +186,8 @@ module _ (key : Key) (s : State Op YardView) (m : MeetsYard key s) where
       never : m.go ≡ Cancelled → go ≡ Cancelled
       never c = absurd (let e : Pending ≡ Cancelled = sym was ∙ c in cc)
 
-      views_are : map as_view (set s.views id (with_said v go)) ≡ set views id (with_go (as_view v) go)
-      views_are = map-set as_view s.views id (with_said v go)
+      views_are : map as_view (set s.views id (with_decision v go)) ≡ set views id (with_go (as_view v) go)
+      views_are = map-set as_view s.views id (with_decision v go)
 
   -- it gives its first resident away
   pub splits : (id : ℕ) (v : YardView) (y : Resident) (ys : List Resident) → get_elem? s.views id ≡ some v → v.held ≡ y ∷ ys

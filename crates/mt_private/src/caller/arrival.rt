@@ -1,9 +1,6 @@
 // The arrival of a pass at the first barrier, and that the gate was told of it.
-ghost use Rattle.std.specs.Prelude.{◌≡◌, ◌⊎◌, true, false};
-ghost use Rattle.mt_machine.specs.declared.phase.Phase.TheVariants.{Arrived, Taken};
-ghost use Rattle.mt_machine.specs.declared.go.Go.TheVariants.{Pending};
-ghost use Rattle.mt_machine.specs.System.{System as MachineSystem};
-ghost use Rattle.mt_private.specs.YardCalls.{AreIn, HasTaken, done_in};
+ghost use Rattle.std.specs.Prelude.{◌≡◌};
+ghost use Rattle.mt_machine.specs.System.{System};
 
 use crate::caller::Caller;
 use crate::host::{CANCEL, Yard};
@@ -11,18 +8,26 @@ use crate::view::YardTurn;
 use crate::visiting::YardPass;
 use mt_core::Core;
 use mt_ports::Gate;
+use std::marker::PhantomData;
 
-// That the gate is to be told of an arrival. `YardPass::arrive` alone makes one, by the number of a pass that has added to
-// the first count, and no pass adds twice. It can't be copied, and only `tell` takes it apart.
+// That a gate is to be told of an arrival. Only this file can make one or take one apart: `of` makes it, for a pass that has
+// added to the first count, and `tell` takes it apart. It is neither `Clone` nor `Drop`.
 pub(super) struct Arrival {
     number: u32,
 }
 
-// That the caller's gate was told of an arrival: `Arrival::tell` alone makes one. No pass that has added leaves the first
-// barrier without one of its number (`YardPass::wait_first`).
-#[derive(Drop)]
-pub(super) struct Heard {
+// That a gate of type G was told of an arrival. Only this file can make one or take one apart: `tell` makes it. It is neither
+// `Clone` nor `Drop`, and `YardPass::wait_first` spends one of its pass's number.
+pub(super) struct Heard<G> {
     number: u32,
+    gate: PhantomData<G>,
+}
+
+impl<G> Heard<G> {
+    // Spends it, before the wait that it allows.
+    pub(super) fn spend(self) {
+        let Heard { number: _, gate: _ } = self;
+    }
 }
 
 impl Arrival {
@@ -30,7 +35,7 @@ impl Arrival {
 
     // The arrival of this pass's processor.
     fn of(pass: &YardPass) -> Arrival
-        requires { HasAdded pass.now }
+        requires added { HasAdded pass.now }
         ensures { result.number ≡ pass.now.number }
     {
         Arrival {
@@ -38,28 +43,28 @@ impl Arrival {
         }
     }
 
-    // Tells the caller's gate, once.
-    pub(super) fn tell<R, G: Gate>(self, caller: &Caller<R, G>) -> Heard
+    // Tells the caller's gate.
+    pub(super) fn tell<R, G: Gate>(self, caller: &Caller<R, G>) -> Heard<G>
         ensures { result.number ≡ self.number }
     {
         let Arrival { number } = self;
         caller.crew.tell(number);
-        Heard { number }
+        Heard {
+            number,
+            gate: PhantomData,
+        }
     }
 }
 
 impl YardPass {
-    ghost use Rattle.mt_private.specs.InYard.{KeepsVisit, VisitsIn};
+    ghost use Rattle.mt_private.specs.InYard.{HasArrived, IsTaken, done_of};
 
     // Adds to the first count: the event Arrive, or none where it held the cancel before.
     pub(super) fn arrive(&mut self, yard: &Yard, core: &mut Core) -> Arrival
-        requires visits { (first : MachineSystem) × VisitsIn yard.now self.old core.old false false Pending first }
-        requires taken { AreIn Taken core.old.system }
+        requires taken { (first : System) × IsTaken yard.now self.old core.old first }
         ensures number { self.new.number ≡ self.old.number }
-        ensures done { done_in self.new.seat.me ≡ done_in self.old.seat.me }
-        ensures visits { KeepsVisit (VisitsIn yard.now self.old core.old false false Pending) (VisitsIn yard.now self.new core.new true false Pending) }
-        ensures waits { AreIn Taken core.new.system ⊎ AreIn Arrived core.new.system }
-        ensures taken { (first : MachineSystem) → HasTaken first core.old.system → HasTaken first core.new.system }
+        ensures done { done_of self.new ≡ done_of self.old }
+        ensures arrived { (first : System) → IsTaken yard.now self.old core.old first → HasArrived yard.now self.new core.new first }
         ensures token { result.number ≡ self.old.number }
     {
         let found = yard

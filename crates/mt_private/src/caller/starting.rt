@@ -2,36 +2,33 @@
 ghost use Rattle.std.specs.Prelude.{◌≡◌, IfErr, IfOk};
 ghost use Rattle.std.specs.Thread.{IsSync};
 ghost use Rattle.mt_machine.specs.declared.go.Go.TheVariants.{Cancelled, Pending};
-ghost use Rattle.mt_private.specs.InYard.{HasComeIn, IsNewIn, IsRootIn, LeadsIn, goal_at};
+ghost use Rattle.mt_private.specs.InYard.{HasCancelledIn, HasComeIn, HoldsAsBefore, HostsIn, IsNewIn};
 
 use super::visits::visit_with;
 use crate::caller::Caller;
-use crate::host::{Host, Yard};
-use crate::job::Job;
+use crate::host::Host;
+use crate::session::{Session, job_of};
 use crate::visitor::Visitor;
 use mt_ports::Gate;
-use mt_regs::RegFile;
-use mt_rendezvous::{OfProcessor, Refusal, boxed};
-use std::alloc::Global;
+use mt_rendezvous::{OfProcessor, Refusal, Started};
 use std::snapshot::Snapshot;
 use std::sync::Wait;
-use std::thread::{Promise, PromisedHandle, Scope, Threads};
+use std::thread::{Promise, Scope};
 
-// What the thread of a visitor promises: it comes back, and its visit has ended. `start` alone makes one.
+// What the thread of a visitor promises: it comes back, and its visit has ended. Only this file can make one.
 #[derive(Drop)]
-pub(crate) struct Visits {
-    yard: Snapshot<Yard>,
-    job: Snapshot<Job>,
+pub(crate) struct ComesBack {
+    session: Snapshot<Session>,
     number: u64,
 }
 
-impl Promise<Box<Visitor>> for Visits {
+impl Promise<Visitor> for ComesBack {
     ghost use Rattle.mt_private.specs.InYard.{HasComeIn};
 
-    ghost kept_by = { λ p v. HasComeIn p.yard.value p.job.value p.number v.value };
+    ghost kept_by = { λ p v. HasComeIn p.session.value p.number v };
 }
 
-impl OfProcessor for Visits {
+impl OfProcessor for ComesBack {
     ghost number = { λ p. p.number };
 }
 
@@ -40,98 +37,73 @@ impl OfProcessor for Visits {
 pub(crate) fn come_here<R: Wait, G: Gate>(
     _refusal: &Refusal,
     caller: &Caller<R, G>,
-    yard: &Yard,
+    session: &Session,
     _host: &Host,
     visitor: &mut Visitor,
-    goal: &RegFile,
-    job: &Job,
 )
-    requires host { IsRootIn yard.now _host.now.seat }
-    requires cancelled { _host.now.seat.me.0.go ≡ Cancelled }
-    requires waits { IsNewIn yard.now job.now visitor.old.pass.number visitor.old }
-    requires goal { goal.now ≡ goal_at yard.now }
-    ensures { HasComeIn yard.now job.now visitor.old.pass.number visitor.new }
+    requires cancelled { HasCancelledIn session.now.yard _host.now }
+    requires new { IsNewIn session.now visitor.old.pass.number visitor.old }
+    ensures { HasComeIn session.now visitor.old.pass.number visitor.new }
 {
-    come(caller, yard, visitor, goal, job);
+    come(caller, session, visitor);
 }
 
 // The whole visit, on the thread that calls it.
-fn come<R: Wait, G: Gate>(
-    caller: &Caller<R, G>,
-    yard: &Yard,
-    visitor: &mut Visitor,
-    goal: &RegFile,
-    job: &Job,
-)
-    requires waits { IsNewIn yard.now job.now visitor.old.pass.number visitor.old }
-    requires goal { goal.now ≡ goal_at yard.now }
-    ensures { HasComeIn yard.now job.now visitor.old.pass.number visitor.new }
+fn come<R: Wait, G: Gate>(caller: &Caller<R, G>, session: &Session, visitor: &mut Visitor)
+    requires new { IsNewIn session.now visitor.old.pass.number visitor.old }
+    ensures { HasComeIn session.now visitor.old.pass.number visitor.new }
 {
+    let job = job_of(session, visitor.pass.number as usize);
     visitor.visited = visit_with(
         caller,
-        yard,
+        &session.yard,
         &mut visitor.pass,
         &mut visitor.core,
-        goal,
+        &session.goal,
         job,
         &mut visitor.told,
     );
 }
 
-// Asks for a block for the visitor, and then starts its thread, if the caller's gate lets it. If none is started the host
-// cancels. The visitor then leaves, and comes back with the refusal.
-pub(crate) fn start<'s, E, R: Threads + Wait + Sync, G: Gate>(
+// Starts the visitor's thread, if the caller's gate lets it. If none is started the host cancels. The visitor then leaves, and
+// comes back with the refusal.
+pub(crate) fn start<'s, E, R: Wait + Sync, G: Gate>(
     caller: &'s Caller<R, G>,
-    alloc: Global,
     scope: &Scope<'s, E>,
-    yard: &'s Yard,
+    session: &'s Session,
     host: &mut Host,
     visitor: Visitor,
-    goal: &'s RegFile,
-    job: &'s Job,
-) -> Result<PromisedHandle<Box<Visitor>, Visits>, (Visitor, Refusal)>
-    requires hosts { LeadsIn yard.now host.old.seat Pending }
-    requires waits { IsNewIn yard.now job.now visitor.pass.number visitor }
-    requires goal { goal.now ≡ goal_at yard.now }
-    ensures same { (host.new.seat.me.0.held ≡ host.old.seat.me.0.held) × (host.new.owns ≡ host.old.owns) × (host.new.rest ≡ host.old.rest) }
-    ensures pending { IfOk result (λ h. LeadsIn yard.now host.new.seat Pending) }
-    ensures child { IfOk result (λ h. (h.promise.yard.value ≡ yard.now) × (h.promise.job.value ≡ job.now) × (h.promise.number ≡ visitor.pass.number)) }
-    ensures cancelled { IfErr result (λ e. LeadsIn yard.now host.new.seat Cancelled) }
-    ensures come { IfErr result (λ e. HasComeIn yard.now job.now visitor.pass.number e.0) }
+) -> Result<Started<Visitor, ComesBack, G>, (Visitor, Refusal)>
+    requires hosts { HostsIn session.now.yard host.old Pending }
+    requires new { IsNewIn session.now visitor.pass.number visitor }
+    ensures same { HoldsAsBefore host.old host.new }
+    ensures pending { IfOk result (λ s. HostsIn session.now.yard host.new Pending) }
+    ensures child { IfOk result (λ s. (s.promise.value.session.value ≡ session.now) × (s.promise.value.number ≡ visitor.pass.number)) }
+    ensures cancelled { IfErr result (λ e. HostsIn session.now.yard host.new Cancelled) }
+    ensures come { IfErr result (λ e. HasComeIn session.now visitor.pass.number e.0) }
 {
-    let block = match boxed(alloc, visitor) {
-        Ok(block) => block,
-        Err((mut visitor, refusal)) => {
-            host.cancel(yard);
-            come_here(&refusal, caller, yard, host, &mut visitor, goal, job);
-            return Err((visitor, refusal));
-        }
-    };
-    let promise = Visits {
-        yard: Snapshot::of(yard),
-        job: Snapshot::of(job),
-        number: block.pass.number,
+    let promise = ComesBack {
+        session: Snapshot::of(session),
+        number: visitor.pass.number,
     };
     match caller.crew.start(
         scope,
-        block.pass.number as u32,
+        visitor.pass.number as u32,
         promise,
-        move || -> Box<Visitor>
+        move || -> Visitor
             requires shared { IsSync R.row }
-            requires waits { IsNewIn yard.now job.now block.value.pass.number block.value }
-            requires same { goal.now ≡ goal_at yard.now }
-            ensures { HasComeIn yard.entry.now job.entry.now block.value.pass.number result.value }
+            requires new { IsNewIn session.now visitor.pass.number visitor }
+            ensures { HasComeIn session.entry.now visitor.pass.number result }
         {
-            let mut block = block;
-            come(caller, yard, &mut block, goal, job);
-            block
+            let mut visitor = visitor;
+            come(caller, session, &mut visitor);
+            visitor
         },
     ) {
         Ok(child) => Ok(child),
         Err(unstarted) => {
-            host.cancel(yard);
-            let (block, refusal) = unstarted.done_here(yard, host);
-            Err((Box::into_inner(block), refusal))
+            host.cancel(&session.yard);
+            Err(unstarted.done_here(&session.yard, host))
         }
     }
 }

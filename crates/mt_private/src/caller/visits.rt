@@ -1,14 +1,14 @@
 // The whole visit of a guest: its accesses, and the update between them. Its calls wait, and only `caller.rt` and the
-// files below it can make them.
-ghost use Rattle.std.specs.Prelude.{◌≡◌, [], ◌∷◌, Bool, None, Some, false, true};
+// files below it can call the two waits.
+ghost use Rattle.std.specs.Prelude.{◌≡◌, [], ◌∷◌, false};
 ghost use Rattle.mt_machine.specs.declared.phase.Phase.TheVariants.{Running};
 ghost use Rattle.mt_machine.specs.Update.{updated};
 ghost use Rattle.mt_private.specs.declared.job.Part.{Part as JobPart};
 ghost use Rattle.mt_private.specs.declared.job.Part.TheVariants.{After};
-ghost use Rattle.mt_private.specs.InYard.{LodgesIn, VisitEndsIn, goal_at};
+ghost use Rattle.mt_private.specs.InYard.{HasLeft, HasNotTaken, IsReleased, LodgesIn, VisitEndsIn, done_of, goal_at};
 ghost use Rattle.mt_private.specs.Jobs.{FitsJob, IsOpen};
 ghost use Rattle.mt_private.specs.OneByOne.{at_rest};
-ghost use Rattle.mt_private.specs.YardCalls.{AreIn, IsLeft, done_in};
+ghost use Rattle.mt_private.specs.YardCalls.{AreIn};
 
 use crate::caller::Caller;
 use crate::host::Yard;
@@ -29,16 +29,13 @@ impl YardPass {
         core: &mut Core,
         goal: &RegFile,
     ) -> Visited
-        requires lodges { LodgesIn yard.now self.old core.old.system false false }
-        requires runs { AreIn Running core.old.system }
-        requires idle { core.old.order ≡ None }
+        requires ready { HasNotTaken yard.now self.old core.old }
         requires goal { goal.now ≡ goal_at yard.now }
         ensures number { self.new.number ≡ self.old.number }
-        ensures done { done_in self.new.seat.me ≡ done_in self.old.seat.me }
-        ensures complete { result ≡ Visited.Complete → LodgesIn yard.now self.new core.new.system true true × (self.new.seat.me.0.shown ≡ Some yard.now.count) }
-        ensures whole { result ≡ Visited.Complete → AreIn Running core.new.system × (core.new ≡ updated core.old.system (0 ∷ []) goal.now) }
-        ensures cancelled { result ≡ Visited.Cancelled → ((added : Bool) × LodgesIn yard.now self.new core.new.system added false)
-            × (self.new.seat.me.0.cancel ≡ true) × IsLeft core.old.system core.new.system }
+        ensures done { done_of self.new ≡ done_of self.old }
+        ensures released { result ≡ Visited.Complete → IsReleased yard.now self.new core.new }
+        ensures whole { result ≡ Visited.Complete → core.new ≡ updated core.old.system (0 ∷ []) goal.now }
+        ensures left { result ≡ Visited.Cancelled → HasLeft yard.now self.new core.new core.old.system }
     {
         if !self.take(yard, core, goal) {
             return Visited::Cancelled;
@@ -71,10 +68,8 @@ pub(super) fn visit_with<R: Wait, G: Gate>(
     job: &Job,
     told: &mut Told,
 ) -> Visited
-    requires lodges { LodgesIn yard.now pass.old core.old.system false false }
-    requires runs { AreIn Running core.old.system }
-    requires idle { core.old.order ≡ None }
-    requires new { done_in pass.old.seat.me ≡ [] }
+    requires ready { HasNotTaken yard.now pass.old core.old }
+    requires new { done_of pass.old ≡ [] }
     requires goal { goal.now ≡ goal_at yard.now }
     requires addresses { FitsJob job.now }
     requires open { (part : JobPart) → IsOpen part job.now told.old }
@@ -110,7 +105,7 @@ pub fn visit<R: Wait, G: Gate>(
 ) -> (Guest, Visited)
     requires lodges { LodgesIn yard.now guest.pass guest.own false false }
     requires runs { AreIn Running guest.own }
-    requires new { done_in guest.pass.seat.me ≡ [] }
+    requires new { done_of guest.pass ≡ [] }
     requires goal { goal.now ≡ goal_at yard.now }
     requires addresses { FitsJob job.now }
     requires open { (part : JobPart) → IsOpen part job.now told.old }

@@ -1,23 +1,35 @@
-// All that waits: the two waits of a pass, and a scope for its threads. Only this module has the runtime, and nothing takes
-// it out. So every other function that has a caller is proved to end, except where it calls these or joins a thread.
-ghost use Rattle.std.specs.Prelude.{◌≡◌, ◌⊎◌, true, false, Some, IsTrue};
-ghost use Rattle.mt_machine.specs.declared.phase.Phase.TheVariants.{Arrived, Arrived2, Passed, Running, Taken};
-ghost use Rattle.mt_machine.specs.declared.go.Go.TheVariants.{Given, Pending};
-ghost use Rattle.mt_machine.specs.Bus.{drain};
-ghost use Rattle.mt_machine.specs.System.{System as MachineSystem};
-ghost use Rattle.mt_private.specs.YardCalls.{AreIn, HasTaken, done_in, in_phase};
+// The calls that wait: for the others at the two barriers, and for threads. Only this file reads the runtime of a caller. So every
+// other function that has a caller, and no runtime of its own, waits by these calls alone, and its own loops terminate.
+ghost use Rattle.std.specs.Prelude.{◌≡◌, [], ◌∷◌, false, IsTrue};
+ghost use Rattle.mt_machine.specs.System.{System};
+ghost use Rattle.mt_machine.specs.Update.{updated};
 
 use super::arrival::Heard;
 use crate::caller::Caller;
-use crate::host::{CANCEL, Yard};
+use crate::host::{CANCEL, Host, Yard};
 use crate::view::YardTurn;
 use crate::visiting::YardPass;
 use mt_core::Core;
+use mt_ports::Gate;
+use mt_rendezvous::Started;
 use std::sync::Wait;
-use std::thread;
-use std::thread::{Scope, Threads};
+use std::thread::{Promise, Scope, Threads};
+use std::{hint, thread};
 
-// The runtime of a call. Without it no loop can go on for ever.
+// How often a wait pauses between two loads before it yields the processor.
+const SPINS: u32 = 64;
+
+// Pauses, or yields the processor if no pause is left before that. Returns how many are left.
+fn pause(spins: u32) -> u32 {
+    if spins == 0 {
+        thread::yield_now();
+        return SPINS;
+    }
+    hint::spin_loop();
+    spins - 1
+}
+
+// The runtime of a call. A loop without a measure needs one.
 #[derive(Drop)]
 pub(super) struct Waiter<R> {
     rt: R,
@@ -30,7 +42,9 @@ impl<R> Waiter<R> {
     }
 }
 
-impl<R: Threads + Wait, G> Caller<R, G> {
+impl<R: Threads + Wait, G: Gate> Caller<R, G> {
+    ghost use Rattle.mt_private.specs.InYard.{HasDecided};
+
     // Calls f with a scope, and waits for the threads that f starts there.
     pub(crate) fn scope<'e, F: for<'s> FnOnce(&'s Scope<'s, &'e ()>) -> T, T>(&self, f: F) -> T
         requires { F.IsAlwaysCallable f }
@@ -38,31 +52,38 @@ impl<R: Threads + Wait, G> Caller<R, G> {
     {
         thread::scope(thread::scope_env(), &self.waiter.rt, f)
     }
+
+    // Waits for the end of a thread that a crew with a gate of this caller's type has started, once the host has given the go or
+    // cancelled.
+    pub(crate) fn join<T, P: Promise<T>>(&self, _host: &Host, child: Started<T, P, G>) -> T
+        requires { HasDecided _host.now }
+        ensures { P.kept_by child.promise.value result }
+    {
+        self.crew.join(&self.waiter.rt, child)
+    }
 }
 
 impl YardPass {
-    ghost use Rattle.mt_private.specs.InYard.{IsWholeUpdate, KeepsVisit, LodgesIn, VisitsIn};
+    ghost use Rattle.mt_private.specs.InYard.{HasArrived, HasArrivedAgain, HasLeft, HasPassed, IsReleased, done_of, goal_at};
 
-    // Waits for the others, once the gate was told of the arrival. The load of the first count that ends it is the event
-    // Pass, and the answer is true, or Leave. Each load before it is none.
+    // Waits for the others. It spends what says that a gate of the caller's type was told of this pass. The load of the first
+    // count that ends it is the event Pass, and the result is true, or Leave. Each load before it is none.
     pub(super) fn wait_first<R: Wait, G>(
         &mut self,
         caller: &Caller<R, G>,
-        _heard: Heard,
+        heard: Heard<G>,
         yard: &Yard,
         core: &mut Core,
     ) -> bool
-        requires visits { (first : MachineSystem) × VisitsIn yard.now self.old core.old true false Pending first }
-        requires waits { AreIn Taken core.old.system ⊎ AreIn Arrived core.old.system }
-        requires heard { _heard.number ≡ self.old.number }
+        requires arrived { (first : System) × HasArrived yard.now self.old core.old first }
+        requires heard { heard.number ≡ self.old.number }
         ensures number { self.new.number ≡ self.old.number }
-        ensures done { done_in self.new.seat.me ≡ done_in self.old.seat.me }
-        ensures visits { IsTrue result → KeepsVisit (VisitsIn yard.now self.old core.old true false Pending) (VisitsIn yard.now self.new core.new true false Given) }
-        ensures passed { IsTrue result → AreIn Passed core.new.system }
-        ensures lodges { result ≡ false → LodgesIn yard.now self.new core.new.system true false }
-        ensures cancel { result ≡ false → self.new.seat.me.0.cancel ≡ true }
-        ensures left { result ≡ false → (first : MachineSystem) → HasTaken first core.old.system → core.new.system ≡ in_phase Running (drain 0 first) }
+        ensures done { done_of self.new ≡ done_of self.old }
+        ensures passed { IsTrue result → (first : System) → HasArrived yard.now self.old core.old first → HasPassed yard.now self.new core.new first }
+        ensures left { result ≡ false → (first : System) → HasArrived yard.now self.old core.old first → HasLeft yard.now self.new core.new first }
     {
+        heard.spend();
+        let mut spins = SPINS;
         for _ in caller.waiter.rt.forever() {
             let found = yard.table.shared.load::<YardTurn>(&mut self.seat, 0);
             if found >= CANCEL {
@@ -75,7 +96,7 @@ impl YardPass {
                 core.step(0);
                 return true;
             }
-            thread::yield_now();
+            spins = pause(spins);
         }
         unreachable!()
     }
@@ -88,22 +109,20 @@ impl YardPass {
         yard: &Yard,
         core: &mut Core,
     )
-        requires visits { (first : MachineSystem) × VisitsIn yard.now self.old core.old true true Given first }
-        requires waits { AreIn Arrived2 core.old.system }
+        requires arrived { (first : System) × HasArrivedAgain yard.now self.old core.old first }
         ensures number { self.new.number ≡ self.old.number }
-        ensures done { done_in self.new.seat.me ≡ done_in self.old.seat.me }
-        ensures lodges { LodgesIn yard.now self.new core.new.system true true }
-        ensures shown { self.new.seat.me.0.shown ≡ Some yard.now.count }
-        ensures runs { AreIn Running core.new.system }
-        ensures whole { IsWholeUpdate yard.now self.old core.old core.new }
+        ensures done { done_of self.new ≡ done_of self.old }
+        ensures released { IsReleased yard.now self.new core.new }
+        ensures whole { (first : System) → HasArrivedAgain yard.now self.old core.old first → core.new ≡ updated first (0 ∷ []) (goal_at yard.now) }
     {
+        let mut spins = SPINS;
         for _ in caller.waiter.rt.forever() {
             let found = yard.table.shared.load::<YardTurn>(&mut self.seat, 1);
             if found == yard.count {
                 core.step(0);
                 return;
             }
-            thread::yield_now();
+            spins = pause(spins);
         }
         unreachable!()
     }

@@ -1,8 +1,7 @@
-use Rattle.std.proofs.Common.{◌≡◌, ◌∙◌, rules, subst, sym, None, Some, List}
-use Rattle.std.specs.List.{All}
+use Rattle.std.proofs.Common.{◌≡◌, rules, subst, None, Some, List}
 use Rattle.mt_regs.specs.Faults.{IsAccepted, IsFirstFault}
 use Rattle.mt_private.specs.declared.job.Job.{Job}
-use Rattle.mt_private.specs.Jobs.{AreOpen, FitsJob}
+use Rattle.mt_private.specs.Jobs.{AreOpen}
 use Rattle.mt_private.proofs.Causes.{accepted, opens_of, private_where_none, refused, shared, unshared}
 use Rattle.mt_private.proofs.runs.run_private_with.Goals as goal
 
@@ -18,12 +17,12 @@ returns-in-Some-shared_page-clause-shared g c =
     let good : IsAccepted c.args.goal = search rules in
     shared c.args.core.now.order c.args.goal c.args.core.now.system c.shared_page.result c.in-Some-shared_page.page none good c.in-Some-shared_page.is c.shared_page.ensures.least
 
-pub returns-in_default-room_for-clause-shared : goal.returns-in_default-room_for-clause-shared
-returns-in_default-room_for-clause-shared g c =
+pub returns-in_default-answers_for-clause-shared : goal.returns-in_default-answers_for-clause-shared
+returns-in_default-answers_for-clause-shared g c =
     unshared c.args.core.now.order c.args.goal _ c.args.core.now.system c.shared_page.result (λ n is. absurd (cc)) c.in_default-shared_page.not-Some c.shared_page.ensures.least
 
-pub returns-in_default-room_for-clause-no_memory : goal.returns-in_default-room_for-clause-no_memory
-returns-in_default-room_for-clause-no_memory g c is =
+pub returns-in_default-answers_for-clause-no_memory : goal.returns-in_default-answers_for-clause-no_memory
+returns-in_default-answers_for-clause-no_memory g c is =
     let none : c.args.core.now.order ≡ None = search rules in
     let good : IsAccepted c.args.goal = search rules in
     (none, good, private_where_none c.args.core.now.system c.shared_page.result c.in_default-shared_page.not-Some c.shared_page.ensures.none)
@@ -54,11 +53,7 @@ returns-in_default-visit_all-clause-no_memory g c is =
     (none, good, private_where_none c.args.core.now.system c.shared_page.result c.in_default-shared_page.not-Some c.shared_page.ensures.none)
 
 pub visit_all-requires-clause-open : goal.visit_all-requires-clause-open
-visit_all-requires-clause-open g c κs within part =
-    subst (λ (js : List Job). AreOpen part js c.in-Ok.told.items) (c.as_slice.ensures.value ∙ sym c.as_slice-2.ensures.value) (c.in-Ok.ensures.open part)
-
-pub visit_all-requires-clause-addresses : goal.visit_all-requires-clause-addresses
-visit_all-requires-clause-addresses g c κs within = subst (All FitsJob) (sym c.as_slice-2.ensures.value) c.requires.addresses
+visit_all-requires-clause-open g c κs within part = subst (λ (js : List Job). AreOpen part js c.in-Ok.told.items) c.as_slice.ensures.value (c.in-Ok.ensures.open part)
 
 pub returns-in_default-visit_all-clause-refused : goal.returns-in_default-visit_all-clause-refused
 returns-in_default-visit_all-clause-refused g c =

@@ -1,8 +1,8 @@
 use Rattle.std.specs.Prelude.{is_ok}
-use Rattle.std.proofs.Common.{◌≡◌, ◌∙◌, ap, sym, subst, arith, ℕ, ◌<◌, length, map, replicate, None}
+use Rattle.std.proofs.Common.{◌≡◌, ◌∙◌, ap, sym, subst, length, map}
+use Rattle.mt_bus.specs.declared.system_parts.SystemParts.{SystemParts}
 use Rattle.mt_regs.specs.RegisterFile.{RegisterFile}
-use Rattle.mt_machine.specs.Machine.{Calls, IsEnabled, Machine}
-use Rattle.mt_machine.specs.Start.{HasEraRoom, IsQuiet}
+use Rattle.mt_machine.specs.Machine.{Machine}
 use Rattle.mt_machine.specs.Update.{updated}
 use Rattle.mt_core.specs.Rounds.{in_order}
 use Rattle.mt_rendezvous.specs.declared.view.Start.{Start}
@@ -11,205 +11,99 @@ use Rattle.mt_rendezvous.specs.Update.{decided}
 use Rattle.mt_private.specs.declared.job.Part.TheVariants.{After}
 use Rattle.mt_private.specs.Gathered.{IsRest}
 use Rattle.mt_private.specs.Jobs.{ops_in}
-use Rattle.mt_private.specs.OneByOne.{at_rest, jobs_one_by_one, ran_each}
-use Rattle.mt_private.specs.Residents.{Opens}
-use Rattle.mt_private.proofs.Ended.{answers_after, answers_before, answers_stopped, callable_stopped, few_ended, left_given, left_stopped, many_ended, open_after, quiet_ended, quiet_stopped, room_stopped, some_stopped}
+use Rattle.mt_private.specs.OneByOne.{AreOneByOne, at_rest, ran_each}
+use Rattle.mt_private.specs.Residents.{Opens, system_of}
+use Rattle.mt_private.specs.Visitors.{CanGoOn}
+use Rattle.mt_private.proofs.Ended.{all_given, all_stopped, can_go_on, few_ended, quiet_ended}
 use Rattle.mt_private.proofs.Meeting.{all_back, waiting}
 use Rattle.mt_private.proofs.runs.visit_all.Goals as goal
 
-pub meet-outcome-requires-clause-fresh : goal.meet-outcome-requires-clause-fresh
-meet-outcome-requires-clause-fresh g c κs within =
-    let key = c.in-Some.ensures.key in (
-      c.in-Some.ensures.empty.0,
-      c.in-Some.ensures.empty.1 ∙ ap (λ (n : ℕ). replicate n None) (sym (ap (λ (u : Start). length u.cpus) key)),
-    )
+pub invariant_of-session-clause-same : goal.invariant_of-session-clause-same
+invariant_of-session-clause-same g c = sym (ap (λ (u : Start). u.goal) c.in-Some.ensures.gathered.key)
 
-pub meet-outcome-requires-clause-waiting : goal.meet-outcome-requires-clause-waiting
-meet-outcome-requires-clause-waiting g c κs within =
+pub invariant_of-session-clause-one_each : goal.invariant_of-session-clause-one_each
+invariant_of-session-clause-one_each g c = c.requires.processors ∙ sym (ap (λ (u : Start). length u.cpus) c.in-Some.ensures.gathered.key) ∙ c.in-Some.yard.counted
+
+pub visit_on_threads-outcome-requires-clause-hosts : goal.visit_on_threads-outcome-requires-clause-hosts
+visit_on_threads-outcome-requires-clause-hosts g c κs within = c.in-Some.ensures.gathered.hosts
+
+pub visit_on_threads-outcome-requires-clause-fresh : goal.visit_on_threads-outcome-requires-clause-fresh
+visit_on_threads-outcome-requires-clause-fresh g c κs within = c.in-Some.ensures.gathered.fresh
+
+pub visit_on_threads-outcome-requires-clause-waiting : goal.visit_on_threads-outcome-requires-clause-waiting
+visit_on_threads-outcome-requires-clause-waiting g c κs within =
     let t : Start = start_of c.in-Some.yard.table.shared.key in
-    let key = c.in-Some.ensures.key in
-    let size : length c.args.jobs.now ≡ length t.cpus = c.requires.processors ∙ sym (ap (λ (u : Start). length u.cpus) key) in
-    waiting c.in-Some.yard.table.shared.table_id t c.args.jobs.now c.in-Some.guests.items c.args.told.items (subst Opens (sym key) c.requires.opens) c.in-Some.ensures.guests
-    (c.in-Some.ensures.count ∙ sym (ap (λ (u : Start). length u.cpus) key)) size c.requires.one_each c.requires.addresses c.requires.open
-
-pub meet-outcome-requires-clause-few : goal.meet-outcome-requires-clause-few
-meet-outcome-requires-clause-few g c κs within =
-    let n = ap (λ (u : Start). length u.cpus) c.in-Some.ensures.key in
-    let m = c.in-Some.yard.counted in
-    let k = c.in-Some.ensures.count in
-    omega arith
-
-pub meet-outcome-requires-clause-goal : goal.meet-outcome-requires-clause-goal
-meet-outcome-requires-clause-goal g c κs within =
-    sym (ap (λ (u : Start). u.goal) c.in-Some.ensures.key)
+    let key = c.in-Some.ensures.gathered.key in
+    let size : length c.args.jobs.items ≡ length t.cpus = c.requires.processors ∙ sym (ap (λ (u : Start). length u.cpus) key) in
+    waiting c.in-Some.yard.table.shared.table_id t c.args.jobs.items c.in-Some.guests.items c.args.told.items (subst Opens (sym key) c.requires.opens) c.in-Some.ensures.gathered.guests_are
+    (c.in-Some.ensures.gathered.count ∙ sym (ap (λ (u : Start). length u.cpus) key)) size c.requires.one_each c.requires.addresses c.requires.open
 
 pub leave-requires-clause-hosts : goal.leave-requires-clause-hosts
 leave-requires-clause-hosts g c =
-    c.meet-outcome.ensures.returned.root
+    c.visit_on_threads-outcome.ensures.returned.root
 
 pub leave-requires-clause-back : goal.leave-requires-clause-back
 leave-requires-clause-back g c =
     let t : Start = start_of c.in-Some.yard.table.shared.key in
-    let key = c.in-Some.ensures.key in
-    let size : length c.args.jobs.now ≡ length t.cpus = c.requires.processors ∙ sym (ap (λ (u : Start). length u.cpus) key) in
-    let e = c.meet-outcome.result in
-    let long : length e.told.items ≡ length c.args.jobs.now = c.meet-outcome.ensures.count ∙ c.in-Some.ensures.count ∙ sym c.requires.processors in
-    all_back c.in-Some.yard.table.shared.table_id t c.args.jobs.now e.host.seat.table_id e.host.seat.me e.host.owns.items e.told.items c.meet-outcome.ensures.returned size long c.in-Some.yard.count c.in-Some.yard.counted
+    let key = c.in-Some.ensures.gathered.key in
+    let size : length c.args.jobs.items ≡ length t.cpus = c.requires.processors ∙ sym (ap (λ (u : Start). length u.cpus) key) in
+    let e = c.visit_on_threads-outcome.result in
+    let long : length e.told.items ≡ length c.args.jobs.items = c.visit_on_threads-outcome.ensures.count ∙ c.in-Some.ensures.gathered.count ∙ sym c.requires.processors in
+    all_back c.in-Some.yard.table.shared.table_id t c.args.jobs.items e.host.seat.table_id e.host.seat.me e.host.owns.items e.told.items c.visit_on_threads-outcome.ensures.returned size long c.in-Some.yard.count c.in-Some.yard.counted
 
 pub leave-requires-clause-rest : goal.leave-requires-clause-rest
 leave-requires-clause-rest g c =
-    let t : Start = start_of c.in-Some.yard.table.shared.key in
-    let key = c.in-Some.ensures.key in
-    subst (IsRest t) (sym c.meet-outcome.ensures.rest) c.in-Some.ensures.rest
+    let is = c.in-Some.ensures.gathered in
+    subst (λ (x : Start × SystemParts). IsRest x.0 x.1) (λ i. (sym is.key i, sym c.visit_on_threads-outcome.ensures.rest i)) is.rest
 
 pub rested-requires-clause-quiet : goal.rested-requires-clause-quiet
 rested-requires-clause-quiet g c =
     let t : Start = start_of c.in-Some.yard.table.shared.key in
-    let key = c.in-Some.ensures.key in
-    let size : length c.args.jobs.now ≡ length t.cpus = c.requires.processors ∙ sym (ap (λ (u : Start). length u.cpus) key) in
-    let e = c.meet-outcome.result in
-    let long : length e.told.items ≡ length c.args.jobs.now = c.meet-outcome.ensures.count ∙ c.in-Some.ensures.count ∙ sym c.requires.processors in
-    quiet_ended c.in-Some.yard.table.shared.table_id t c.args.jobs.now e.host.seat.table_id e.host.seat.me e.host.owns.items e.told.items c.meet-outcome.ensures.returned size long c.leave.result c.leave.ensures.leaves c.leave.ensures.owns (is_ok e.outcome) c.meet-outcome.ensures.go
+    let key = c.in-Some.ensures.gathered.key in
+    let size : length c.args.jobs.items ≡ length t.cpus = c.requires.processors ∙ sym (ap (λ (u : Start). length u.cpus) key) in
+    let e = c.visit_on_threads-outcome.result in
+    let long : length e.told.items ≡ length c.args.jobs.items = c.visit_on_threads-outcome.ensures.count ∙ c.in-Some.ensures.gathered.count ∙ sym c.requires.processors in
+    quiet_ended c.in-Some.yard.table.shared.table_id t c.args.jobs.items e.host.seat.table_id e.host.seat.me e.host.owns.items e.told.items c.visit_on_threads-outcome.ensures.returned size long c.leave.result c.leave.ensures.leaves c.leave.ensures.owns (is_ok e.outcome) c.visit_on_threads-outcome.ensures.go
 
 pub rested-requires-clause-few : goal.rested-requires-clause-few
 rested-requires-clause-few g c =
     let t : Start = start_of c.in-Some.yard.table.shared.key in
-    let key = c.in-Some.ensures.key in
-    let size : length c.args.jobs.now ≡ length t.cpus = c.requires.processors ∙ sym (ap (λ (u : Start). length u.cpus) key) in
-    let e = c.meet-outcome.result in
-    let long : length e.told.items ≡ length c.args.jobs.now = c.meet-outcome.ensures.count ∙ c.in-Some.ensures.count ∙ sym c.requires.processors in
-    few_ended c.in-Some.yard.table.shared.table_id t c.args.jobs.now e.host.seat.table_id e.host.seat.me e.host.owns.items e.told.items c.meet-outcome.ensures.returned size long c.leave.result c.leave.ensures.leaves c.leave.ensures.owns
+    let key = c.in-Some.ensures.gathered.key in
+    let size : length c.args.jobs.items ≡ length t.cpus = c.requires.processors ∙ sym (ap (λ (u : Start). length u.cpus) key) in
+    let e = c.visit_on_threads-outcome.result in
+    let long : length e.told.items ≡ length c.args.jobs.items = c.visit_on_threads-outcome.ensures.count ∙ c.in-Some.ensures.gathered.count ∙ sym c.requires.processors in
+    few_ended c.in-Some.yard.table.shared.table_id t c.args.jobs.items e.host.seat.table_id e.host.seat.me e.host.owns.items e.told.items c.visit_on_threads-outcome.ensures.returned size long c.leave.result c.leave.ensures.leaves c.leave.ensures.owns
 
-pub end_alone-requires-clause-quiet : goal.end_alone-requires-clause-quiet
-end_alone-requires-clause-quiet g c =
+pub update_and_access-requires : goal.update_and_access-requires
+update_and_access-requires g c =
     let t : Start = start_of c.in-Some.yard.table.shared.key in
-    let key = c.in-Some.ensures.key in
-    let size : length c.args.jobs.now ≡ length t.cpus = c.requires.processors ∙ sym (ap (λ (u : Start). length u.cpus) key) in
-    let e = c.meet-outcome.result in
-    let long : length e.told.items ≡ length c.args.jobs.now = c.meet-outcome.ensures.count ∙ c.in-Some.ensures.count ∙ sym c.requires.processors in
-    subst IsQuiet (sym c.rested.ensures) (quiet_stopped c.in-Some.yard.table.shared.table_id t c.args.jobs.now e.host.seat.table_id e.host.seat.me e.host.owns.items e.told.items c.meet-outcome.ensures.returned size long c.leave.result c.leave.ensures.leaves c.leave.ensures.owns (c.meet-outcome.ensures.go ∙ ap decided (ap is_ok c.in-Err.is)))
+    let key = c.in-Some.ensures.gathered.key in
+    let size : length c.args.jobs.items ≡ length t.cpus = c.requires.processors ∙ sym (ap (λ (u : Start). length u.cpus) key) in
+    let e = c.visit_on_threads-outcome.result in
+    let long : length e.told.items ≡ length c.args.jobs.items = c.visit_on_threads-outcome.ensures.count ∙ c.in-Some.ensures.gathered.count ∙ sym c.requires.processors in
+    subst (λ (x : Machine × RegisterFile). CanGoOn x.0 x.1 c.args.jobs.items e.told.items) (λ i. (sym c.rested.ensures i, (key i).goal))
+    (can_go_on c.in-Some.yard.table.shared.table_id t c.args.jobs.items e.host.seat.table_id e.host.seat.me e.host.owns.items e.told.items c.visit_on_threads-outcome.ensures.returned size long c.leave.result c.leave.ensures.leaves c.leave.ensures.owns (c.visit_on_threads-outcome.ensures.go ∙ ap decided (ap is_ok c.in-Err.is)) c.requires.addresses)
 
-pub end_alone-requires-clause-callable : goal.end_alone-requires-clause-callable
-end_alone-requires-clause-callable g c =
+pub returns-in-Ok-clause-done : goal.returns-in-Ok-clause-done
+returns-in-Ok-clause-done g c =
     let t : Start = start_of c.in-Some.yard.table.shared.key in
-    let key = c.in-Some.ensures.key in
-    let size : length c.args.jobs.now ≡ length t.cpus = c.requires.processors ∙ sym (ap (λ (u : Start). length u.cpus) key) in
-    let e = c.meet-outcome.result in
-    let long : length e.told.items ≡ length c.args.jobs.now = c.meet-outcome.ensures.count ∙ c.in-Some.ensures.count ∙ sym c.requires.processors in
-    let goal_is : c.args.goal.now ≡ t.goal = sym (ap (λ (u : Start). u.goal) key) in
-    subst (λ (x : Machine × RegisterFile). IsEnabled x.0 (Calls x.1)) (λ i. (sym c.rested.ensures i, sym goal_is i))
-    (callable_stopped c.in-Some.yard.table.shared.table_id t c.args.jobs.now e.host.seat.table_id e.host.seat.me e.host.owns.items e.told.items c.meet-outcome.ensures.returned size long c.leave.result c.leave.ensures.leaves c.leave.ensures.owns (c.meet-outcome.ensures.go ∙ ap decided (ap is_ok c.in-Err.is)))
+    let key = c.in-Some.ensures.gathered.key in
+    let size : length c.args.jobs.items ≡ length t.cpus = c.requires.processors ∙ sym (ap (λ (u : Start). length u.cpus) key) in
+    let e = c.visit_on_threads-outcome.result in
+    let long : length e.told.items ≡ length c.args.jobs.items = c.visit_on_threads-outcome.ensures.count ∙ c.in-Some.ensures.gathered.count ∙ sym c.requires.processors in
+    subst (λ (x : Start × Machine). AreOneByOne (system_of x.0) x.0.goal c.args.jobs.items x.1 e.told.items) (λ i. (key i, sym c.rested.ensures i))
+    (all_given c.in-Some.yard.table.shared.table_id t c.args.jobs.items e.host.seat.table_id e.host.seat.me e.host.owns.items e.told.items c.visit_on_threads-outcome.ensures.returned size long c.leave.result c.leave.ensures.leaves c.leave.ensures.owns (c.visit_on_threads-outcome.ensures.go ∙ ap decided (ap is_ok c.in-Ok.is)))
 
-pub end_alone-requires-clause-some : goal.end_alone-requires-clause-some
-end_alone-requires-clause-some g c =
+pub returns-clause-done : goal.returns-clause-done
+returns-clause-done g c =
     let t : Start = start_of c.in-Some.yard.table.shared.key in
-    let key = c.in-Some.ensures.key in
-    let size : length c.args.jobs.now ≡ length t.cpus = c.requires.processors ∙ sym (ap (λ (u : Start). length u.cpus) key) in
-    let e = c.meet-outcome.result in
-    let long : length e.told.items ≡ length c.args.jobs.now = c.meet-outcome.ensures.count ∙ c.in-Some.ensures.count ∙ sym c.requires.processors in
-    subst (λ (m : Machine). 0 < length m.system.processors) (sym c.rested.ensures) (some_stopped c.in-Some.yard.table.shared.table_id t c.args.jobs.now e.host.seat.table_id e.host.seat.me e.host.owns.items e.told.items c.meet-outcome.ensures.returned size long c.leave.result c.leave.ensures.leaves c.leave.ensures.owns (c.meet-outcome.ensures.go ∙ ap decided (ap is_ok c.in-Err.is)))
-
-pub end_alone-requires-clause-room : goal.end_alone-requires-clause-room
-end_alone-requires-clause-room g c =
-    let t : Start = start_of c.in-Some.yard.table.shared.key in
-    let key = c.in-Some.ensures.key in
-    let size : length c.args.jobs.now ≡ length t.cpus = c.requires.processors ∙ sym (ap (λ (u : Start). length u.cpus) key) in
-    let e = c.meet-outcome.result in
-    let long : length e.told.items ≡ length c.args.jobs.now = c.meet-outcome.ensures.count ∙ c.in-Some.ensures.count ∙ sym c.requires.processors in
-    subst HasEraRoom (sym c.rested.ensures) (room_stopped c.in-Some.yard.table.shared.table_id t c.args.jobs.now e.host.seat.table_id e.host.seat.me e.host.owns.items e.told.items c.meet-outcome.ensures.returned size long c.leave.result c.leave.ensures.leaves c.leave.ensures.owns (c.meet-outcome.ensures.go ∙ ap decided (ap is_ok c.in-Err.is)))
-
-pub end_alone-requires-clause-few : goal.end_alone-requires-clause-few
-end_alone-requires-clause-few g c =
-    let few = c.requires.opens.few in
-    let n = c.requires.processors in
-    omega arith
-
-pub end_alone-requires-clause-processors : goal.end_alone-requires-clause-processors
-end_alone-requires-clause-processors g c =
-    let t : Start = start_of c.in-Some.yard.table.shared.key in
-    let key = c.in-Some.ensures.key in
-    let size : length c.args.jobs.now ≡ length t.cpus = c.requires.processors ∙ sym (ap (λ (u : Start). length u.cpus) key) in
-    let e = c.meet-outcome.result in
-    let long : length e.told.items ≡ length c.args.jobs.now = c.meet-outcome.ensures.count ∙ c.in-Some.ensures.count ∙ sym c.requires.processors in
-    size ∙ sym (ap (λ (m : Machine). length m.system.processors) c.rested.ensures ∙ many_ended c.in-Some.yard.table.shared.table_id t c.args.jobs.now e.host.seat.table_id e.host.seat.me e.host.owns.items e.told.items c.meet-outcome.ensures.returned size long c.leave.result c.leave.ensures.leaves c.leave.ensures.owns)
-
-pub end_alone-requires-clause-one_each : goal.end_alone-requires-clause-one_each
-end_alone-requires-clause-one_each g c =
-    c.meet-outcome.ensures.count ∙ c.in-Some.ensures.count ∙ sym c.requires.processors
-
-pub end_alone-requires-clause-open : goal.end_alone-requires-clause-open
-end_alone-requires-clause-open g c =
-    let t : Start = start_of c.in-Some.yard.table.shared.key in
-    let key = c.in-Some.ensures.key in
-    let size : length c.args.jobs.now ≡ length t.cpus = c.requires.processors ∙ sym (ap (λ (u : Start). length u.cpus) key) in
-    let e = c.meet-outcome.result in
-    let long : length e.told.items ≡ length c.args.jobs.now = c.meet-outcome.ensures.count ∙ c.in-Some.ensures.count ∙ sym c.requires.processors in
-    open_after c.in-Some.yard.table.shared.table_id t c.args.jobs.now e.host.seat.table_id e.host.seat.me e.host.owns.items e.told.items c.meet-outcome.ensures.returned size long c.leave.result c.leave.ensures.leaves c.leave.ensures.owns (c.meet-outcome.ensures.go ∙ ap decided (ap is_ok c.in-Err.is))
-
-pub returns-in-Ok-clause-left : goal.returns-in-Ok-clause-left
-returns-in-Ok-clause-left g c =
-    let t : Start = start_of c.in-Some.yard.table.shared.key in
-    let key = c.in-Some.ensures.key in
-    let size : length c.args.jobs.now ≡ length t.cpus = c.requires.processors ∙ sym (ap (λ (u : Start). length u.cpus) key) in
-    let e = c.meet-outcome.result in
-    let long : length e.told.items ≡ length c.args.jobs.now = c.meet-outcome.ensures.count ∙ c.in-Some.ensures.count ∙ sym c.requires.processors in
-    c.rested.ensures
-    ∙ ap at_rest (left_given c.in-Some.yard.table.shared.table_id t c.args.jobs.now e.host.seat.table_id e.host.seat.me e.host.owns.items e.told.items c.meet-outcome.ensures.returned size long c.leave.result c.leave.ensures.leaves c.leave.ensures.owns (c.meet-outcome.ensures.go ∙ ap decided (ap is_ok c.in-Ok.is)))
-    ∙ ap (λ (u : Start). (jobs_one_by_one (record { processors = u.cpus; memory = u.ram }) u.goal c.args.jobs.now).left) key
-
-pub returns-in-Ok-clause-before : goal.returns-in-Ok-clause-before
-returns-in-Ok-clause-before g c =
-    let t : Start = start_of c.in-Some.yard.table.shared.key in
-    let key = c.in-Some.ensures.key in
-    let size : length c.args.jobs.now ≡ length t.cpus = c.requires.processors ∙ sym (ap (λ (u : Start). length u.cpus) key) in
-    let e = c.meet-outcome.result in
-    let long : length e.told.items ≡ length c.args.jobs.now = c.meet-outcome.ensures.count ∙ c.in-Some.ensures.count ∙ sym c.requires.processors in
-    answers_before c.in-Some.yard.table.shared.table_id t c.args.jobs.now e.host.seat.table_id e.host.seat.me e.host.owns.items e.told.items c.meet-outcome.ensures.returned size long c.leave.result c.leave.ensures.leaves c.leave.ensures.owns
-    ∙ ap (λ (u : Start). (jobs_one_by_one (record { processors = u.cpus; memory = u.ram }) u.goal c.args.jobs.now).before) key
-
-pub returns-in-Ok-clause-after : goal.returns-in-Ok-clause-after
-returns-in-Ok-clause-after g c =
-    let t : Start = start_of c.in-Some.yard.table.shared.key in
-    let key = c.in-Some.ensures.key in
-    let size : length c.args.jobs.now ≡ length t.cpus = c.requires.processors ∙ sym (ap (λ (u : Start). length u.cpus) key) in
-    let e = c.meet-outcome.result in
-    let long : length e.told.items ≡ length c.args.jobs.now = c.meet-outcome.ensures.count ∙ c.in-Some.ensures.count ∙ sym c.requires.processors in
-    answers_after c.in-Some.yard.table.shared.table_id t c.args.jobs.now e.host.seat.table_id e.host.seat.me e.host.owns.items e.told.items c.meet-outcome.ensures.returned size long c.leave.result c.leave.ensures.leaves c.leave.ensures.owns (c.meet-outcome.ensures.go ∙ ap decided (ap is_ok c.in-Ok.is))
-    ∙ ap (λ (u : Start). (jobs_one_by_one (record { processors = u.cpus; memory = u.ram }) u.goal c.args.jobs.now).after) key
-
-pub returns-in-Err-clause-left : goal.returns-in-Err-clause-left
-returns-in-Err-clause-left g c =
-    let t : Start = start_of c.in-Some.yard.table.shared.key in
-    let key = c.in-Some.ensures.key in
-    let size : length c.args.jobs.now ≡ length t.cpus = c.requires.processors ∙ sym (ap (λ (u : Start). length u.cpus) key) in
-    let e = c.meet-outcome.result in
-    let long : length e.told.items ≡ length c.args.jobs.now = c.meet-outcome.ensures.count ∙ c.in-Some.ensures.count ∙ sym c.requires.processors in
-    let goal_is : c.args.goal.now ≡ t.goal = sym (ap (λ (u : Start). u.goal) key) in
-    c.end_alone.ensures.left
-    ∙ ap (λ (x : Machine × RegisterFile). at_rest (ran_each 0 (map (ops_in After) c.args.jobs.now) (updated x.0.system (in_order x.0) x.1).system).after) (λ i. (c.rested.ensures i, goal_is i))
-    ∙ left_stopped c.in-Some.yard.table.shared.table_id t c.args.jobs.now e.host.seat.table_id e.host.seat.me e.host.owns.items e.told.items c.meet-outcome.ensures.returned size long c.leave.result c.leave.ensures.leaves c.leave.ensures.owns (c.meet-outcome.ensures.go ∙ ap decided (ap is_ok c.in-Err.is))
-    ∙ ap (λ (u : Start). (jobs_one_by_one (record { processors = u.cpus; memory = u.ram }) u.goal c.args.jobs.now).left) key
-
-pub returns-in-Err-clause-before : goal.returns-in-Err-clause-before
-returns-in-Err-clause-before g c =
-    let t : Start = start_of c.in-Some.yard.table.shared.key in
-    let key = c.in-Some.ensures.key in
-    let size : length c.args.jobs.now ≡ length t.cpus = c.requires.processors ∙ sym (ap (λ (u : Start). length u.cpus) key) in
-    let e = c.meet-outcome.result in
-    let long : length e.told.items ≡ length c.args.jobs.now = c.meet-outcome.ensures.count ∙ c.in-Some.ensures.count ∙ sym c.requires.processors in
-    c.end_alone.ensures.before
-    ∙ answers_before c.in-Some.yard.table.shared.table_id t c.args.jobs.now e.host.seat.table_id e.host.seat.me e.host.owns.items e.told.items c.meet-outcome.ensures.returned size long c.leave.result c.leave.ensures.leaves c.leave.ensures.owns
-    ∙ ap (λ (u : Start). (jobs_one_by_one (record { processors = u.cpus; memory = u.ram }) u.goal c.args.jobs.now).before) key
-
-pub returns-in-Err-clause-after : goal.returns-in-Err-clause-after
-returns-in-Err-clause-after g c =
-    let t : Start = start_of c.in-Some.yard.table.shared.key in
-    let key = c.in-Some.ensures.key in
-    let size : length c.args.jobs.now ≡ length t.cpus = c.requires.processors ∙ sym (ap (λ (u : Start). length u.cpus) key) in
-    let e = c.meet-outcome.result in
-    let long : length e.told.items ≡ length c.args.jobs.now = c.meet-outcome.ensures.count ∙ c.in-Some.ensures.count ∙ sym c.requires.processors in
-    let goal_is : c.args.goal.now ≡ t.goal = sym (ap (λ (u : Start). u.goal) key) in
-    c.end_alone.ensures.after
-    ∙ ap (λ (x : Machine × RegisterFile). (ran_each 0 (map (ops_in After) c.args.jobs.now) (updated x.0.system (in_order x.0) x.1).system).answers) (λ i. (c.rested.ensures i, goal_is i))
-    ∙ answers_stopped c.in-Some.yard.table.shared.table_id t c.args.jobs.now e.host.seat.table_id e.host.seat.me e.host.owns.items e.told.items c.meet-outcome.ensures.returned size long c.leave.result c.leave.ensures.leaves c.leave.ensures.owns (c.meet-outcome.ensures.go ∙ ap decided (ap is_ok c.in-Err.is))
-    ∙ ap (λ (u : Start). (jobs_one_by_one (record { processors = u.cpus; memory = u.ram }) u.goal c.args.jobs.now).after) key
+    let key = c.in-Some.ensures.gathered.key in
+    let size : length c.args.jobs.items ≡ length t.cpus = c.requires.processors ∙ sym (ap (λ (u : Start). length u.cpus) key) in
+    let e = c.visit_on_threads-outcome.result in
+    let long : length e.told.items ≡ length c.args.jobs.items = c.visit_on_threads-outcome.ensures.count ∙ c.in-Some.ensures.gathered.count ∙ sym c.requires.processors in
+    let goal_is : c.args.goal ≡ t.goal = sym (ap (λ (u : Start). u.goal) key) in
+    subst (λ (u : Start). AreOneByOne (system_of u) u.goal c.args.jobs.items c.update_and_access.new.core c.update_and_access.new.told.items) key
+    (all_stopped c.in-Some.yard.table.shared.table_id t c.args.jobs.items e.host.seat.table_id e.host.seat.me e.host.owns.items e.told.items c.visit_on_threads-outcome.ensures.returned size long c.leave.result c.leave.ensures.leaves c.leave.ensures.owns (c.visit_on_threads-outcome.ensures.go ∙ ap decided (ap is_ok c.in-Err.is)) c.update_and_access.new.core c.update_and_access.new.told.items
+    (c.update_and_access.ensures.left ∙ ap (λ (x : Machine × RegisterFile). at_rest (ran_each 0 (map (ops_in After) c.args.jobs.items) (updated x.0.system (in_order x.0) x.1).system).after) (λ i. (c.rested.ensures i, goal_is i)))
+    (c.update_and_access.ensures.after ∙ ap (λ (x : Machine × RegisterFile). (ran_each 0 (map (ops_in After) c.args.jobs.items) (updated x.0.system (in_order x.0) x.1).system).answers) (λ i. (c.rested.ensures i, goal_is i)))
+    c.update_and_access.ensures.before)

@@ -2,4 +2,4 @@ use Rattle.std.specs.Prelude.{length}
 use Rattle.mt_private.proofs.threads.+leave_all.Given as goal
 
 abbrev pub decreases-leave_all : goal.decreases-leave_all
-decreases-leave_all g l = length l.waiting.now.items
+decreases-leave_all g l = length l.queue.now.waiting.items

@@ -51,8 +51,8 @@ returns-clause-reached c = λ law key is. (opened_lodging key is, law key (first
 pub returns-clause-one : goal.returns-clause-one
 returns-clause-one c = λ law key m n. law key (first_state key) m n
 
-pub returns-clause-says : goal.returns-clause-says
-returns-clause-says c = λ law key is.
+pub returns-clause-decides : goal.returns-clause-decides
+returns-clause-decides c = λ law key is.
     let m = opened_lodging key is in (
       m,
       law key (first_state key) m 0 1 (first_yard_view key) Given Goes refl refl (omega arith) refl (unsaid key m)

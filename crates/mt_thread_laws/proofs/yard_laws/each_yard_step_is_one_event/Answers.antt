@@ -12,8 +12,8 @@ returns-clause-shown c = shown_is_found
 pub returns-clause-moves : goal.returns-clause-moves
 returns-clause-moves c = placed
 
-pub returns-clause-says : goal.returns-clause-says
-returns-clause-says c = says
+pub returns-clause-decides : goal.returns-clause-decides
+returns-clause-decides c = says
 
 pub returns-clause-split : goal.returns-clause-split
 returns-clause-split c = splits

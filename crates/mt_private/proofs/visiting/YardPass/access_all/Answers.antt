@@ -1,8 +1,9 @@
-use Rattle.std.proofs.Common.{◌∙◌, ap, sym, refl, append_assoc, rules, ◌+◌, ◌++◌, ◌∷◌, [], List, drop, length}
+use Rattle.std.proofs.Common.{◌∙◌, ap, sym, refl, append_assoc, rules, ◌+◌, ◌++◌, ◌∷◌, [], List, drop, length, inl, inr, ⊎_elim}
 use Rattle.mt_machine.specs.declared.done.Done.{Done}
 use Rattle.mt_machine.specs.declared.op.Op.{Op}
 use Rattle.mt_machine.specs.Access.{access}
 use Rattle.mt_machine.specs.Machine.{Machine}
+use Rattle.mt_private.specs.InYard.{HasNotTaken, IsReleased}
 use Rattle.mt_private.specs.OneByOne.{Ran, ran}
 use Rattle.mt_private.specs.YardCalls.{done_in}
 use Rattle.mt_private.proofs.Accessed.{ran_more}
@@ -11,10 +12,9 @@ use Rattle.mt_private.proofs.visiting.YardPass.access_all.Goals as goal
 
 pub loop-i-init : goal.loop-i-init
 loop-i-init c = record {
-  lodges = λ added again r. r;
-  runs = c.requires.runs;
+  not_taken = λ h. h;
+  released = λ h. h;
   done = refl;
-  shown = refl;
   number = refl;
   after = refl;
   order = refl;
@@ -23,8 +23,13 @@ loop-i-init c = record {
   room = c.requires.room;
 }
 
-pub access-requires-clause-lodges : goal.access-requires-clause-lodges
-access-requires-clause-lodges c = let r = c.requires.lodges in (r.0, r.1, c.loop-i.invariant.lodges r.0 r.1 r.2)
+pub access-requires-clause-outside : goal.access-requires-clause-outside
+access-requires-clause-outside c =
+    let inv = c.loop-i.invariant in
+    ⊎_elim
+    (λ (h : HasNotTaken c.args.yard.now c.args.self.now c.args.core.now). inl (inv.not_taken h))
+    (λ (h : IsReleased c.args.yard.now c.args.self.now c.args.core.now). inr (inv.released h))
+    c.requires.outside
 
 pub loop-i-preserved : goal.loop-i-preserved
 loop-i-preserved c =
@@ -34,12 +39,11 @@ loop-i-preserved c =
     let op = c.op_at.result in
     let more = ran_more 0 ops c.loop-i.i op before c.op_at.ensures.at in
     record {
-      lodges = λ added again r. c.access.ensures.lodges added again (c.loop-i.invariant.lodges added again r);
-      runs = c.access.ensures.runs;
+      not_taken = λ h. c.access.ensures.not_taken (c.loop-i.invariant.not_taken h);
+      released = λ h. c.access.ensures.released (c.loop-i.invariant.released h);
       done =
           ap (λ (xs : List Op). xs ++ rest) c.access.ensures.done ∙ append_assoc (done_in c.loop-i.self.seat.me) (op ∷ []) rest
           ∙ sym (ap (λ (xs : List Op). done_in c.loop-i.self.seat.me ++ xs) (drop_at ops c.loop-i.i op c.op_at.ensures.at)) ∙ c.loop-i.invariant.done;
-      shown = c.access.ensures.shown ∙ c.loop-i.invariant.shown;
       number = c.access.ensures.number ∙ c.loop-i.invariant.number;
       after =
           ap (λ (m : Machine). (ran 0 rest m.system).after) c.access.ensures.after

@@ -1,7 +1,8 @@
-use Rattle.std.proofs.Common.{◌≡◌, ◌∙◌, refl, ap, sym, arith, true, false, [], ◌∷◌, inr}
+use Rattle.std.proofs.Common.{◌≡◌, ◌∙◌, refl, ap, sym, arith, true, false, [], ◌∷◌, inl, inr}
 use Rattle.mt_machine.specs.declared.phase.Phase.TheVariants.{Arrived, Taken}
 use Rattle.mt_machine.specs.declared.event.Event.TheVariants.{Arrive}
 use Rattle.mt_machine.specs.declared.go.Go.TheVariants.{Given, Pending}
+use Rattle.mt_machine.specs.System.{System}
 use Rattle.mt_machine.specs.Machine.{Machine}
 use Rattle.mt_laws.proofs.Barrier.Stages.{Stage}
 use Rattle.mt_rendezvous.specs.Station.{start_of}
@@ -16,80 +17,75 @@ use Rattle.mt_private.proofs.visiting.YardPass.arrive.Goals as goal
 
 pub fetch_add-found-requires : goal.fetch_add-found-requires
 fetch_add-found-requires c =
-    let r = c.requires.visits.1.lodges in
+    let r = c.requires.taken.1.visits.lodges in
     let w = c.args.yard.now.wide in
-    (r.same, omega arith, arrives_yard c.args.yard.now.table.shared.key _ _ c.args.self.now.seat.me (its_guest r) r.holds c.args.self.now.no_root refl refl (its_phase Taken c.args.core.now.system r.cpu r.alone c.requires.taken))
+    (r.same, omega arith, arrives_yard c.args.yard.now.table.shared.key _ _ c.args.self.now.seat.me (its_guest r) r.holds c.args.self.now.no_root refl refl (its_phase Taken c.args.core.now.system r.cpu r.alone c.requires.taken.1.phase))
 
 pub of-token-requires : goal.of-token-requires
 of-token-requires c =
-    let r = c.requires.visits.1.lodges in
-    arrives_added r _ _ (arrives_of r c.args.self.now.no_root _ _ c.fetch_add-found.new.seat.me c.fetch_add-found.ensures.2)
+    let r = c.requires.taken.1.visits.lodges in
+    record { added = arrives_added r _ _ (arrives_of r c.args.self.now.no_root _ _ c.fetch_add-found.new.seat.me c.fetch_add-found.ensures.2) }
 
 pub invariant_of-self-clause-known : goal.invariant_of-self-clause-known
 invariant_of-self-clause-known c =
-    let r = c.requires.visits.1.lodges in
+    let r = c.requires.taken.1.visits.lodges in
     c.args.self.now.known ∙ sym (arrives_kept r _ _ (arrives_of r c.args.self.now.no_root _ _ c.fetch_add-found.new.seat.me c.fetch_add-found.ensures.2)).0
 
 pub invariant_of-self-clause-no_root : goal.invariant_of-self-clause-no_root
 invariant_of-self-clause-no_root c =
-    let r = c.requires.visits.1.lodges in
+    let r = c.requires.taken.1.visits.lodges in
     (arrives_kept r _ _ (arrives_of r c.args.self.now.no_root _ _ c.fetch_add-found.new.seat.me c.fetch_add-found.ensures.2)).1 ∙ c.args.self.now.no_root
 
 pub returns-then-found-lt-CANCEL-clause-done : goal.returns-then-found-lt-CANCEL-clause-done
 returns-then-found-lt-CANCEL-clause-done c =
-    let r = c.requires.visits.1.lodges in
+    let r = c.requires.taken.1.visits.lodges in
     let turn = (arrives_of r c.args.self.now.no_root _ _ c.fetch_add-found.new.seat.me c.fetch_add-found.ensures.2).1 c.if-found-lt-CANCEL.true (its_guest r) r.holds in
     has_done r c.fetch_add-found.new.seat.me _ _ _ turn.0
 
-pub returns-then-found-lt-CANCEL-clause-visits : goal.returns-then-found-lt-CANCEL-clause-visits
-returns-then-found-lt-CANCEL-clause-visits c first v =
+pub returns-then-found-lt-CANCEL-clause-arrived : goal.returns-then-found-lt-CANCEL-clause-arrived
+returns-then-found-lt-CANCEL-clause-arrived c first h =
+    let v = h.visits in
     let r = v.lodges in
     let e = c.fetch_add-found.ensures in
     let play = arrives_of r c.args.self.now.no_root _ _ c.fetch_add-found.new.seat.me c.fetch_add-found.ensures.2 in
     let t = start_of c.args.yard.now.table.shared.key in
+    let s : System = c.args.core.now.system in
     let new = c.fetch_add-found.new.seat.me in
     let me = c.args.self.now.seat.me in
-    let taken = its_phase Taken c.args.core.now.system r.cpu r.alone c.requires.taken in
+    let taken = its_phase Taken s r.cpu r.alone h.phase in
     let turn : new.0 ≡ with_one me.0 (with_held (its_guest r) (arrive t (its_guest r).held)) me.0.shown me.0.cancel =
     of_guest r (λ u y. new.0 ≡ with_one me.0 (with_held y (arrive u y.held)) me.0.shown me.0.cancel) (λ y same. (play.1 c.if-found-lt-CANCEL.true y same).0) in
-    let o = onward t Pending c.args.core.now.system r.cpu Arrive c.args.core.now c.step.new.self (core_is v) c.step.ensures.after r.alone (its_era v) (due_arrive t Pending (r.cpu ∷ []) r.cpu taken (λ h. absurd (cc))) refl refl in
-    visits_on v Pending Arrive c.step.new.self _ new (with_held (its_guest r) (arrive t (its_guest r).held)) _ _ true false o (due_arrive t Given (r.cpu ∷ []) r.cpu taken (λ h. absurd (cc))) e.0 play.0 turn
-    (shifted_is r Arrive true false o.q.cpu refl o.q.alone)
-
-pub returns-then-found-lt-CANCEL-clause-waits : goal.returns-then-found-lt-CANCEL-clause-waits
-returns-then-found-lt-CANCEL-clause-waits c =
-    let v = c.requires.visits.1 in
-    let r = v.lodges in
-    let t = start_of c.args.yard.now.table.shared.key in
-    let taken = its_phase Taken c.args.core.now.system r.cpu r.alone c.requires.taken in
-    let o = onward t Pending c.args.core.now.system r.cpu Arrive c.args.core.now c.step.new.self (core_is v) c.step.ensures.after r.alone (its_era v) (due_arrive t Pending (r.cpu ∷ []) r.cpu taken (λ h. absurd (cc))) refl refl in
-    inr (in_its_phase Arrived c.step.new.self.system o.q.cpu (ap (λ (m : Machine). m.system.processors) o.is ∙ o.q.alone) (ap (λ (x : Stage). x.0) o.q.stage))
-
-pub returns-then-found-lt-CANCEL-clause-taken : goal.returns-then-found-lt-CANCEL-clause-taken
-returns-then-found-lt-CANCEL-clause-taken c first has =
-    let v = c.requires.visits.1 in
-    let r = v.lodges in
-    let t = start_of c.args.yard.now.table.shared.key in
-    let taken = its_phase Taken c.args.core.now.system r.cpu r.alone c.requires.taken in
-    let o = onward t Pending c.args.core.now.system r.cpu Arrive c.args.core.now c.step.new.self (core_is v) c.step.ensures.after r.alone (its_era v) (due_arrive t Pending (r.cpu ∷ []) r.cpu taken (λ h. absurd (cc))) refl refl in
-    (Arrived, ap (λ (m : Machine). m.system) o.is ∙ taken_on Arrived first c.args.core.now.system r.cpu r.alone has)
+    let o = onward t Pending s r.cpu Arrive c.args.core.now c.step.new.self (core_is v) c.step.ensures.after r.alone (its_era v) (due_arrive t Pending (r.cpu ∷ []) r.cpu taken (λ h. absurd (cc))) refl refl in
+    record {
+      visits = visits_on v Pending Arrive c.step.new.self _ new (with_held (its_guest r) (arrive t (its_guest r).held)) _ _ true false o (due_arrive t Given (r.cpu ∷ []) r.cpu taken (λ h. absurd (cc))) e.0 play.0 turn
+          (shifted_is r Arrive true false o.q.cpu refl o.q.alone);
+      phase = inr (in_its_phase Arrived c.step.new.self.system o.q.cpu (ap (λ (m : Machine). m.system.processors) o.is ∙ o.q.alone) (ap (λ (x : Stage). x.0) o.q.stage));
+      drained = (Arrived, ap (λ (m : Machine). m.system) o.is ∙ taken_on Arrived first s r.cpu r.alone h.drained);
+    }
 
 pub returns-clause-done : goal.returns-clause-done
 returns-clause-done c =
-    let r = c.requires.visits.1.lodges in
+    let r = c.requires.taken.1.visits.lodges in
     let turn = (arrives_of r c.args.self.now.no_root _ _ c.fetch_add-found.new.seat.me c.fetch_add-found.ensures.2).2 (let high = c.if-found-lt-CANCEL.false in omega arith) (its_guest r) r.holds in
     has_done r c.fetch_add-found.new.seat.me _ _ _ turn.0
 
-pub returns-clause-visits : goal.returns-clause-visits
-returns-clause-visits c first v =
+pub returns-clause-arrived : goal.returns-clause-arrived
+returns-clause-arrived c first h =
+    let v = h.visits in
     let r = v.lodges in
     let e = c.fetch_add-found.ensures in
     let play = arrives_of r c.args.self.now.no_root _ _ c.fetch_add-found.new.seat.me c.fetch_add-found.ensures.2 in
     let turn = play.2 (let high = c.if-found-lt-CANCEL.false in omega arith) (its_guest r) r.holds in
     record {
-      lodges = carried r _ c.fetch_add-found.new.seat.me (with_held (its_guest r) (late (its_guest r).held)) _ _ c.args.core.now.system r.cpu true false e.0 play.0 turn.0 r.alone refl;
-      order = v.order;
-      era = v.era;
-      one = v.one;
-      rounds = v.rounds;
+      visits = record {
+        lodges = carried r _ c.fetch_add-found.new.seat.me (with_held (its_guest r) (late (its_guest r).held)) _ _ c.args.core.now.system r.cpu true false e.0 play.0 turn.0 r.alone refl;
+        order = v.order;
+        era = v.era;
+        one = v.one;
+        quiet = v.quiet;
+        enabled = v.enabled;
+        rounds = v.rounds;
+      };
+      phase = inl h.phase;
+      drained = h.drained;
     }

@@ -1,13 +1,11 @@
-use Rattle.std.proofs.Common.{◌≡◌, true, false}
-use Rattle.mt_machine.specs.declared.go.Go.TheVariants.{Pending}
-use Rattle.mt_private.specs.InYard.{KeepsVisit, VisitsIn}
-use Rattle.mt_private.specs.YardCalls.{done_in}
+use Rattle.std.proofs.Common.{◌≡◌}
+use Rattle.mt_machine.specs.System.{System}
+use Rattle.mt_private.specs.InYard.{HasArrived, done_of}
 use Rattle.mt_private.proofs.visiting.YardPass.wait_first.Given as goal
 
 abbrev pub invariant-loop : goal.invariant-loop
 invariant-loop g l = record {
-  visits : KeepsVisit (VisitsIn l.yard l.fn.self l.fn.core true false Pending) (VisitsIn l.yard l.self l.core true false Pending);
-  core : l.core ≡ l.fn.core;
+  arrived : (first : System) → HasArrived l.yard l.fn.self l.fn.core first → HasArrived l.yard l.self l.core first;
   number : l.self.number ≡ l.fn.self.number;
-  done : done_in l.self.seat.me ≡ done_in l.fn.self.seat.me;
+  done : done_of l.self ≡ done_of l.fn.self;
 }

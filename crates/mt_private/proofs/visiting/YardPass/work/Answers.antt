@@ -33,8 +33,8 @@ local_at s p ph alone here local = ap is_local (its_phase ph s p alone here) ∙
 
 pub store-requires : goal.store-requires
 store-requires c =
-    let r = c.requires.visits.1.lodges in
-    let b = c.requires.between in
+    let r = c.requires.between.1.visits.lodges in
+    let b = c.requires.local in
     let w = c.args.yard.now.wide in
     let n = c.args.yard.now.counted in
     let below = r.below in
@@ -42,22 +42,23 @@ store-requires c =
 
 pub invariant_of-self-clause-known : goal.invariant_of-self-clause-known
 invariant_of-self-clause-known c =
-    let r = c.requires.visits.1.lodges in
+    let r = c.requires.between.1.visits.lodges in
     sym (has_stored r c.store.new.seat.me _ _ _ ((works_of r c.args.self.now.no_root _ _ _ refl c.store.new.seat.me c.store.ensures.2).1 (its_guest r) r.holds).0)
 
 pub invariant_of-self-clause-no_root : goal.invariant_of-self-clause-no_root
 invariant_of-self-clause-no_root c =
-    let r = c.requires.visits.1.lodges in
+    let r = c.requires.between.1.visits.lodges in
     ap (λ (v : YardView). v.root) ((works_of r c.args.self.now.no_root _ _ _ refl c.store.new.seat.me c.store.ensures.2).1 (its_guest r) r.holds).0 ∙ c.args.self.now.no_root
 
 pub returns-clause-done : goal.returns-clause-done
 returns-clause-done c =
-    let r = c.requires.visits.1.lodges in
+    let r = c.requires.between.1.visits.lodges in
     let turn = (works_of r c.args.self.now.no_root _ _ _ refl c.store.new.seat.me c.store.ensures.2).1 (its_guest r) r.holds in
     has_done r c.store.new.seat.me _ _ _ turn.0 ∙ stepped_done r c.args.self.now.seat.me.0.start (own_event c.args.self.now.seat.me.0.start r.cpu)
 
-pub returns-clause-visits : goal.returns-clause-visits
-returns-clause-visits c first v =
+pub returns-clause-between : goal.returns-clause-between
+returns-clause-between c first h =
+    let v = h.visits in
     let r = v.lodges in
     let e = c.store.ensures in
     let play = works_of r c.args.self.now.no_root _ _ _ refl c.store.new.seat.me c.store.ensures.2 in
@@ -65,7 +66,7 @@ returns-clause-visits c first v =
     let s : System = c.args.core.now.system in
     let new = c.store.new.seat.me in
     let me = c.args.self.now.seat.me in
-    let b = c.requires.between in
+    let b = c.requires.local in
     let local = local_at s r.cpu b.0 r.alone b.1 b.2 in
     let event : Event = own_event t r.cpu in
     let n : ℕ = (c.args.self.now.stored + 1) % 18446744073709551616 in
@@ -73,24 +74,16 @@ returns-clause-visits c first v =
     of_guest r (λ u y. new.0 ≡ with_one me.0 (with_stored (stepped_by u (own_event u y.held.cpu) y) n) me.0.shown me.0.cancel) (λ y same. (play.1 y same).0) in
     let o = onward t Given s r.cpu event c.args.core.now c.step.new.self (core_is v) c.step.ensures.after r.alone (its_era v) (is_due t r.cpu local (order_of t Given) (r.cpu ∷ [])) (keeps t r.cpu local).1 refl in
     let is = stepped_is r event o.q.cpu o.q.alone in
-    visits_on v Given event c.step.new.self _ new (with_stored (stepped_by t event (its_guest r)) n) _ _ true false o (is_due t r.cpu local (order_of t Given) (r.cpu ∷ [])) e.0 play.0 turn
-    (ap (λ (y : Resident). with_stored y n) is
-    ∙ (λ i. guest c.args.self.now.number o.q.cpu true false (step t.goal event 0 s).memory ((sym is i).done) n))
-
-pub returns-clause-between : goal.returns-clause-between
-returns-clause-between c =
-    let v = c.requires.visits.1 in
-    let r = v.lodges in
-    let t : Start = start_of c.args.yard.now.table.shared.key in
-    let s : System = c.args.core.now.system in
-    let b = c.requires.between in
-    let local = local_at s r.cpu b.0 r.alone b.1 b.2 in
-    let event : Event = own_event t r.cpu in
-    let o = onward t Given s r.cpu event c.args.core.now c.step.new.self (core_is v) c.step.ensures.after r.alone (its_era v) (is_due t r.cpu local (order_of t Given) (r.cpu ∷ [])) (keeps t r.cpu local).1 refl in (
-      o.q.cpu.phase,
-      in_its_phase o.q.cpu.phase c.step.new.self.system o.q.cpu (ap (λ (m : Machine). m.system.processors) o.is ∙ o.q.alone) refl,
-      ap (λ (x : Stage). is_changing x.0) o.q.stage ∙ (keeps t r.cpu local).0,
-    )
+    record {
+      visits = visits_on v Given event c.step.new.self _ new (with_stored (stepped_by t event (its_guest r)) n) _ _ true false o (is_due t r.cpu local (order_of t Given) (r.cpu ∷ [])) e.0 play.0 turn
+          (ap (λ (y : Resident). with_stored y n) is
+          ∙ (λ i. guest c.args.self.now.number o.q.cpu true false (step t.goal event 0 s).memory ((sym is i).done) n));
+      phase = (
+        o.q.cpu.phase,
+        in_its_phase o.q.cpu.phase c.step.new.self.system o.q.cpu (ap (λ (m : Machine). m.system.processors) o.is ∙ o.q.alone) refl,
+        ap (λ (x : Stage). is_changing x.0) o.q.stage ∙ (keeps t r.cpu local).0,
+      );
+    }
 
 pub returns-clause-after : goal.returns-clause-after
 returns-clause-after c = c.step.ensures.after

@@ -1,18 +1,18 @@
-use Rattle.std.proofs.Common.{◌≡◌, true, false}
+use Rattle.std.proofs.Common.{◌≡◌, true}
 use Rattle.mt_machine.specs.declared.phase.Phase.{Phase}
-use Rattle.mt_machine.specs.declared.go.Go.TheVariants.{Given}
+use Rattle.mt_machine.specs.System.{System}
 use Rattle.mt_machine.specs.Machine.{is_changing}
-use Rattle.mt_private.specs.InYard.{KeepsVisit, VisitsIn}
-use Rattle.mt_private.specs.YardCalls.{AreIn, done_in}
+use Rattle.mt_private.specs.InYard.{IsBetween, done_of}
+use Rattle.mt_private.specs.YardCalls.{AreIn}
 use Rattle.mt_private.proofs.Nearer.{steps_left}
 use Rattle.mt_private.proofs.visiting.YardPass.work_all.Given as goal
 
 abbrev pub invariant-loop-core : goal.invariant-loop-core
 invariant-loop-core l = record {
-  visits : KeepsVisit (VisitsIn l.yard l.initial.self l.initial.core true false Given) (VisitsIn l.yard l.self l.core true false Given);
-  between : (phase : Phase) × AreIn phase l.core.system × (is_changing phase ≡ true);
+  between : (first : System) → IsBetween l.yard l.initial.self l.initial.core first → IsBetween l.yard l.self l.core first;
+  phase : (ph : Phase) × AreIn ph l.core.system × (is_changing ph ≡ true);
   number : l.self.number ≡ l.initial.self.number;
-  done : done_in l.self.seat.me ≡ done_in l.initial.self.seat.me;
+  done : done_of l.self ≡ done_of l.initial.self;
 }
 
 abbrev pub decreases-loop-core : goal.decreases-loop-core

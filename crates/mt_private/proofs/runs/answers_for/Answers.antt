@@ -5,7 +5,7 @@ use Rattle.mt_private.specs.declared.job.Part.{Part}
 use Rattle.mt_private.specs.declared.job.Told.{Told}
 use Rattle.mt_private.specs.Jobs.{AreOpen}
 use Rattle.mt_private.proofs.Accessed.{open_more}
-use Rattle.mt_private.proofs.runs.room_for.Goals as goal
+use Rattle.mt_private.proofs.runs.answers_for.Goals as goal
 
 pub loop-k-preserved : goal.loop-k-preserved
 loop-k-preserved c =
