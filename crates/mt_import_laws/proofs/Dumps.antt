@@ -10,12 +10,14 @@ use Rattle.mt_import.specs.Shown.{is_auto}
 use Rattle.mt_import.specs.Slot.{is_disabled, whole_value}
 use Rattle.mt_import.specs.Supplied.{Supplied, supplied_value}
 use Rattle.mt_import.specs.Values.{Known, assumed_of, assumed_value, disabled_value, firm_value, is_pair_number, mask_of, or_supplied, width_by}
-use Rattle.mt_import.specs.Outcome.{Seen, Told, dump_told, ended, is_empty, is_missing, known_by, known_of, missing_line, missing_lines, missing_of, missing_width, needed, notes_of, processors, refusal, remarks, slot_shown, unless, values_of, hint_of}
+use Rattle.mt_import.specs.Outcome.{Seen, Told, dump_told, ended, file_of, is_empty, is_missing, known_by, known_of, missing_line, missing_lines, missing_of, missing_width, needed, notes_of, processors, refusal, remarks, slot_shown, unless, values_of, hint_of}
 use Rattle.mt_import.specs.Import.{log_told}
+use Rattle.mt_import.proofs.Parts.{length_files}
 use Rattle.mt_import.proofs.Same.{value_is}
 use Rattle.mt_import_laws.specs.Origins.{HasOrigins, IsAmong, IsUnshown, IsUntold, Origin, by_assumption, by_disabled, by_lines, by_word, readings_of, seen_of}
 use Rattle.mt_import_laws.proofs.Fine.{IsFine}
 use Rattle.mt_import_laws.proofs.Faults.{fault_of, fine_of}
+use Rattle.mt_import_laws.proofs.Sections.{line_of, section_at}
 use Rattle.mt_import_laws.proofs.Shown.{is_shown, shown_clear}
 
 -- ---- one value
@@ -119,6 +121,12 @@ module _ (supplied : Supplied) (seen : Seen) (auto : Bool) (fine : IsFine suppli
         capabilities_is = is_capabilities;
         notes_are = refl;
         dump_is = refl;
+        sections = length_files values width capabilities (processors seen.readings);
+        in_section = λ k number value less among is. record {
+          file = file_of (values k) width capabilities;
+          section = section_at values width capabilities (processors seen.readings) k less;
+          line = line_of values width capabilities k number value is_capabilities among is;
+        };
         each = λ k number less among.
             let none = none_missing (hint_of supplied (slot_shown seen.readings) (known_of seen)) values (processors seen.readings) (needed (values 0 0xfe)) number both.1 (subst (λ c. IsAmong number (needed c)) (sym is_capabilities) among) in
             let found = some_value (values k number) (not_missing values (processors seen.readings) number k less none) in

@@ -51,7 +51,7 @@ same_key None (Some b) is is_too same = let range = range_of b is_too in absurd 
 same_key (Some a) None is is_too same = let range = range_of a is in absurd (omega (arith, same, range.0))
 same_key (Some a) (Some b) is is_too same = sym (found_whole a is) ∙ ap (register_of whole_file) same ∙ found_whole b is_too
 
-not_first : (number : ℕ) → 0x200 ≤ number → (number == 0xfe) ≡ false
+pub not_first : (number : ℕ) → 0x200 ≤ number → (number == 0xfe) ≡ false
 not_first number high = grind (arith, nat_tests, high)
 
 below_limit : (number : ℕ) → number < 0x300 → nat_lt number 0x1000 ≡ true

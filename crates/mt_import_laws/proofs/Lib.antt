@@ -8,6 +8,7 @@ mod Shown
 mod Among
 mod Lines
 mod Widths
+mod Sections
 mod Dumps
 mod Notes
 mod Alike

@@ -1,8 +1,10 @@
--- A comment names each value that was assumed.
+-- A comment names each value that was assumed, and no other.
 use Rattle.std.proofs.Common.{◌≡◌, ◌<◌, ℕ, zero, suc, Bool, true, false, ◌==◌, ◌&&◌, List, [], ◌∷◌, ◌++◌, Option, Some, None, refl, sym, ◌∙◌, ap, subst, inl, inr, arith, append_assoc}
 use Rattle.std.specs.Prelude.{◌⊎◌, codes, decimal, is_none, if◌then◌else◌}
-use Rattle.std.proofs.lemmas.Bool.{eqb-true, eqb-false}
+use Rattle.std.specs.List.{AllByRecursion, concat}
+use Rattle.std.proofs.lemmas.Bool.{and_parts, eqb-true, eqb-false}
 use Rattle.std.proofs.lemmas.List.{append-nil}
+use Rattle.std.proofs.lemmas.List.Folds.{concat-append}
 use Rattle.mt_import.specs.declared.shape.Slot.{Slot}
 use Rattle.mt_import.specs.declared.supplied.Assumed.{Assumed}
 use Rattle.mt_import.specs.Supplied.{Supplied}
@@ -10,8 +12,9 @@ use Rattle.mt_import.specs.Values.{Known, assumed_of, assumed_pat, assumed_value
 use Rattle.mt_import.specs.Outcome.{Seen, Told, firm_of, is_noted, is_value, known_by, known_of, needed, note_by, note_line, note_lines, noted, noted_of, number_if, processors, slot_shown, values_of, width_note}
 use Rattle.mt_import.proofs.Parts.{noted_at}
 use Rattle.mt_import.proofs.Same.{value_is}
-use Rattle.mt_import_laws.specs.Notes.{AreNoted, numbers_text}
+use Rattle.mt_import_laws.specs.Notes.{AreNoted, AreTrueNotes, IsAssumedAlone, IsNoted, IsTrueNote, numbers_text, on_register, on_width}
 use Rattle.mt_import_laws.specs.Origins.{HasOrigins, IsAmong}
+use Rattle.mt_import_laws.proofs.TableLines.{all_join}
 
 -- ---- a text within a text
 
@@ -58,6 +61,14 @@ module _ (firm values : ℕ → ℕ → Option ℕ) (number : ℕ) where
     named : List ℕ
     text : noted_of firm values count number value ≡ numbers_text named
     each : (k : ℕ) → k < count → is_noted firm values k number value ≡ true → IsAmong k named
+    only : AllByRecursion (λ k. (k < count) × (is_noted firm values k number value ≡ true)) named
+
+  abbrev AreNamed : ℕ → ℕ → List ℕ → Type 0
+  AreNamed count value ks = AllByRecursion (λ k. (k < count) × (is_noted firm values k number value ≡ true)) ks
+
+  more : (n value : ℕ) (ks : List ℕ) → AreNamed n value ks → AreNamed (suc n) value ks
+  more n value [] all = tt
+  more n value (k ∷ ks) all = let less = all.0.0 in ((omega (arith, less), all.0.1), more n value ks all.1)
 
   earlier : (a b : ℕ) → a < suc b → (a ≡ b → ⊥) → a < b
   earlier a b less apart = omega (arith, less, apart)
@@ -67,6 +78,7 @@ module _ (firm values : ℕ → ℕ → Option ℕ) (number : ℕ) where
     named = before.named ++ n ∷ [];
     text = ap (λ b. noted_of firm values n number value ++ number_if b n) is ∙ ap (λ (t : List ℕ). t ++ (codes " " ++ decimal n)) before.text ∙ sym (numbers_append before.named n);
     each = λ k less noted. by k less noted (k == n) refl;
+    only = all_join (λ k. (k < suc n) × (is_noted firm values k number value ≡ true)) before.named (n ∷ []) (more n value before.named before.only) ((omega arith, is), tt);
   }
     where
       by : (k : ℕ) → k < suc n → is_noted firm values k number value ≡ true → (same : Bool) → (k == n) ≡ same → IsAmong k (before.named ++ n ∷ [])
@@ -76,6 +88,7 @@ module _ (firm values : ℕ → ℕ → Option ℕ) (number : ℕ) where
     named = before.named;
     text = ap (λ b. noted_of firm values n number value ++ number_if b n) is ∙ append-nil (noted_of firm values n number value) ∙ before.text;
     each = λ k less noted. by k less noted (k == n) refl;
+    only = more n value before.named before.only;
   }
     where
       by : (k : ℕ) → k < suc n → is_noted firm values k number value ≡ true → (same : Bool) → (k == n) ≡ same → IsAmong k before.named
@@ -83,7 +96,7 @@ module _ (firm values : ℕ → ℕ → Option ℕ) (number : ℕ) where
       by k less noted false apart = before.each k (earlier k n less (eqb-false k n apart)) noted
 
   named_by : (count value : ℕ) → Named count value
-  named_by zero value = record { named = []; text = refl; each = λ k less noted. absurd (omega (arith, less)) }
+  named_by zero value = record { named = []; text = refl; each = λ k less noted. absurd (omega (arith, less)); only = tt }
   named_by (suc n) value = next n value (is_noted firm values n number value) refl (named_by n value)
 
   -- ---- the first of the processors
@@ -190,6 +203,10 @@ value_in (Some other) value is = let e : other ≡ value = cc is in rw e (same v
     same : (v : ℕ) → (v == v) ≡ true
     same v = grind (arith)
 
+value_out : (o : Option ℕ) (value : ℕ) → is_value o value ≡ true → o ≡ Some value
+value_out None value is = cc is
+value_out (Some other) value is = ap Some (eqb-true other value is)
+
 module _ (supplied : Supplied) (seen : Seen) where
   abbrev slots : ℕ → ℕ → Slot
   slots = slot_shown seen.readings
@@ -234,8 +251,68 @@ module _ (supplied : Supplied) (seen : Seen) where
       by None none = absurd (some_first firm values number count k value less unfirm is none)
       by (Some first) is_first = note_has number first value (noted_of firm values count number) (same_or_zero count k number value first less unfirm is is_first)
 
-pub assumed_noted : (supplied : Supplied) (seen : Seen) (told : Told) (origins : HasOrigins supplied seen told) → AreNoted supplied seen origins.capabilities told.notes
-assumed_noted supplied seen told origins k number value less among assumed =
+  -- ---- no other comments
+
+  module _ (capabilities : ℕ) where
+    abbrev AreTrue : List ℕ → Type 0
+    AreTrue = AreTrueNotes supplied seen capabilities
+
+    no_notes : AreTrue []
+    no_notes = record { comments = []; notes_are = refl; each = tt }
+
+    one_note : (note : List ℕ) → IsTrueNote supplied seen capabilities note → AreTrue note
+    one_note note is = record { comments = note ∷ []; notes_are = sym (append-nil note); each = (is, tt) }
+
+    both_true : (a b : List ℕ) → AreTrue a → AreTrue b → AreTrue (a ++ b)
+    both_true a b first second = record {
+      comments = first.comments ++ second.comments;
+      notes_are = ap (λ (t : List ℕ). t ++ b) first.notes_are ∙ ap (λ (t : List ℕ). concat first.comments ++ t) second.notes_are ∙ sym (concat-append first.comments second.comments);
+      each = all_join (IsTrueNote supplied seen capabilities) first.comments second.comments first.each second.each;
+    }
+
+    alone_by : (k number value : ℕ) → is_noted firm values k number value ≡ true → IsAssumedAlone supplied seen k number value
+    alone_by k number value noted =
+        let parts = and_parts (is_none (firm k number)) (is_value (values k number) value) noted in
+        record { unfirm = sym (firm_is k number) ∙ of_none (firm k number) parts.0; value_is = value_out (values k number) value parts.1 }
+
+    all_alone : (number value : ℕ) (ks : List ℕ) → AreNamed firm values number (processors seen.readings) value ks → AllByRecursion (λ k. (k < processors seen.readings) × IsAssumedAlone supplied seen k number value) ks
+    all_alone number value [] all = tt
+    all_alone number value (k ∷ ks) all = ((all.0.0, alone_by k number value all.0.1), all_alone number value ks all.1)
+
+    -- the comment on the processors that have a value, if there are any
+    note_true : (number value : ℕ) → IsAmong number (needed (Some capabilities)) → AreTrue (note_by number value (noted_of firm values (processors seen.readings) number value))
+    note_true number value among =
+        let has = named_by firm values number (processors seen.readings) value in
+        subst (λ (t : List ℕ). AreTrue (note_by number value t)) (sym has.text) (by has.named has.only)
+      where
+        by : (ks : List ℕ) → AreNamed firm values number (processors seen.readings) value ks → AreTrue (note_by number value (numbers_text ks))
+        by [] all = no_notes
+        by (k ∷ ks) all = one_note (note_by number value (numbers_text (k ∷ ks))) (on_register number value k ks among (all_alone number value (k ∷ ks) all) refl)
+
+    line_true : (number : ℕ) (value : Option ℕ) → IsAmong number (needed (Some capabilities)) → AreTrue (note_line number value (noted_of firm values (processors seen.readings) number))
+    line_true number None among = no_notes
+    line_true number (Some value) among =
+        both_true (note_by number value (noted_of firm values (processors seen.readings) number value)) (if value == 0 then [] else note_by number 0 (noted_of firm values (processors seen.readings) number 0))
+        (note_true number value among) (by (value == 0))
+      where
+        by : (test : Bool) → AreTrue (if test then [] else note_by number 0 (noted_of firm values (processors seen.readings) number 0))
+        by true = no_notes
+        by false = note_true number 0 among
+
+    lines_true : (numbers : List ℕ) → ((number : ℕ) → IsAmong number numbers → IsAmong number (needed (Some capabilities))) → AreTrue (note_lines firm values (processors seen.readings) numbers)
+    lines_true [] among = no_notes
+    lines_true (n ∷ ns) among =
+        both_true (note_line n (noted firm values (processors seen.readings) n) (noted_of firm values (processors seen.readings) n)) (note_lines firm values (processors seen.readings) ns)
+        (line_true n (noted firm values (processors seen.readings) n) (among n (inl refl))) (lines_true ns (λ number later. among number (inr later)))
+
+    width_true : (firm_one all : Option ℕ) → firm_width supplied seen.width ≡ firm_one → width_by supplied slots seen.width ≡ all → AreTrue (width_note firm_one all)
+    width_true (Some width) all is_firm is = no_notes
+    width_true None None is_firm is = no_notes
+    width_true None (Some width) is_firm is = one_note (width_note None (Some width)) (on_width width (record { unfirm = is_firm; width_is = is }) refl)
+
+each_noted : (supplied : Supplied) (seen : Seen) (told : Told) (origins : HasOrigins supplied seen told) (k number value : ℕ) → k < processors seen.readings → IsAmong number (needed (Some origins.capabilities))
+    → IsAssumedAlone supplied seen k number value → IsNoted told.notes k number value
+each_noted supplied seen told origins k number value less among assumed =
     let count = processors seen.readings in
     let f = firm supplied seen in
     let v = values supplied seen in
@@ -256,3 +333,19 @@ assumed_noted supplied seen told origins k number value less among assumed =
   where
     both : {a b : Bool} → a ≡ true → b ≡ true → (a && b) ≡ true
     both one two = rw (one, two) refl
+
+abbrev register_notes : Supplied → Seen → List ℕ
+register_notes supplied seen = note_lines (firm supplied seen) (values supplied seen) (processors seen.readings) (needed (values supplied seen 0 0xfe))
+
+pub assumed_noted : (supplied : Supplied) (seen : Seen) (told : Told) (origins : HasOrigins supplied seen told) → AreNoted supplied seen origins.capabilities told.notes
+assumed_noted supplied seen told origins = record {
+  each = each_noted supplied seen told origins;
+  width = λ width assumed. record {
+    others = register_notes supplied seen;
+    notes_are = origins.notes_are ∙ ap (λ (t : List ℕ). t ++ register_notes supplied seen) (ap (λ o. width_note o (width_by supplied (slot_shown seen.readings) seen.width)) assumed.unfirm ∙ ap (width_note None) assumed.width_is);
+  };
+  only = subst (AreTrueNotes supplied seen origins.capabilities) (sym origins.notes_are)
+      (both_true supplied seen origins.capabilities (width_note (firm_width supplied seen.width) (width_by supplied (slot_shown seen.readings) seen.width)) (register_notes supplied seen)
+      (width_true supplied seen origins.capabilities (firm_width supplied seen.width) (width_by supplied (slot_shown seen.readings) seen.width) refl refl)
+      (lines_true supplied seen origins.capabilities (needed (values supplied seen 0 0xfe)) (λ number among. subst (λ c. IsAmong number (needed c)) origins.capabilities_is among)));
+}

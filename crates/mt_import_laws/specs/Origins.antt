@@ -1,12 +1,14 @@
 -- Where the values of a dump come from, and lines that contradict each other, in terms of what the lines of a log show (own).
 --     readings_of choice text      what the lines of a log show of registers
 --     Origin supplied readings known k number value      the lines, the word or the assumption that gives a register of processor k this value
-use Rattle.std.specs.Prelude.{ℕ, ◌≡◌, ◌≢◌, ◌<◌, ◌⊎◌, ◌+◌, Bool, true, false, List, [], ◌∷◌, ◌++◌, length, if◌then◌else◌, Some, None}
+use Rattle.std.specs.Prelude.{ℕ, ◌≡◌, ◌≢◌, ◌<◌, ◌⊎◌, ◌+◌, ◌==◌, Bool, true, false, List, [], ◌∷◌, ◌++◌, length, if◌then◌else◌, Some, None, slice_get}
 use Rattle.std.specs.Int.{bit_at}
 use Rattle.mt_ports.specs.Causes.{one_more}
 use Rattle.mt_text.specs.Text.{lines_of}
 use Rattle.mt_text.specs.declared.place.Place.{Place}
-use Rattle.mt_dump.specs.Canon.{canon}
+use Rattle.mt_regs.specs.RegisterFile.{RegisterFile}
+use Rattle.mt_dump.specs.Canon.{canon, file_lines, register_line}
+use Rattle.mt_dump.specs.Dumps.{Dump}
 use Rattle.mt_import.specs.declared.format.Choice.{Choice}
 use Rattle.mt_import.specs.declared.reading.Context.{Context}
 use Rattle.mt_import.specs.declared.reading.Said.{Said}
@@ -156,14 +158,32 @@ pub data WidthOrigin (choice : Choice) (supplied : Supplied) (text : List ℕ) (
 
 -- ---- a dump
 
--- The dump has a value for each register that it needs, and each has an origin.
+-- the dump of this width and capability register
+abbrev pub dump_by : Supplied → Seen → ℕ → ℕ → Dump
+dump_by supplied seen width capabilities = dump_in (values_of supplied (slot_shown seen.readings) (known_of seen)) (processors seen.readings) width capabilities
+
+-- The section of processor k has a line with this value of the register.
+pub record IsInSection (dump : Dump) (k number value : ℕ) : Type 0 where
+  pub file : RegisterFile
+  pub section : slice_get dump.files k ≡ Some file
+  pub line : IsAmong (register_line number value) (file_lines file)
+
+-- Each section has 0FEH of processor 0, and every other register of its own processor.
+abbrev pub owner : ℕ → ℕ → ℕ
+owner k number = if number == 0xfe then 0 else k
+
+-- The dump has a section for each processor, with a value for each register that it needs, and each value has an origin.
 pub record HasOrigins (supplied : Supplied) (seen : Seen) (told : Told) : Type 0 where
   pub width : ℕ
   pub capabilities : ℕ
   pub width_is : width_by supplied (slot_shown seen.readings) seen.width ≡ Some width
   pub capabilities_is : values_of supplied (slot_shown seen.readings) (known_of seen) 0 0xfe ≡ Some capabilities
   pub notes_are : told.notes ≡ notes_of supplied (slot_shown seen.readings) (processors seen.readings) (known_of seen)
-  pub dump_is : told.dump ≡ canon (dump_in (values_of supplied (slot_shown seen.readings) (known_of seen)) (processors seen.readings) width capabilities)
+  pub dump_is : told.dump ≡ canon (dump_by supplied seen width capabilities)
+  pub sections : length (dump_by supplied seen width capabilities).files ≡ processors seen.readings
+  pub in_section : (k number value : ℕ) → k < processors seen.readings → IsAmong number (needed (Some capabilities))
+      → values_of supplied (slot_shown seen.readings) (known_of seen) (owner k number) number ≡ Some value
+      → IsInSection (dump_by supplied seen width capabilities) k number value
   pub each : (k number : ℕ) → k < processors seen.readings → IsAmong number (needed (Some capabilities))
       → (value : ℕ) × (values_of supplied (slot_shown seen.readings) (known_of seen) k number ≡ Some value)
       × Origin supplied seen.readings (known_by supplied (slot_shown seen.readings) (known_of seen)) k number value

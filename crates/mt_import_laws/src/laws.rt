@@ -17,8 +17,9 @@ ghost use Rattle.mt_import_laws.specs.Notes.{AreNoted};
 ghost use Rattle.mt_import_laws.specs.Origins.{Contradict, ContradictInCapabilities, ContradictsWord, CountsPair, HasOrigins, IsAmong, IsRead, WidthOrigin, readings_of, seen_of};
 ghost use Rattle.mt_import_laws.specs.Returns.{DifferInReturns};
 
-/// For all logs and words: if a dump comes of them, each of its values is shown by lines of one table. Or else a word supplies it.
-/// Or else lines show its pair as disabled, and it is 0. Or else it is a named assumption's.
+/// For all logs and words: if a dump comes of them, it has a section for each processor, with the processor's values. Lines of one
+/// table show each value of the processor. Or else a word supplies it. Or else lines show its pair as disabled, and it is 0. Or else
+/// it is a named assumption's.
 pub fn values_have_origins()
     ensures { (choice : Choice) (supplied : Supplied) (text : List ℕ) → (log_told choice supplied text).status ≡ Done
         → HasOrigins supplied (seen_of choice text) (log_told choice supplied text) }
@@ -30,7 +31,8 @@ pub fn widths_have_origins()
         → WidthOrigin choice supplied text origins.width }
 {}
 
-/// A comment names each value that an assumption alone gives, with its register and its processor.
+/// A comment names each value that an assumption alone gives, with its register and its processor, and the width if it is assumed.
+/// There are no other comments: what one names was assumed.
 pub fn assumed_values_are_noted()
     ensures { (supplied : Supplied) (seen : Seen) (told : Told) (origins : HasOrigins supplied seen told) → AreNoted supplied seen origins.capabilities told.notes }
 {}
