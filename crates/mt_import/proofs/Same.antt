@@ -47,9 +47,9 @@ module _ (v w : ℕ → Slot) (same : (n : ℕ) → v n ≡ w n) where
   same_assumed : (assumed : Assumed) (known : Known) (number : ℕ) → assumed_value assumed v known number ≡ assumed_value assumed w known number
   same_assumed assumed known number = rw (same_capabilities, same_assumed_pair assumed known.width number) refl
 
-  same_masks : (n : ℕ) → masks_in v n ≡ masks_in w n
-  same_masks zero = refl
-  same_masks (suc n) = rw (same (0x201 + 2 * n), same_masks n) refl
+  same_masks : (supplied : Supplied) (n : ℕ) → masks_in supplied v n ≡ masks_in supplied w n
+  same_masks supplied zero = refl
+  same_masks supplied (suc n) = rw (same (0x201 + 2 * n), same_masks supplied n) refl
 
 -- ---- the same values
 
@@ -111,7 +111,7 @@ module _ (v w : ℕ → ℕ → Option ℕ) (same : (k n : ℕ) → v k n ≡ w 
 
 module _ (supplied : Supplied) (v w : Slots) (same : (k n : ℕ) → v k n ≡ w k n) (shown : Known) where
   same_width : width_by supplied v shown.width ≡ width_by supplied w shown.width
-  same_width = rw (same_masks (v 0) (w 0) (same 0) 32) refl
+  same_width = rw (same_masks (v 0) (w 0) (same 0) supplied 32) refl
 
   same_value : (k n : ℕ) → values_of supplied v shown k n ≡ values_of supplied w shown k n
   unfolding values_of
@@ -127,8 +127,8 @@ module _ (supplied : Supplied) (v w : Slots) (same : (k n : ℕ) → v k n ≡ w
 
   same_missing_of : (count : ℕ) → missing_of supplied v count shown ≡ missing_of supplied w count shown
   same_missing_of count =
-      rw (same_width, same_masks (v 0) (w 0) (same 0) 32, same_value 0 0xfe)
-      (ap (λ l. missing_width (width_by supplied w shown.width) (widest (masks_in (w 0) 32)) ++ l)
+      rw (same_width, same_masks (v 0) (w 0) (same 0) supplied 32, same_value 0 0xfe)
+      (ap (λ l. missing_width (width_by supplied w shown.width) (widest (masks_in supplied (w 0) 32)) ++ l)
       (same_lines (values_of supplied v shown) (values_of supplied w shown) same_value (hint_of supplied v shown) (hint_of supplied w shown) same_hints count (needed (values_of supplied w shown 0 0xfe))))
 
   same_notes_of : (count : ℕ) → notes_of supplied v count shown ≡ notes_of supplied w count shown

@@ -99,6 +99,10 @@ abbrev pub Runs : List (List ℕ) → List ℕ → Option (List ℕ) → Taken �
 Runs words bytes left out errors result =
     ImportsApart words bytes left out errors result ⊎ ((result ≡ NoMemory) × (left ≡ Some bytes) × (out.new ≡ out.old) × (errors.new ≡ errors.old))
 
+-- A source and two sinks are as before, each given by its value before and after.
+abbrev pub AreUnused : {S K E : Type 0} → S × S → K × K → E × E → Type 0
+AreUnused source out errors = (source.1 ≡ source.0) × (out.1 ≡ out.0) × (errors.1 ≡ errors.0)
+
 -- One of two sinks failed, once, where the status is `WriteFault`; else none did. Counts are before and after.
 abbrev pub OneFailed : ℕ × ℕ → ℕ × ℕ → Type 0
 OneFailed out errors = (Rose out.0 out.1 × (errors.1 ≡ errors.0)) ⊎ ((out.1 ≡ out.0) × Rose errors.0 errors.1)

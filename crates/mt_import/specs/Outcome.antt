@@ -180,11 +180,16 @@ abbrev pub contradiction : Reading → Option Rival → Option ImportFault
 contradiction reading None = None
 contradiction reading (Some other) = Some (Contradiction reading.place reading.number other)
 
+-- a capability register, as this line and those before it show it, with more pairs than a dump may have
+abbrev pub pairs_fault : List Reading → Reading → Option ImportFault
+pairs_fault before reading =
+    if reading.number == 0xfe && nat_lt 32 (low_byte (bit_or (slot_shown before reading.processor 0xfe).value reading.value)) then Some (TooManyPairs reading.place) else None
+
+-- A contradiction comes before too many pairs: only bits that agree are put together.
 abbrev pub reading_fault : Supplied → List Reading → Reading → Option ImportFault
 reading_fault supplied before reading =
     if nat_lt 15 reading.processor then Some (BadProcessor reading.place)
-    else if reading.number == 0xfe && nat_lt 32 (low_byte (bit_or (slot_shown before reading.processor 0xfe).value reading.value)) then Some (TooManyPairs reading.place)
-    else contradiction reading (or_rival (rival supplied before reading) (fixed_rival (supplied_value supplied 0xfe) before reading))
+    else or_fault (contradiction reading (or_rival (rival supplied before reading) (fixed_rival (supplied_value supplied 0xfe) before reading))) (pairs_fault before reading)
 
 -- a width that a dump may have
 abbrev pub is_fit_width : ℕ → Bool
@@ -421,7 +426,7 @@ hint_of supplied slots shown number = assumed_value all_assumed (slots 0) (recor
 
 abbrev pub missing_of : Supplied → Slots → ℕ → Known → List ℕ
 missing_of supplied slots count shown =
-    missing_width (width_by supplied slots shown.width) (widest (masks_in (slots 0) 32))
+    missing_width (width_by supplied slots shown.width) (widest (masks_in supplied (slots 0) 32))
     ++ missing_lines (hint_of supplied slots shown) (values_of supplied slots shown) count (needed (values_of supplied slots shown 0 0xfe))
 
 abbrev pub notes_of : Supplied → Slots → ℕ → Known → List ℕ

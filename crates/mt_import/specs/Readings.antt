@@ -83,13 +83,12 @@ value_facts (Some announced) table value place = shown_facts announced.processor
 -- ---- IA32_MTRR_DEF_TYPE in a kernel's table: FE in bit 10, E in bit 11
 
 -- Linux from 4.3 on calls fixed ranges disabled also where E is clear, so that `disabled:` shows FE only in Xen's lines.
-abbrev pub fixed_bits : Bool → Bool → ℕ
-fixed_bits enabled alone = if enabled || alone then 0x400 else 0
+abbrev pub flag_shown : Bool → Bool → Place → Option Shown
+flag_shown enabled alone place = if enabled || alone then shown_bits 0x2ff 0x400 (if enabled then 0x400 else 0) place else None
 
 -- The line shows FIX of the capability register too: it is printed only with FIX.
 abbrev pub fixed_shows : Bool → Bool → Place → List (Option Shown)
-fixed_shows enabled alone place =
-    two_shown (shown_bits 0x2ff (fixed_bits enabled alone) (if enabled then fixed_bits enabled alone else 0) place) (shown_bits 0xfe 0x100 0x100 place)
+fixed_shows enabled alone place = two_shown (flag_shown enabled alone place) (shown_bits 0xfe 0x100 0x100 place)
 
 abbrev pub is_off : Option FixedLine → ℕ → Bool
 is_off None table = false

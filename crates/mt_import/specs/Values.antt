@@ -136,10 +136,10 @@ value_by supplied slots known k number = or_supplied (firm_value supplied (slots
 
 -- ---- the width
 
--- the bits of the first masks that are shown whole
-abbrev pub masks_in : (ℕ → Slot) → ℕ → ℕ
-masks_in slots zero = 0
-masks_in slots (suc n) = bit_or (masks_in slots n) (unwrap_or (whole_value (slots (0x201 + 2 * n))) 0)
+-- the bits of the first masks that are shown whole, or else supplied
+abbrev pub masks_in : Supplied → (ℕ → Slot) → ℕ → ℕ
+masks_in supplied slots zero = 0
+masks_in supplied slots (suc n) = bit_or (masks_in supplied slots n) (unwrap_or (or_supplied (whole_value (slots (0x201 + 2 * n))) (supplied_value supplied (0x201 + 2 * n))) 0)
 
 -- 2 to the power of each width from 32 to 52
 abbrev pub width_limits : List ℕ
@@ -159,11 +159,11 @@ width_at (Some k) = if nat_lt k 21 then Some (32 + k) else None
 abbrev pub widest : ℕ → Option ℕ
 widest masks = if nat_lt masks 0x80000000 then None else width_at (position (is_past masks) width_limits)
 
-abbrev pub assumed_width : Assumed → (ℕ → Slot) → Option ℕ
-assumed_width assumed slots = only_if assumed.width (widest (masks_in slots 32))
+abbrev pub assumed_width : Supplied → (ℕ → Slot) → Option ℕ
+assumed_width supplied slots = only_if supplied.assumed.width (widest (masks_in supplied slots 32))
 
 abbrev pub firm_width : Supplied → Option ℕ → Option ℕ
 firm_width supplied width = or_supplied width supplied.width
 
 abbrev pub width_by : Supplied → (ℕ → ℕ → Slot) → Option ℕ → Option ℕ
-width_by supplied slots width = or_supplied (firm_width supplied width) (assumed_width supplied.assumed (slots 0))
+width_by supplied slots width = or_supplied (firm_width supplied width) (assumed_width supplied (slots 0))

@@ -180,7 +180,7 @@ impl LogReader {
     {
         let mut text = ArrayVec::new();
         if self.width(supplied).is_none() {
-            append_text(&mut text, width_hint(widest(self.masks())));
+            append_text(&mut text, width_hint(widest(self.masks(supplied))));
         }
         self.append_missing(&mut text, supplied, CAPABILITIES);
         if let Some(capabilities) = self.value(supplied, 0, CAPABILITIES) {

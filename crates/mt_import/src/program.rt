@@ -5,7 +5,7 @@ ghost use Rattle.mt_ports.specs.Causes.{StatusHasCause};
 ghost use Rattle.mt_ports.specs.Exit.{code};
 ghost use Rattle.mt_text.specs.Feed.{GaveTooMuch};
 ghost use Rattle.mt_output.specs.Program.{Exits, words_of};
-ghost use Rattle.mt_import.specs.Import.{HaveCause, Runs};
+ghost use Rattle.mt_import.specs.Import.{AreUnused, HaveCause, Runs};
 
 use crate::import_apart;
 use mt_output::{exit_code, words_behind_name};
@@ -31,6 +31,7 @@ fn run<R: AllocGlobal, S: Source, K: Sink, E: Sink>(
     ensures write_fault { HaveCause (K.faults sink.old, K.faults sink.new) (E.faults errors.old, E.faults errors.new) result }
     ensures too_long { (result ≡ Status.TooLong) ↔ GaveTooMuch (S.given source.old) (S.given source.new) }
     ensures no_memory { IfErr args (λ error. error_kind error ≡ ErrorKind.OutOfMemory → result ≡ Status.NoMemory) }
+    ensures memory { result ≡ Status.NoMemory → AreUnused (source.old, source.new) (sink.old, sink.new) (errors.old, errors.new) }
 {
     match args {
         Ok(args) => match words_behind_name(rt.alloc(), args) {
@@ -59,8 +60,9 @@ pub fn program_status<R: AllocGlobal, S: Source, K: Sink, E: Sink>(
     ensures write_fault { Exits result (HaveCause (K.faults sink.old, K.faults sink.new) (E.faults errors.old, E.faults errors.new)) }
     ensures too_long { Exits result (λ status. (status ≡ Status.TooLong) ↔ GaveTooMuch (S.given source.old) (S.given source.new)) }
 
-    // Where the arguments find no memory nothing is run.
+    // If the arguments can't be allocated nothing is read or written.
     ensures no_memory { IfErr args (λ error. error_kind error ≡ ErrorKind.OutOfMemory → exit_status result ≡ code Status.NoMemory) }
+    ensures memory { Exits result (λ status. status ≡ Status.NoMemory → AreUnused (source.old, source.new) (sink.old, sink.new) (errors.old, errors.new)) }
 {
     exit_code(run(rt, args, source, sink, errors))
 }

@@ -9,7 +9,7 @@ ghost use Rattle.mt_regs.specs.RegisterFile.{low_byte};
 ghost use Rattle.mt_import.specs.Readings.{Fact, fixed_facts, fixed_line, is_fixed_clash, is_line, is_register, is_register_value, is_warning, is_width, line_facts, reading_facts, said_facts, shown_facts, shows_facts, starts, unlike, value_facts};
 ghost use Rattle.mt_import.specs.Shown.{context_behind, facts_of_line};
 ghost use Rattle.mt_import.specs.Slot.{slot_with};
-ghost use Rattle.mt_import.specs.Outcome.{Seen, capabilities_after, capability_rival, contradiction, count_rival, counted, counts_fewer, enabled_pair, facts_fault, fix_shown, fixed_line_after, fixed_rival, fixless_rival, is_fit_width, lacks_fix, last_after, nothing_seen, one_if, or_rival, ranged_rival, reading_fault, rival, seen_after, seen_with, shows_fixed, shows_no_fix, slot_shown, tally_warned, tally_with, width_fault, width_rival};
+ghost use Rattle.mt_import.specs.Outcome.{Seen, capabilities_after, capability_rival, contradiction, count_rival, counted, counts_fewer, enabled_pair, facts_fault, fix_shown, fixed_line_after, fixed_rival, fixless_rival, is_fit_width, lacks_fix, last_after, nothing_seen, one_if, or_fault, or_rival, pairs_fault, ranged_rival, reading_fault, rival, seen_after, seen_with, shows_fixed, shows_no_fix, slot_shown, tally_warned, tally_with, width_fault, width_rival};
 ghost use Rattle.mt_import.specs.Supplied.{bits_differ, differs};
 ghost use Rattle.mt_import.specs.Import.{IsWritten, dump_text, log_told};
 ghost use Rattle.mt_import.specs.Reader.{HasTaken, IsFit, IsShort, held_at, slot_of, slots_of};
@@ -310,6 +310,16 @@ fn one_if(matches: bool, count: u64) -> u64
     if matches { count_on(count) } else { count }
 }
 
+fn or_fault(found: Option<ImportFault>, other: Option<ImportFault>) -> Option<ImportFault>
+    ensures fault { result ≡ or_fault found other }
+    ensures no_other { result ≡ None → other ≡ None }
+{
+    match found {
+        Some(found) => Some(found),
+        None => other,
+    }
+}
+
 fn contradiction(reading: &Reading, rival: Option<Rival>) -> Option<ImportFault>
     ensures { result ≡ contradiction reading.now rival }
 {
@@ -448,6 +458,21 @@ impl LogReader {
         (self.slot(reading.processor, CAPABILITIES).value | reading.value) % 256
     }
 
+    // Whether the capability register has more pairs than a dump may have, as this line and those before it show it.
+    fn pairs_fault(&self, reading: &Reading) -> Option<ImportFault>
+        requires { reading.now.processor < 16 }
+        ensures sound { result ≡ None → (seen : Seen) → HasTaken self.now seen → reading.now.number ≡ 0xfe
+            → low_byte (bit_or (slot_shown seen.readings reading.now.processor 0xfe).value reading.now.value) ≤ 32 }
+        ensures short { IfSome result IsShort }
+        ensures fault { (seen : Seen) → HasTaken self.now seen → result ≡ pairs_fault seen.readings reading.now }
+    {
+        if reading.number == CAPABILITIES && self.pairs_after(reading) > MAX_PAIRS as u64 {
+            Some(ImportFault::TooManyPairs(reading.place))
+        } else {
+            None
+        }
+    }
+
     fn reading_fault(&self, supplied: &Supplied, reading: &Reading) -> Option<ImportFault>
         requires { slot_of reading.now.number ≡ None → ⊥ }
         ensures sound { result ≡ None → (reading.now.processor < 16) × ((seen : Seen) → HasTaken self.now seen → reading.now.number ≡ 0xfe
@@ -456,14 +481,14 @@ impl LogReader {
         ensures fault { (seen : Seen) → HasTaken self.now seen → result ≡ reading_fault supplied.now seen.readings reading.now }
     {
         if reading.processor >= MOST_PROCESSORS {
-            Some(ImportFault::BadProcessor(reading.place))
-        } else if reading.number == CAPABILITIES && self.pairs_after(reading) > MAX_PAIRS as u64 {
-            Some(ImportFault::TooManyPairs(reading.place))
-        } else {
-            let rival = self.rival(supplied, reading);
-            let fixed_rival = self.fixed_rival(supplied.value(CAPABILITIES), reading);
-            contradiction(reading, or_rival(rival, fixed_rival))
+            return Some(ImportFault::BadProcessor(reading.place));
         }
+        let rival = self.rival(supplied, reading);
+        let fixed_rival = self.fixed_rival(supplied.value(CAPABILITIES), reading);
+        or_fault(
+            contradiction(reading, or_rival(rival, fixed_rival)),
+            self.pairs_fault(reading),
+        )
     }
 
     // Keeps a reading that has no fault.

@@ -1,5 +1,5 @@
 ghost use Rattle.std.specs.Prelude.{◌≡◌, true, None};
-ghost use Rattle.mt_import.specs.Readings.{all_registers, announced_after, context_after, fixed_after, fixed_bits, fixed_shows, is_match, is_register, one_shown, processor_after, processor_called, starts, table_behind, two_shown, variable_bits, variable_shows};
+ghost use Rattle.mt_import.specs.Readings.{all_registers, announced_after, context_after, fixed_after, fixed_shows, flag_shown, is_match, is_register, one_shown, processor_after, processor_called, starts, table_behind, two_shown, variable_bits, variable_shows};
 ghost use Rattle.mt_import.specs.Reader.{slot_of};
 
 use crate::Format;
@@ -78,24 +78,23 @@ pub(crate) fn one_shown(a: Option<Shown>) -> Shows
     two_shown(a, None)
 }
 
-// The bits of IA32_MTRR_DEF_TYPE that a line on fixed ranges shows.
-fn fixed_bits(is_enabled: bool, is_alone: bool) -> u64
-    ensures { result ≡ fixed_bits is_enabled is_alone }
+// What a line on fixed ranges shows of IA32_MTRR_DEF_TYPE.
+fn flag_shown(is_enabled: bool, is_alone: bool, place: Place) -> Option<Shown>
+    ensures { result ≡ flag_shown is_enabled is_alone place }
 {
     if is_enabled || is_alone {
-        FIXED_ENABLED
+        let value = if is_enabled { FIXED_ENABLED } else { 0 };
+        shown_bits(DEFAULT_TYPE, FIXED_ENABLED, value, place)
     } else {
-        0
+        None
     }
 }
 
 pub(crate) fn fixed_shows(is_enabled: bool, is_alone: bool, place: Place) -> Shows
     ensures { result ≡ fixed_shows is_enabled is_alone place }
 {
-    let bits = fixed_bits(is_enabled, is_alone);
-    let value = if is_enabled { bits } else { 0 };
     two_shown(
-        shown_bits(DEFAULT_TYPE, bits, value, place),
+        flag_shown(is_enabled, is_alone, place),
         shown_bits(CAPABILITIES, FIXED_RANGES, FIXED_RANGES, place),
     )
 }

@@ -67,6 +67,7 @@ fn imported<S: Source>(words: &[String], source: &mut S) -> Result<Imported, Fee
 fn status_of(fault: FeedFault) -> Status
     ensures read { (result ≡ Status.ReadFault) ↔ (fault ≡ FeedFault.ReadFault) }
     ensures long { (result ≡ Status.TooLong) ↔ (fault ≡ FeedFault.TooLong) }
+    ensures memory { result ≢ Status.NoMemory }
 {
     match fault {
         FeedFault::ReadFault => Status::ReadFault,
@@ -109,8 +110,9 @@ pub fn import_apart<S: Source, K: Sink, E: Sink>(
     ensures unread { command_of (map string_bytes words.now) ≡ None → source.new ≡ source.old }
     ensures own { IsSome (own_text (map string_bytes words.now)) → source.new ≡ source.old }
 
-    // At statuses such as 1, 2 and 3 nothing is written to the sink of the dump.
+    // At statuses such as 1, 2 and 3 nothing is written to the sink of the dump. Nothing is allocated.
     ensures alone { result ≢ Status.Done → result ≢ Status.WriteFault → sink.new ≡ sink.old }
+    ensures memory { result ≢ Status.NoMemory }
     ensures read_fault { StatusHasCause Status.ReadFault (S.faults source.old) (S.faults source.new) result }
     ensures write_fault { HaveCause (K.faults sink.old, K.faults sink.new) (E.faults errors.old, E.faults errors.new) result }
     ensures too_long { (result ≡ Status.TooLong) ↔ GaveTooMuch (S.given source.old) (S.given source.new) }

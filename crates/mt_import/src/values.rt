@@ -1,6 +1,8 @@
 ghost use Rattle.std.specs.Prelude.{◌≡◌, ◌≤◌, ◌<◌, ◌^◌, IfSome, Some, position};
 ghost use Rattle.mt_import.specs.Reader.{IsFit, known_in, slots_of, values_in};
 ghost use Rattle.mt_import.specs.Outcome.{firm_of, hint_of};
+ghost use Rattle.mt_import.specs.Slot.{whole_value};
+ghost use Rattle.mt_import.specs.Supplied.{supplied_value};
 ghost use Rattle.mt_import.specs.Values.{assumed_capabilities, assumed_mask, assumed_of, assumed_pair, assumed_pat, assumed_value, assumed_zero, base_of, disabled_value, firm_value, firm_width, has_pairs, is_of_table, is_pair_number, is_past, is_unshown, mask_of, mask_of_size, masks_in, only_if, or_supplied, pair_count, shown_pairs, shows_only_fix, shows_pairs, size_in, widest, width_at, width_by, width_limits};
 
 use crate::shape::Slot;
@@ -378,13 +380,20 @@ impl LogReader {
         self.assumed_value(&Assumed::all(), 0, width, number)
     }
 
-    /// The bits of processor 0's masks that are shown whole.
-    pub(crate) fn masks(&self) -> u64
-        ensures { result ≡ masks_in (slots_of self.now 0) 32 }
+    // A mask of processor 0 that is shown whole, or else supplied.
+    fn mask(&self, supplied: &Supplied, number: u32) -> Option<u64>
+        ensures { result ≡ or_supplied (whole_value (slots_of self.now 0 number)) (supplied_value supplied.now number) }
+    {
+        or_supplied(self.slot(0, number).whole(), supplied.value(number))
+    }
+
+    /// The bits of processor 0's masks that are shown whole, or else supplied.
+    pub(crate) fn masks(&self, supplied: &Supplied) -> u64
+        ensures { result ≡ masks_in supplied.now (slots_of self.now 0) 32 }
     {
         let mut masks = 0;
         'pairs: for n in 0..PAIRS {
-            masks |= self.slot(0, FIRST_MASK + 2 * n).whole().unwrap_or(0);
+            masks |= self.mask(supplied, FIRST_MASK + 2 * n).unwrap_or(0);
         }
         masks
     }
@@ -410,7 +419,7 @@ impl LogReader {
     {
         match self.firm_width(supplied) {
             Some(width) => Some(width),
-            None if supplied.assumed().width => widest(self.masks()),
+            None if supplied.assumed().width => widest(self.masks(supplied)),
             None => None,
         }
     }

@@ -58,6 +58,7 @@ pub(crate) fn written_apart<K: Sink, E: Sink>(
     ensures bytes { WritesApart imported.now
         (record { old = K.taken sink.old; new = K.taken sink.new }) (record { old = E.taken errors.old; new = E.taken errors.new }) result }
     ensures alone { result ≢ Status.Done → result ≢ Status.WriteFault → sink.new ≡ sink.old }
+    ensures memory { result ≢ Status.NoMemory }
     ensures cause { HaveCause (K.faults sink.old, K.faults sink.new) (E.faults errors.old, E.faults errors.new) result }
 {
     if put(errors, imported.reasons.as_slice()).is_err() {

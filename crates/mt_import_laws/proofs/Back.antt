@@ -127,7 +127,7 @@ module _ (supplied : Supplied) (seen : Seen) where
 
 -- a word gives the width, and lines show no other
 pub width_by_word : (file : RegisterFile) (prints : Prints) (supplied : Supplied) (slots : Slots) (shown : Option ℕ) → supplied.width ≡ Some file.width → IsWidth file prints shown → width_by supplied slots shown ≡ Some file.width
-width_by_word file prints supplied slots None given same = ap (λ width. or_supplied width (assumed_width supplied.assumed (slots 0))) given
+width_by_word file prints supplied slots None given same = ap (λ width. or_supplied width (assumed_width supplied (slots 0))) given
 width_by_word file prints supplied slots (Some width) given same = ap Some same
 
 -- a line shows it

@@ -9,6 +9,9 @@ use Rattle.mt_import.specs.declared.shape.Reading.{Reading}
 use Rattle.mt_import.specs.declared.shape.Slot.{Slot}
 use Rattle.mt_import.specs.Slot.{clashes}
 
+pub same_number : (a b : ℕ) → a ≡ b → (a == b) ≡ true
+same_number a b e = grind (arith, nat_tests, e)
+
 pub not_false : (test : Bool) → not test ≡ false → test ≡ true
 not_false true is = refl
 not_false false is = cc is

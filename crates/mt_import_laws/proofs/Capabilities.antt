@@ -16,9 +16,9 @@ use Rattle.mt_import.specs.Supplied.{Supplied}
 use Rattle.mt_import.specs.Outcome.{capabilities_after, capabilities_shown, capability_rival, count_rival, counted, counts_fewer, enabled_pair, ended, last_shown}
 use Rattle.mt_import.specs.Import.{log_told}
 use Rattle.mt_import_laws.specs.Origins.{ContradictInCapabilities, IsAmong, readings_of, seen_of}
-use Rattle.mt_import_laws.proofs.Bits.{bit_first, bit_second, value_kept, value_new}
+use Rattle.mt_import_laws.proofs.Bits.{bit_first, bit_second, same_number, value_kept, value_new}
 use Rattle.mt_import_laws.proofs.Faults.{fault_of, faulty, fine_of}
-use Rattle.mt_import_laws.proofs.Fine.{HasBit, IsFine, same_number, tests_of_rival}
+use Rattle.mt_import_laws.proofs.Fine.{HasBit, IsFine, tests_of_rival}
 
 no_clash : (clash fewer : Bool) (line other : ℕ) → (if clash then Some (Line line) else if fewer then Some (RegisterLine other) else None) ≡ None → clash ≡ false
 no_clash true fewer line other is = cc is

@@ -18,7 +18,7 @@ use Rattle.mt_import_laws.specs.Origins.{HasOrigins, IsAmong, IsUnshown, IsUntol
 use Rattle.mt_import_laws.proofs.Fine.{IsFine}
 use Rattle.mt_import_laws.proofs.Faults.{fault_of, fine_of}
 use Rattle.mt_import_laws.proofs.Sections.{line_of, section_at}
-use Rattle.mt_import_laws.proofs.Shown.{is_shown, shown_clear}
+use Rattle.mt_import_laws.proofs.Shown.{is_shown, only_valid, shown_clear}
 
 -- ---- one value
 
@@ -30,7 +30,13 @@ module _ (supplied : Supplied) (readings : List Reading) (known : Known) (k numb
       → or_supplied (if pair && clear then Some 0 else None) assumed ≡ Some value → Origin supplied readings known k number value
   from_disabled untold true true is_pair is_clear is =
       let found = shown_clear supplied readings k (mask_of number) fine is_clear in
-      by_disabled untold (record { zero = zero_of is; pair = is_pair; valid = found.0; clear = found.1 })
+      by_disabled untold (record {
+        zero = zero_of is;
+        pair = is_pair;
+        valid = found.0;
+        clear = found.1;
+        alone = λ i shows. only_valid supplied readings k (mask_of number) i fine is_clear shows;
+      })
     where
       zero_of : ◌≡◌ {A = Option ℕ} (Some 0) (Some value) → value ≡ 0
       zero_of e = cc e

@@ -1,13 +1,12 @@
 -- Readings none of which has a rival.
-use Rattle.std.proofs.Common.{◌≡◌, ◌<◌, ℕ, Bool, true, false, ◌==◌, ◌&&◌, nat_lt, List, [], ◌∷◌, Option, Some, None, refl, sym, ◌∙◌, ap, subst, bit_and, bit_or, inl, inr, arith}
+use Rattle.std.proofs.Common.{◌≡◌, ◌<◌, ℕ, Bool, true, false, ◌==◌, nat_lt, List, [], ◌∷◌, Option, Some, None, refl, sym, ◌∙◌, ap, subst, bit_and, inl, inr, arith}
 use Rattle.std.specs.Prelude.{⊤, min, if◌then◌else◌}
 use Rattle.std.specs.Int.{bit_at}
 use Rattle.std.proofs.lemmas.Bool.{eqb-true}
 use Rattle.std.proofs.lemmas.Bool.Decides.{nat_tests}
 use Rattle.std.proofs.lemmas.Nat.Bits.{bit_at-lt, bit_at_and}
-use Rattle.mt_regs.specs.RegisterFile.{low_byte}
 use Rattle.mt_import.specs.declared.fault.ImportFault.{ImportFault}
-use Rattle.mt_import.specs.declared.fault.ImportFault.TheVariants.{BadProcessor, TooManyPairs}
+use Rattle.mt_import.specs.declared.fault.ImportFault.TheVariants.{BadProcessor}
 use Rattle.mt_import.specs.declared.fault.Rival.{Rival}
 use Rattle.mt_import.specs.declared.fault.Rival.TheVariants.{Line, Word, CapabilityWord}
 use Rattle.mt_import.specs.declared.shape.Reading.{Reading}
@@ -15,9 +14,9 @@ use Rattle.mt_import.specs.declared.shape.Slot.{Slot}
 use Rattle.mt_import.specs.Readings.{Fact, is_fault, is_line, is_register_value, is_warning, is_width}
 use Rattle.mt_import.specs.Slot.{clashes}
 use Rattle.mt_import.specs.Supplied.{Supplied, bits_differ, supplied_value}
-use Rattle.mt_import.specs.Outcome.{Seen, capabilities_shown, contradiction, count_rival, counts_fewer, enabled_pair, fact_fault, last_shown, facts_fault, fixed_rival, or_fault, or_rival, reading_fault, rival, seen_after, seen_with, slot_shown}
+use Rattle.mt_import.specs.Outcome.{Seen, capabilities_shown, contradiction, count_rival, counts_fewer, enabled_pair, fact_fault, last_shown, facts_fault, fixed_rival, or_fault, or_rival, pairs_fault, reading_fault, rival, seen_after, seen_with, slot_shown}
 use Rattle.mt_import_laws.specs.Origins.{IsAmong}
-use Rattle.mt_import_laws.proofs.Bits.{bit_first, bit_second, not_false, value_kept, value_new}
+use Rattle.mt_import_laws.proofs.Bits.{bit_first, bit_second, not_false, same_number, value_kept, value_new}
 
 -- neither on bits and VCNT nor on FIX
 pub record HasNoRival (supplied : Supplied) (before : List Reading) (reading : Reading) : Type 0 where
@@ -44,16 +43,16 @@ neither supplied before reading None other one two is = record { rival_is = one;
 neither supplied before reading (Some found) other one two is = cc is
 
 no_rival : (supplied : Supplied) (before : List Reading) (reading : Reading) → reading_fault supplied before reading ≡ None → HasNoRival supplied before reading
-no_rival supplied before reading is =
-    by (nat_lt 15 reading.processor) (reading.number == 0xfe && nat_lt 32 (low_byte (bit_or (slot_shown before reading.processor 0xfe).value reading.value))) is
+no_rival supplied before reading is = by (nat_lt 15 reading.processor) is
   where
-    by : (far many : Bool) → (if far then Some (BadProcessor reading.place) else if many then Some (TooManyPairs reading.place) else contradiction reading (or_rival (rival supplied before reading) (fixed_rival (supplied_value supplied 0xfe) before reading))) ≡ None
+    by : (far : Bool) → (if far then Some (BadProcessor reading.place)
+        else or_fault (contradiction reading (or_rival (rival supplied before reading) (fixed_rival (supplied_value supplied 0xfe) before reading))) (pairs_fault before reading)) ≡ None
         → HasNoRival supplied before reading
-    by true many is = cc is
-    by false true is = cc is
-    by false false is =
+    by true is = cc is
+    by false is =
         neither supplied before reading (rival supplied before reading) (fixed_rival (supplied_value supplied 0xfe) before reading) refl refl
-        (no_contradiction reading (or_rival (rival supplied before reading) (fixed_rival (supplied_value supplied 0xfe) before reading)) is)
+        (no_contradiction reading (or_rival (rival supplied before reading) (fixed_rival (supplied_value supplied 0xfe) before reading))
+        (both_none (contradiction reading (or_rival (rival supplied before reading) (fixed_rival (supplied_value supplied 0xfe) before reading))) (pairs_fault before reading) is).0)
 
 pub fine_after : (supplied : Supplied) (facts : List Fact) (seen : Seen) → facts_fault supplied seen facts ≡ None → IsFine supplied seen.readings → IsFine supplied (seen_after seen facts).readings
 fine_after supplied [] seen none fine = fine
@@ -122,9 +121,6 @@ module _ (before : List Reading) (other reading : Reading) (i : ℕ) (fits : cla
       rw (same, same_too) (record { shown = bit_first old.bits other.bits i has.shown; value = value_kept old other i fit has.shown ∙ has.value })
   kept has true false same apart = rw (same, apart) has
   kept has false number_test apart same = rw apart has
-
-pub same_number : (a b : ℕ) → a ≡ b → (a == b) ≡ true
-same_number a b e = grind (arith, nat_tests, e)
 
 here : (before : List Reading) (reading : Reading) (i : ℕ) → clashes (slot_shown before reading.processor reading.number) reading ≡ false → bit_at reading.bits i ≡ 1
     → HasBit (slot_shown (reading ∷ before) reading.processor reading.number) reading i

@@ -21,7 +21,7 @@ use Rattle.mt_import.specs.declared.shape.Reading.{Reading}
 use Rattle.mt_import.specs.declared.shape.Shown.{Shown}
 use Rattle.mt_import.specs.Kernel.{all_fixed_shown}
 use Rattle.mt_import.specs.Pieces.{shown_as, shown_bits}
-use Rattle.mt_import.specs.Readings.{Fact, fixed_bits, fixed_shows, is_line, is_off, one_shown, shows_facts, starts, two_shown}
+use Rattle.mt_import.specs.Readings.{Fact, fixed_shows, flag_shown, is_line, is_off, one_shown, shows_facts, starts, two_shown}
 use Rattle.mt_import.specs.Shown.{context_behind, facts_from, facts_of_line, said_of, shown}
 use Rattle.mt_import.specs.Slot.{all_bits, is_disabled}
 use Rattle.mt_import.specs.Supplied.{Supplied, supplied_value}
@@ -44,7 +44,7 @@ use Rattle.mt_import_laws.proofs.KernelRanges.{IsRun, are_runs, marks, runs_cove
 use Rattle.mt_import_laws.proofs.Keys.{IsKey, is_register_key}
 use Rattle.mt_import_laws.proofs.PartsBack.{held_bits, off_value, parts_whole, table_gathers}
 use Rattle.mt_import_laws.proofs.PrintedBack.{IsBack, IsInFile, fact_back, fits, gathered, gathered_seen, key_in_file, lines_back, slot_back, values_back, word_gives}
-use Rattle.mt_import_laws.proofs.TableLines.{HasReading, ShowsKey, all_join, gathers, lines_have, tells_whole}
+use Rattle.mt_import_laws.proofs.TableLines.{HasReading, IsTrueShown, ShowsKey, all_join, gathers, lines_have, tells_whole}
 use Rattle.mt_import_laws.proofs.Whole.{IsPart, known}
 
 or_second : (a b : Bool) → b ≡ true → (a || b) ≡ true
@@ -306,25 +306,13 @@ module _ (format : Format) (alone : Bool) (style : Style) (kernel : IsKernel for
   fixed_place_of : ℕ → Place
   fixed_place_of number = fixed_place format alone style kernel number
 
-  fe_bits : ℕ
-  fe_bits = fixed_bits style.fixed alone
-
-  fe_small : fe_bits < 2 ^ 64
-  unfolding fe_bits
-  fe_small = by (style.fixed || alone)
+  flag_true : (place : Place) → IsTrueShown file prints (flag_shown style.fixed alone place)
+  flag_true place = by style.fixed alone refl refl
     where
-      by : (test : Bool) → (if test then 0x400 else 0) < 2 ^ 64
-      by true = lit< tt
-      by false = lit< tt
-
-  fe_part : (if style.fixed then fe_bits else 0) ≡ bit_and file.default_type fe_bits
-  unfolding fe_bits
-  fe_part = by style.fixed alone refl refl
-    where
-      by : (f a : Bool) → style.fixed ≡ f → alone ≡ a → (if f then fixed_bits f a else 0) ≡ bit_and file.default_type (fixed_bits f a)
-      by true a is is_alone = flag_part file 10 true (on is)
-      by false true is is_alone = flag_part file 10 false (off is (rw is_alone refl))
-      by false false is is_alone = sym (and_zero_r file.default_type)
+      by : (f a : Bool) → style.fixed ≡ f → alone ≡ a → IsTrueShown file prints (if f || a then shown_bits 0x2ff 0x400 (if f then 0x400 else 0) place else None)
+      by true a is is_alone = tells_default file 0x400 0x400 place (lit< tt) (flag_part file 10 true (on is))
+      by false true is is_alone = tells_default file 0x400 0 place (lit< tt) (flag_part file 10 false (off is (rw is_alone refl)))
+      by false false is is_alone = tt
 
   not_off : not style.fixed ≡ true → style.fixed ≡ false
   not_off = by style.fixed
@@ -351,23 +339,22 @@ module _ (format : Format) (alone : Bool) (style : Style) (kernel : IsKernel for
     }
 
     fixed_good : has_fixed file ≡ true → IsGood file (facts_of_line context number (fixed_line style))
-    unfolding fe_bits
     fixed_good has =
         subst (IsGood file) (sym fixed_shown_facts)
         (line_good file (is_line number (Some format) true) (shows_facts 0 context.table (fixed_shows style.fixed alone (fixed_place_of number))) tt tt
         (shows_good file context.table (fixed_shows style.fixed alone (fixed_place_of number)) is.table_is (
-          tells_default file fe_bits (if style.fixed then fe_bits else 0) (fixed_place_of number) fe_small fe_part,
+          flag_true (fixed_place_of number),
           (
             inl (record { key = None; is_key = tt; is_printed = refl; number = refl; small = lit< tt; value = sym (bit_set file.capabilities 8 has) }),
             (tt, (tt, (tt, (tt, (tt, (tt, (tt, (tt, (tt, tt))))))))),
           ),
         )))
 
-    fixed_has : HasBits fe_bits (facts_of_line context number (fixed_line style))
-    unfolding fe_bits
-    fixed_has =
-        subst (HasBits fe_bits) (sym fixed_shown_facts)
-        (bits_shown (is_line number (Some format) true) context.table fe_bits (if style.fixed then fe_bits else 0) (fixed_place_of number) (shown_bits 0xfe 0x100 0x100 (fixed_place_of number) ∷ replicate 9 None))
+    fixed_has : (style.fixed || alone) ≡ true → HasBits 0x400 (facts_of_line context number (fixed_line style))
+    fixed_has shows =
+        let flag : flag_shown style.fixed alone (fixed_place_of number) ≡ shown_bits 0x2ff 0x400 (if style.fixed then 0x400 else 0) (fixed_place_of number) = rw shows refl in
+        subst (HasBits 0x400) (sym (fixed_shown_facts ∙ ap (λ (o : Option Shown). is_line number (Some format) true ∷ shows_facts 0 context.table (two_shown o (shown_bits 0xfe 0x100 0x100 (fixed_place_of number)))) flag))
+        (bits_shown (is_line number (Some format) true) context.table 0x400 (if style.fixed then 0x400 else 0) (fixed_place_of number) (shown_bits 0xfe 0x100 0x100 (fixed_place_of number) ∷ replicate 9 None))
 
   module _ (has : has_fixed file ≡ true) where
     abbrev fixed_part : List (List ℕ)
@@ -441,11 +428,11 @@ module _ (format : Format) (alone : Bool) (style : Style) (kernel : IsKernel for
     facts_good = behind_default (IsGood file) (good_join file) (rest_good (has_fixed file) refl) log (starts (Some format)) 1 weaves first_within
 
     -- each bit of IA32_MTRR_DEF_TYPE where FE is shown
-    has_fe : has_fixed file ≡ true → HasBits fe_bits facts
-    has_fe has =
-        behind_default (HasBits fe_bits) (λ a b good later. has_later fe_bits a b later)
-        (subst (λ test. LeadsTo fe_bits 1 IsNone (rest test)) (sym has)
-        (by_line file format (HasBits fe_bits) (λ a b good later. has_later fe_bits a b later) (has_first fe_bits) (fixed_line style) (map (run_line style file) (fixed_runs file) ++ tail_lines) 1 IsNone fixed_has))
+    has_fe : has_fixed file ≡ true → (style.fixed || alone) ≡ true → HasBits 0x400 facts
+    has_fe has shows =
+        behind_default (HasBits 0x400) (λ a b good later. has_later 0x400 a b later)
+        (subst (λ test. LeadsTo 0x400 1 IsNone (rest test)) (sym has)
+        (by_line file format (HasBits 0x400) (λ a b good later. has_later 0x400 a b later) (has_first 0x400) (fixed_line style) (map (run_line style file) (fixed_runs file) ++ tail_lines) 1 IsNone (λ context number is. fixed_has context number is shows)))
         log (starts (Some format)) 1 weaves first_within
 
     has_e : has_fixed file ≡ true → HasBits (e_bits (not style.fixed)) facts
@@ -478,12 +465,11 @@ module _ (format : Format) (alone : Bool) (style : Style) (kernel : IsKernel for
         by false = refl
 
     fe_bit : has_fixed file ≡ true → tells ≡ true → HasBit 10
-    unfolding fe_bits
     fe_bit has told = by style.fixed alone (is_enabled file) refl refl refl (tells_all told)
       where
         by : (f a e : Bool) → style.fixed ≡ f → alone ≡ a → is_enabled file ≡ e → (style.fixed || (alone || is_enabled file)) ≡ true → HasBit 10
-        by true a e is is_alone is_on some = record { bits = fe_bits; has = has_fe has; one = rw is refl }
-        by false true e is is_alone is_on some = record { bits = fe_bits; has = has_fe has; one = rw (is, is_alone) refl }
+        by true a e is is_alone is_on some = record { bits = 0x400; has = has_fe has (rw is refl); one = refl }
+        by false true e is is_alone is_on some = record { bits = 0x400; has = has_fe has (rw (is, is_alone) refl); one = refl }
         by false false true is is_alone is_on some = record { bits = e_bits (not style.fixed); has = has_e has; one = rw (is, is_on) refl }
         by false false false is is_alone is_on some = let none : false ≡ true = rw (is, is_alone, is_on) at some in cc none
 

@@ -4,6 +4,7 @@ mod Faults
 mod Capabilities
 mod Counts
 mod FixedRanges
+mod FixedLines
 mod Shown
 mod Among
 mod Lines
@@ -11,6 +12,7 @@ mod Widths
 mod Sections
 mod Dumps
 mod Notes
+mod Warnings
 mod Alike
 mod Returns
 mod FirstLine

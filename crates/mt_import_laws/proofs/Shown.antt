@@ -2,8 +2,8 @@
 use Rattle.std.proofs.Common.{◌≡◌, ◌<◌, ◌/◌, ◌%◌, ℕ, zero, suc, Bool, true, false, ◌==◌, ◌&&◌, not, List, [], ◌∷◌, Some, None, refl, sym, ◌∙◌, ap, subst, bit_or, inl, inr, arith}
 use Rattle.std.specs.Prelude.{if◌then◌else◌}
 use Rattle.std.specs.Int.{bit_at}
-use Rattle.std.proofs.lemmas.Bool.{eqb-true}
-use Rattle.std.proofs.lemmas.Nat.Bits.{bit_at-lt, bit_at-zero, bit_at_ones}
+use Rattle.std.proofs.lemmas.Bool.{eqb-false, eqb-true}
+use Rattle.std.proofs.lemmas.Nat.Bits.{bit_at-lt, bit_at-pow_other, bit_at-zero, bit_at_ones}
 use Rattle.mt_kinds.specs.Bits.{is_bit_set}
 use Rattle.mt_import.specs.declared.shape.Reading.{Reading}
 use Rattle.mt_import.specs.declared.shape.Slot.{Slot}
@@ -135,6 +135,26 @@ not_set (suc (suc n)) small is = absurd (omega (arith, small))
 
 clear_bit : (n : ℕ) → is_bit_set n 11 ≡ false → bit_at n 11 ≡ 0
 clear_bit n is = not_set (n / 2048 % 2) (bit_at-lt n 11) is
+
+-- a bit of a number with one bit
+the_bit : (i : ℕ) → bit_at 0x800 i ≡ 1 → i ≡ 11
+the_bit i one = by (i == 11) refl
+  where
+    by : (test : Bool) → (i == 11) ≡ test → i ≡ 11
+    by true same = eqb-true i 11 same
+    by false other = let e : 0 ≡ 1 = sym (bit_at-pow_other 11 i (eqb-false i 11 other)) ∙ one in absurd (omega (arith, e))
+
+-- a reading of the register that shows a bit shows one of those that are known
+pub known_bit : (supplied : Supplied) (readings : List Reading) (k number i : ℕ) → IsFine supplied readings → ShowsBit readings k number i → bit_at (slot_shown readings k number).bits i ≡ 1
+known_bit supplied readings k number i fine shows =
+    subst (λ j. bit_at (slot_shown readings j number).bits i ≡ 1) shows.processor_is
+    (subst (λ n. bit_at (slot_shown readings shows.reading.processor n).bits i ≡ 1) shows.number_is (agreed supplied readings shows.reading i fine shows.among shows.shown_bit).shown)
+
+pub only_valid : (supplied : Supplied) (readings : List Reading) (k number i : ℕ) → IsFine supplied readings → is_disabled (slot_shown readings k number) ≡ true → ShowsBit readings k number i → i ≡ 11
+only_valid supplied readings k number i fine is shows =
+    let slot = slot_shown readings k number in
+    let bits : slot.bits ≡ 0x800 = eqb-true slot.bits 0x800 (clear_by (slot.bits == 0x800) (is_bit_set slot.value 11) is).0 in
+    the_bit i (ap (λ b. bit_at b i) (sym bits) ∙ known_bit supplied readings k number i fine shows)
 
 pub shown_clear : (supplied : Supplied) (readings : List Reading) (k number : ℕ) → IsFine supplied readings → is_disabled (slot_shown readings k number) ≡ true
     → (b : ShowsBit readings k number 11) × (bit_at b.reading.value 11 ≡ 0)

@@ -394,7 +394,7 @@ module _ (file : RegisterFile) (prints : Prints) where
         let many : (reading.number == 0xfe && nat_lt 32 (low_byte (bit_or (slot_shown before reading.processor 0xfe).value reading.value))) ≡ false = rw part.processor (by (reading.number == 0xfe) refl) in
         let none = no_rival before reading all part in
         let none_too = no_fixed_rival before reading all part in
-        rw (far, many, none, none_too) refl
+        rw (far, none, none_too, many) refl
       where
         by : (n : Bool) → (reading.number == 0xfe) ≡ n → (n && nat_lt 32 (low_byte (bit_or (slot_shown before 0 0xfe).value reading.value))) ≡ false
         by true same =

@@ -41,7 +41,7 @@ gathered (fact ∷ facts) seen width is = elim (gathered facts (seen_with seen f
 
 module _ (choice : Choice) (supplied : Supplied) (text : List ℕ) (width : ℕ) where
   abbrev masks : Option ℕ
-  masks = assumed_width supplied.assumed (slot_shown (readings_of choice text) 0)
+  masks = assumed_width supplied (slot_shown (readings_of choice text) 0)
 
   from_shown : IsShownWidth (shown (format_of choice) text) width ⊎ (◌≡◌ {A = Option ℕ} None (Some width)) → WidthOrigin choice supplied text width
   from_shown (inl found) = width_by_line found.place (fact_of_line choice text (is_width width found.place) found.among)

@@ -1,5 +1,6 @@
 pub mod Origins
 pub mod Notes
+pub mod Warnings
 pub mod Worked
 pub mod Alike
 pub mod Returns

@@ -116,12 +116,13 @@ pub record IsShown (readings : List Reading) (processor number value : ℕ) : Ty
   pub table : ℕ
   pub bits : (i : ℕ) → i < 64 → (b : ShowsBit readings processor number i) × (b.reading.table ≡ table) × (bit_at b.reading.value i ≡ bit_at value i)
 
--- Lines show that V of the register's pair, bit 11 of PhysMask, is clear, and so both registers are 0.
+-- Lines show that V of the register's pair, bit 11 of PhysMask, is clear, and no other bit of PhysMask, and so both registers are 0.
 pub record IsDisabled (readings : List Reading) (processor number value : ℕ) : Type 0 where
   pub zero : value ≡ 0
   pub pair : is_pair_number number ≡ true
   pub valid : ShowsBit readings processor (mask_of number) 11
   pub clear : bit_at valid.reading.value 11 ≡ 0
+  pub alone : (i : ℕ) → ShowsBit readings processor (mask_of number) i → i ≡ 11
 
 -- no table and no line shows all of a register
 abbrev pub IsUnshown : List Reading → ℕ → ℕ → Type 0
@@ -147,6 +148,31 @@ pub record CountsPair (supplied : Supplied) (readings : List Reading) (a : Readi
   pub shown : counts_fewer (counted (capabilities_shown readings)) (enabled_pair a) ≡ false
   pub given : counts_fewer (supplied_value supplied 0xfe) (enabled_pair a) ≡ false
 
+-- ---- lines on fixed ranges
+
+-- what a line says: that fixed ranges are enabled, or that they are disabled
+abbrev pub SaysFixed : Said → Bool → Type 0
+SaysFixed (FixedRanges enabled alone place) on = enabled ≡ on
+SaysFixed Nothing on = ⊥
+SaysFixed (Announces processor number) on = ⊥
+SaysFixed (Value value place) on = ⊥
+SaysFixed (Turns processor) on = ⊥
+SaysFixed (Shows processor shows) on = ⊥
+SaysFixed (Begins shows) on = ⊥
+SaysFixed (VariableRanges enabled place) on = ⊥
+SaysFixed (Width width place) on = ⊥
+SaysFixed Warns on = ⊥
+SaysFixed (Long place) on = ⊥
+
+-- one of these lines says so
+abbrev pub LinesSayFixed : Context → ℕ → List (List ℕ) → Bool → Type 0
+LinesSayFixed context number [] on = ⊥
+LinesSayFixed context number (line ∷ lines) on =
+    SaysFixed (said_in (chosen context.format number line) number line) on ⊎ LinesSayFixed (context_behind context number line) (number + 1) lines on
+
+abbrev pub LogSaysFixed : Choice → List ℕ → Bool → Type 0
+LogSaysFixed choice text on = LinesSayFixed (starts (format_of choice)) 1 (lines_of text) on
+
 -- ---- the width
 
 -- a line, a word or an assumption that gives the width, one behind the other
@@ -154,7 +180,7 @@ pub data WidthOrigin (choice : Choice) (supplied : Supplied) (text : List ℕ) (
   width_by_line : (place : Place) → IsOfLine choice text (is_width width place) → WidthOrigin choice supplied text width
   width_by_word : (seen_of choice text).width ≡ None → supplied.width ≡ Some width → WidthOrigin choice supplied text width
   width_by_masks : (seen_of choice text).width ≡ None → supplied.width ≡ None
-      → assumed_width supplied.assumed (slot_shown (readings_of choice text) 0) ≡ Some width → WidthOrigin choice supplied text width
+      → assumed_width supplied (slot_shown (readings_of choice text) 0) ≡ Some width → WidthOrigin choice supplied text width
 
 -- ---- a dump
 

@@ -1,12 +1,14 @@
--- Logs of two lines that contradict each other, for which the premises of the laws hold (own).
-use Rattle.std.specs.Prelude.{ℕ, ◌≡◌, true, codes, List, ◌∷◌, ◌++◌}
+-- Logs of two lines that contradict each other, and others for which the premises of the laws hold (own).
+use Rattle.std.specs.Prelude.{ℕ, ◌≡◌, true, false, codes, List, [], ◌∷◌, ◌++◌, Some, None}
+use Rattle.mt_kinds.specs.Bits.{is_bit_set}
 use Rattle.mt_import.specs.declared.format.Choice.{Choice}
 use Rattle.mt_import.specs.declared.format.Choice.TheVariants.{Only}
-use Rattle.mt_import.specs.declared.format.Format.TheVariants.{Rdmsr}
+use Rattle.mt_import.specs.declared.format.Format.TheVariants.{Linux, Rdmsr}
 use Rattle.mt_import.specs.declared.shape.Reading.{Reading}
 use Rattle.mt_import.specs.Slot.{all_bits}
 use Rattle.mt_import.specs.Outcome.{shows_fixed, shows_no_fix}
-use Rattle.mt_import_laws.specs.Origins.{Contradict, IsAmong, readings_of}
+use Rattle.mt_import.specs.Supplied.{Supplied, command_of, nothing_assumed, supplied_value}
+use Rattle.mt_import_laws.specs.Origins.{Contradict, IsAmong, LogSaysFixed, readings_of}
 
 abbrev pub worked_choice : Choice
 worked_choice = Only Rdmsr
@@ -40,6 +42,33 @@ pub record IsWorkedFixed : Type 0 where
   pub second : IsAmong fixless_reading (readings_of worked_choice fixed_log)
   pub fixed : shows_fixed fixed_reading ≡ true
   pub clear : shows_no_fix fixless_reading ≡ true
+
+-- what the word `0fe=400` supplies
+abbrev pub word_without_fix : Supplied
+word_without_fix = record { width = None; registers = (0xfe, 0x400) ∷ []; assumed = nothing_assumed }
+
+-- a fixed-range register alone
+abbrev pub ranged_log : List ℕ
+ranged_log = codes "0x250 6\n"
+
+pub record IsWorkedWord : Type 0 where
+  pub words : command_of (codes "rdmsr" ∷ codes "0fe=400" ∷ []) ≡ Some (worked_choice, word_without_fix)
+  pub among : IsAmong fixed_reading (readings_of worked_choice ranged_log)
+  pub fixed : shows_fixed fixed_reading ≡ true
+  pub given : supplied_value word_without_fix 0xfe ≡ Some 0x400
+  pub clear : is_bit_set 0x400 8 ≡ false
+
+-- fixed ranges that are on and off
+abbrev pub switched_log : List ℕ
+switched_log = codes "MTRR fixed ranges enabled:\nMTRR fixed ranges disabled:\n"
+
+pub record IsWorkedSwitch : Type 0 where
+  pub on : LogSaysFixed (Only Linux) switched_log true
+  pub off : LogSaysFixed (Only Linux) switched_log false
+
+-- a warning in a log of another format
+abbrev pub warning_log : List ℕ
+warning_log = codes "0x277 6\nmtrr: your CPUs had inconsistent variable MTRR settings\n"
 
 pub record IsWorked : Type 0 where
   pub first : IsAmong first_reading (readings_of worked_choice worked_log)

@@ -7,15 +7,16 @@ ghost use Rattle.mt_import.specs.declared.format.Choice.TheVariants.{Auto, Only}
 ghost use Rattle.mt_import.specs.declared.format.Format.{Format};
 ghost use Rattle.mt_import.specs.declared.shape.Reading.{Reading};
 ghost use Rattle.mt_import.specs.Import.{log_told, told_of};
-ghost use Rattle.mt_import.specs.Outcome.{Seen, Told, shows_fixed, shows_no_fix};
+ghost use Rattle.mt_import.specs.Outcome.{Seen, Told, shows_fixed, shows_no_fix, warning_text};
 ghost use Rattle.mt_import.specs.Readings.{is_width};
 ghost use Rattle.mt_import.specs.Shown.{format_of, shown};
 ghost use Rattle.mt_import.specs.Supplied.{Supplied, supplied_value};
 ghost use Rattle.mt_import_laws.specs.Alike.{AreAlikeLogs};
 ghost use Rattle.mt_import_laws.specs.FirstLine.{ComeToSame, TellsFirst};
 ghost use Rattle.mt_import_laws.specs.Notes.{AreNoted};
-ghost use Rattle.mt_import_laws.specs.Origins.{Contradict, ContradictInCapabilities, ContradictsWord, CountsPair, HasOrigins, IsAmong, IsRead, WidthOrigin, readings_of, seen_of};
+ghost use Rattle.mt_import_laws.specs.Origins.{Contradict, ContradictInCapabilities, ContradictsWord, CountsPair, HasOrigins, IsAmong, IsRead, LogSaysFixed, WidthOrigin, readings_of, seen_of};
 ghost use Rattle.mt_import_laws.specs.Returns.{DifferInReturns};
+ghost use Rattle.mt_import_laws.specs.Warnings.{HasWarning, IsWithin};
 
 /// For all logs and words: if a dump comes of them, it has a section for each processor, with the processor's values. Lines of one
 /// table show each value of the processor. Or else a word supplies it. Or else lines show its pair as disabled, and it is 0. Or else
@@ -35,6 +36,12 @@ pub fn widths_have_origins()
 /// There are no other comments: what one names was assumed.
 pub fn assumed_values_are_noted()
     ensures { (supplied : Supplied) (seen : Seen) (told : Told) (origins : HasOrigins supplied seen told) → AreNoted supplied seen origins.capabilities told.notes }
+{}
+
+/// A kernel's warning that processors differ is told on standard error, wherever it stands, unless the log has a fault.
+pub fn warnings_are_told()
+    ensures { (choice : Choice) (supplied : Supplied) (text : List ℕ) → HasWarning choice text → (log_told choice supplied text).status ≢ BadText
+        → IsWithin (warning_text true) (log_told choice supplied text).reasons }
 {}
 
 /// What is shown of a register is shown by a line of the log, and is of the table that the last heading begins.
@@ -82,6 +89,12 @@ pub fn fixed_ranges_without_fix_are_faults()
 pub fn a_word_without_fix_is_a_fault()
     ensures { (choice : Choice) (supplied : Supplied) (text : List ℕ) (a : Reading) (word : ℕ) → IsAmong a (readings_of choice text)
         → shows_fixed a ≡ true → supplied_value supplied 0xfe ≡ Some word → is_bit_set word 8 ≡ false → (log_told choice supplied text).status ≡ BadText }
+{}
+
+/// A line that calls fixed ranges enabled, and a line that calls them disabled, are a fault, whatever each shows of a register.
+pub fn lines_on_fixed_ranges_agree()
+    ensures { (choice : Choice) (supplied : Supplied) (text : List ℕ) → LogSaysFixed choice text true → LogSaysFixed choice text false
+        → (log_told choice supplied text).status ≡ BadText }
 {}
 
 /// Of a dump, VCNT counts each pair that lines show as enabled: VCNT as lines show it, and as a word supplies it.

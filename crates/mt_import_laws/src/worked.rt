@@ -1,7 +1,8 @@
 ghost use Rattle.std.specs.Prelude.{◌≡◌, ◌∷◌, ◌++◌, [], ℕ, List, codes, length};
 ghost use Rattle.mt_text.specs.Text.{longest_line};
 ghost use Rattle.mt_import_laws.specs.Returns.{DifferInReturns, GetsReturn};
-ghost use Rattle.mt_import_laws.specs.Worked.{IsWorked, IsWorkedFixed, returned_log, worked_log};
+ghost use Rattle.mt_import_laws.specs.Worked.{IsWorked, IsWorkedFixed, IsWorkedSwitch, IsWorkedWord, returned_log, warning_log, worked_choice, worked_log};
+ghost use Rattle.mt_import_laws.specs.Warnings.{HasWarning};
 
 /// An instance of `contradictions_are_faults`: the lines of a log of two lines are read, and contradict each other.
 pub fn worked_contradiction()
@@ -11,6 +12,21 @@ pub fn worked_contradiction()
 /// An instance of `fixed_ranges_without_fix_are_faults`: a log of two lines shows a fixed-range register, and FIX as clear.
 pub fn worked_fixed_ranges()
     ensures { IsWorkedFixed }
+{}
+
+/// An instance of `a_word_without_fix_is_a_fault`: a log shows a fixed-range register, and a word supplies 0FEH without FIX.
+pub fn worked_word()
+    ensures { IsWorkedWord }
+{}
+
+/// An instance of `lines_on_fixed_ranges_agree`: two lines of Linux that don't.
+pub fn worked_switch()
+    ensures { IsWorkedSwitch }
+{}
+
+/// An instance of `warnings_are_told`: a kernel's warning in a log of rdmsr.
+pub fn worked_warning()
+    ensures { HasWarning worked_choice warning_log }
 {}
 
 /// An instance of `returns_change_nothing`: a line of a log gets a CR. One that stays gets none, and none is a second one or past the longest line.

@@ -4,4 +4,4 @@ use Rattle.mt_import.specs.Values.{masks_in}
 use Rattle.mt_import.proofs.reader.LogReader.masks.Given as goal
 
 abbrev pub invariant-pairs : goal.invariant-pairs
-invariant-pairs l = l.masks ≡ masks_in (slots_of l.self 0) l.n
+invariant-pairs l = l.masks ≡ masks_in l.supplied (slots_of l.self 0) l.n
