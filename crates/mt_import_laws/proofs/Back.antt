@@ -1,27 +1,28 @@
--- A file that comes out of readings of its registers.
+-- Files that come out of readings of their registers.
 use Rattle.std.proofs.Common.{◌≡◌, ◌∙◌, ◌<◌, ◌≤◌, ◌==◌, ◌^◌, ℕ, zero, suc, Bool, true, false, List, [], ◌∷◌, ◌++◌, length, map, take, Option, Some, None, refl, sym, ap, subst, arith, inl, inr}
 use Rattle.std.specs.Prelude.{◌⊎◌, if◌then◌else◌, unwrap_or}
 use Rattle.std.specs.List.{AllByRecursion}
 use Rattle.std.proofs.lemmas.Bool.{eqb-true}
 use Rattle.std.proofs.lemmas.List.{ext_get_or, get_or-map, take_all}
+use Rattle.mt_kinds.specs.Bits.{is_bit_set}
 use Rattle.mt_regs.specs.declared.registers.Register.{Register}
 use Rattle.mt_regs.specs.declared.registers.Register.TheVariants.{PhysBase, PhysMask, FixedRange, Pat, DefaultType}
 use Rattle.mt_regs.specs.RegisterFile.{IsRegisterFile, RegisterFile, has_fixed, low_byte, pair_at}
 use Rattle.mt_regs.specs.Registers.{IsWithin, fixed_numbers, number_of, value_of, writable}
 use Rattle.mt_dump.specs.Canon.{canon}
-use Rattle.mt_dump.specs.Dumps.{dump_of}
+use Rattle.mt_dump.specs.Dumps.{Dump}
 use Rattle.mt_text.specs.declared.place.Place.{Place}
 use Rattle.mt_import.specs.declared.shape.Tally.{Tally}
 use Rattle.mt_import.specs.Supplied.{Supplied, supplied_value}
 use Rattle.mt_import.specs.Readings.{Fact, is_fault, is_line, is_register_value, is_warning, is_width}
 use Rattle.mt_import.specs.Slot.{all_bits}
 use Rattle.mt_import.specs.Values.{assumed_of, assumed_value, assumed_width, disabled_value, or_supplied, width_by}
-use Rattle.mt_import.specs.Outcome.{Seen, Slots, dump_told, ended, file_of, first_pairs, fixed_of, hint_of, is_empty, is_missing, known_by, known_of, missing_lines, missing_of, needed, notes_of, processors, refusal, remarks, seen_after, seen_with, slot_shown, value_or_zero, values_of}
+use Rattle.mt_import.specs.Outcome.{Seen, Slots, dump_told, ended, file_of, files_of, first_pairs, fixed_of, hint_of, is_empty, is_missing, known_by, known_of, missing_lines, missing_of, needed, notes_of, processors, refusal, remarks, seen_after, seen_with, slot_shown, value_or_zero, values_of, version_of}
 use Rattle.mt_import.proofs.Same.{value_is}
 use Rattle.mt_import_laws.specs.Origins.{IsAmong}
-use Rattle.mt_import_laws.specs.Printed.{ReadsBack}
+use Rattle.mt_import_laws.specs.Printed.{ReadsAs}
 use Rattle.mt_import_laws.proofs.Keys.{all_within}
-use Rattle.mt_import_laws.proofs.Whole.{Holds, IsKnown, IsSound, IsWidth, Prints, whole_slot}
+use Rattle.mt_import_laws.proofs.Whole.{AreAlike, Holds, IsKnown, IsSound, IsWidth, Prints, whole_slot}
 
 -- ---- the file
 
@@ -63,84 +64,126 @@ module _ (values : ℕ → Option ℕ) (file : RegisterFile) (is : IsRegisterFil
       ∙ ap (λ p. made file.pairs file.fixed p (value_or_zero values 0x2ff)) pat
       ∙ ap (λ d. made file.pairs file.fixed file.pat d) default
 
--- ---- nothing is missing
+-- ---- the files of all processors
 
-module _ (hints : ℕ → Option ℕ) (values : ℕ → ℕ → Option ℕ) (file : RegisterFile) where
-  found : (number value : ℕ) → values 0 number ≡ Some value → is_missing values 1 number ≡ false
-  found number value is = rw is refl
+-- those of the first so many
+abbrev pub first_files : (ℕ → RegisterFile) → ℕ → List RegisterFile
+first_files files zero = []
+first_files files (suc k) = first_files files k ++ files k ∷ []
 
-  none_missing : (registers : List Register) → AllByRecursion (IsWithin file) registers → ((register : Register) → IsWithin file register → values 0 (number_of register) ≡ Some (value_of file register))
-      → missing_lines hints values 1 (map number_of registers) ≡ []
-  none_missing [] within all = refl
-  none_missing (register ∷ registers) within all = rw (found (number_of register) (value_of file register) (all register within.0)) (none_missing registers within.1 all)
+abbrev pub dump_from : (ℕ → RegisterFile) → ℕ → Dump
+dump_from files count = record { version = version_of count; files = first_files files count }
 
-  pub nothing_missing : IsRegisterFile file → values 0 0xfe ≡ Some file.capabilities → ((register : Register) → IsWithin file register → values 0 (number_of register) ≡ Some (value_of file register))
-      → missing_lines hints values 1 (needed (values 0 0xfe)) ≡ []
-  nothing_missing is capabilities all =
-      ap (λ c. missing_lines hints values 1 (needed c)) capabilities ∙ rw (found 0xfe file.capabilities capabilities) (none_missing (writable file) (all_within file is) all)
+module _ (values : ℕ → ℕ → Option ℕ) (files : ℕ → RegisterFile) (count : ℕ) (alike : AreAlike files count)
+    (all : (k : ℕ) → k < count → (register : Register) → IsWithin (files k) register → values k (number_of register) ≡ Some (value_of (files k) register)) where
+  one_back : (k : ℕ) → k < count → file_of (values k) (files 0).width (files 0).capabilities ≡ files k
+  one_back k less =
+      ap (λ w. file_of (values k) w (files 0).capabilities) (sym (alike.widths k less))
+      ∙ ap (λ c. file_of (values k) (files k).width c) (sym (alike.capabilities k less))
+      ∙ file_back (values k) (files k) (alike.is_file k less) (all k less)
+
+  pub files_back : (n : ℕ) → n ≤ count → files_of values (files 0).width (files 0).capabilities n ≡ first_files files n
+  files_back zero within = refl
+  files_back (suc n) within =
+      ap (λ fs. fs ++ file_of (values n) (files 0).width (files 0).capabilities ∷ []) (files_back n (omega (arith, within))) ∙ ap (λ f. first_files files n ++ f ∷ []) (one_back n (omega (arith, within)))
+
+  more : (k : ℕ) → k < count → (n : ℕ) → n < length (files 0).pairs → n < length (files k).pairs
+  more k less n within =
+      let own = (alike.is_file k less).all_pairs in
+      let first = (alike.is_file 0 alike.some).all_pairs in
+      let same : low_byte (files k).capabilities ≡ low_byte (files 0).capabilities = ap low_byte (alike.capabilities k less) in
+      omega (arith, within, own, first, same)
+
+  -- a register of the first file is one of each
+  in_each : (k : ℕ) → k < count → (register : Register) → IsWithin (files 0) register → IsWithin (files k) register
+  in_each k less (PhysBase n) within = more k less n within
+  in_each k less (PhysMask n) within = more k less n within
+  in_each k less (FixedRange place) within = (within.0, ap (λ c. is_bit_set c 8) (alike.capabilities k less) ∙ within.1)
+  in_each k less Pat within = tt
+  in_each k less DefaultType within = tt
+
+  -- ---- nothing is missing
+
+  found : (number : ℕ) → ((k : ℕ) → k < count → (value : ℕ) × (values k number ≡ Some value)) → (n : ℕ) → n ≤ count → is_missing values n number ≡ false
+  found number each zero within = refl
+  found number each (suc n) within = rw (found number each n (omega (arith, within)), (each n (omega (arith, within))).1) refl
+
+  none_missing : (hints : ℕ → Option ℕ) (registers : List Register) → AllByRecursion (IsWithin (files 0)) registers → missing_lines hints values count (map number_of registers) ≡ []
+  none_missing hints [] within = refl
+  none_missing hints (register ∷ registers) within =
+      let here : is_missing values count (number_of register) ≡ false =
+      found (number_of register) (λ k less. (value_of (files k) register, all k less register (in_each k less register within.0))) count (omega arith) in
+      rw here (none_missing hints registers within.1)
+
+  pub nothing_missing : (hints : ℕ → Option ℕ) → ((k : ℕ) → k < count → values k 0xfe ≡ Some (files k).capabilities) → missing_lines hints values count (needed (values 0 0xfe)) ≡ []
+  nothing_missing hints capabilities =
+      let here : is_missing values count 0xfe ≡ false = found 0xfe (λ k less. ((files k).capabilities, capabilities k less)) count (omega arith) in
+      ap (λ c. missing_lines hints values count (needed c)) (capabilities 0 alike.some)
+      ∙ rw here (none_missing hints (writable (files 0)) (all_within (files 0) (alike.is_file 0 alike.some)))
 
 -- ---- the outcome
 
-module _ (auto : Bool) (tally : Tally) (values : ℕ → ℕ → Option ℕ) (file : RegisterFile) (is : file_of (values 0) file.width file.capabilities ≡ file) where
-  by_parts : (missing notes : List ℕ) (count : ℕ) (width capabilities : Option ℕ) → missing ≡ [] → count ≡ 1 → width ≡ Some file.width → capabilities ≡ Some file.capabilities
-      → ReadsBack (if is_empty missing then dump_told (refusal tally missing) values count notes (remarks auto tally) width capabilities else refusal tally missing) file
-  by_parts missing notes count width capabilities none one own_width own_capabilities =
-      rw (none, one, own_width, own_capabilities) (record { status = refl; dump = ap (λ f. canon (dump_of f)) is })
+by_parts : (auto : Bool) (tally : Tally) (values : ℕ → ℕ → Option ℕ) (first : RegisterFile) (wanted : List RegisterFile) (missing notes : List ℕ) (number count : ℕ) (width capabilities : Option ℕ)
+    → files_of values first.width first.capabilities count ≡ wanted → missing ≡ [] → number ≡ count → width ≡ Some first.width → capabilities ≡ Some first.capabilities
+    → ReadsAs (if is_empty missing then dump_told (refusal tally missing) values number notes (remarks auto tally) width capabilities else refusal tally missing) (record { version = version_of count; files = wanted })
+by_parts auto tally values first wanted missing notes number count width capabilities is none one own_width own_capabilities =
+    rw (none, one, own_width, own_capabilities) (record { status = refl; dump = ap (λ fs. canon (record { version = version_of count; files = fs })) is })
 
--- What a file's registers were read as comes out as the file.
-pub ended_back : (auto : Bool) (supplied : Supplied) (seen : Seen) (file : RegisterFile) → IsRegisterFile file → processors seen.readings ≡ 1 → width_by supplied (slot_shown seen.readings) seen.width ≡ Some file.width
-    → values_of supplied (slot_shown seen.readings) (known_of seen) 0 0xfe ≡ Some file.capabilities
-    → ((register : Register) → IsWithin file register → values_of supplied (slot_shown seen.readings) (known_of seen) 0 (number_of register) ≡ Some (value_of file register))
-    → ReadsBack (ended auto supplied seen) file
-ended_back auto supplied seen file is one width capabilities all =
+-- What the registers of files were read as comes out as the files.
+pub ended_back : (auto : Bool) (supplied : Supplied) (seen : Seen) (files : ℕ → RegisterFile) (count : ℕ) → AreAlike files count → processors seen.readings ≡ count
+    → width_by supplied (slot_shown seen.readings) seen.width ≡ Some (files 0).width
+    → ((k : ℕ) → k < count → values_of supplied (slot_shown seen.readings) (known_of seen) k 0xfe ≡ Some (files k).capabilities)
+    → ((k : ℕ) → k < count → (register : Register) → IsWithin (files k) register → values_of supplied (slot_shown seen.readings) (known_of seen) k (number_of register) ≡ Some (value_of (files k) register))
+    → ReadsAs (ended auto supplied seen) (dump_from files count)
+ended_back auto supplied seen files count alike number width capabilities all =
     let values : ℕ → ℕ → Option ℕ = values_of supplied (slot_shown seen.readings) (known_of seen) in
     let hints : ℕ → Option ℕ = hint_of supplied (slot_shown seen.readings) (known_of seen) in
     let lines : missing_lines hints values (processors seen.readings) (needed (values 0 0xfe)) ≡ [] =
-    ap (λ count. missing_lines hints values count (needed (values 0 0xfe))) one ∙ nothing_missing hints values file is capabilities all in
+    ap (λ n. missing_lines hints values n (needed (values 0 0xfe))) number ∙ nothing_missing values files count alike all hints capabilities in
     let none : missing_of supplied (slot_shown seen.readings) (processors seen.readings) (known_of seen) ≡ [] = rw width lines in
-    by_parts auto seen.tally values file (file_back (values 0) file is all)
+    by_parts auto seen.tally values (files 0) (first_files files count)
     (missing_of supplied (slot_shown seen.readings) (processors seen.readings) (known_of seen)) (notes_of supplied (slot_shown seen.readings) (processors seen.readings) (known_of seen))
-    (processors seen.readings) (width_by supplied (slot_shown seen.readings) seen.width) (values 0 0xfe) none one width capabilities
+    (processors seen.readings) count (width_by supplied (slot_shown seen.readings) seen.width) (values 0 0xfe) (files_back values files count alike all count (omega arith)) none number width (capabilities 0 alike.some)
 
 -- ---- one value
 
-module _ (supplied : Supplied) (seen : Seen) where
-  -- lines show all of the register
-  pub by_lines : (number value : ℕ) → Holds (slot_shown seen.readings 0 number) value → values_of supplied (slot_shown seen.readings) (known_of seen) 0 number ≡ Some value
-  by_lines number value holds = value_is supplied (slot_shown seen.readings) (known_of seen) 0 number ∙ rw (holds.fresh, holds.shows) refl
+module _ (supplied : Supplied) (seen : Seen) (k : ℕ) where
+  -- lines show all of the processor's register
+  pub by_lines : (number value : ℕ) → Holds (slot_shown seen.readings k number) value → values_of supplied (slot_shown seen.readings) (known_of seen) k number ≡ Some value
+  by_lines number value holds = value_is supplied (slot_shown seen.readings) (known_of seen) k number ∙ rw (holds.fresh, holds.shows) refl
 
   -- a word gives the register, and lines show no other bits
-  pub by_word : (number value : ℕ) → IsKnown (slot_shown seen.readings 0 number) value → value < 2 ^ 64 → supplied_value supplied number ≡ Some value
-      → values_of supplied (slot_shown seen.readings) (known_of seen) 0 number ≡ Some value
+  pub by_word : (number value : ℕ) → IsKnown (slot_shown seen.readings k number) value → value < 2 ^ 64 → supplied_value supplied number ≡ Some value
+      → values_of supplied (slot_shown seen.readings) (known_of seen) k number ≡ Some value
   by_word number value known fits given =
-      value_is supplied (slot_shown seen.readings) (known_of seen) 0 number
-      ∙ by ((slot_shown seen.readings 0 number).fresh == all_bits) refl
+      value_is supplied (slot_shown seen.readings) (known_of seen) k number
+      ∙ by ((slot_shown seen.readings k number).fresh == all_bits) refl
     where
-      by : (test : Bool) → ((slot_shown seen.readings 0 number).fresh == all_bits) ≡ test
-          → or_supplied (or_supplied (if test then Some (slot_shown seen.readings 0 number).value else None) (or_supplied (supplied_value supplied number) (disabled_value (slot_shown seen.readings 0) number)))
-          (assumed_value (assumed_of 0 supplied.assumed) (slot_shown seen.readings 0) (known_by supplied (slot_shown seen.readings) (known_of seen)) number)
+      by : (test : Bool) → ((slot_shown seen.readings k number).fresh == all_bits) ≡ test
+          → or_supplied (or_supplied (if test then Some (slot_shown seen.readings k number).value else None) (or_supplied (supplied_value supplied number) (disabled_value (slot_shown seen.readings k) number)))
+          (assumed_value (assumed_of k supplied.assumed) (slot_shown seen.readings k) (known_by supplied (slot_shown seen.readings) (known_of seen)) number)
           ≡ Some value
-      by true whole = ap Some (whole_slot (slot_shown seen.readings 0 number) value known fits (eqb-true (slot_shown seen.readings 0 number).fresh all_bits whole)).shows
+      by true whole = ap Some (whole_slot (slot_shown seen.readings k number) value known fits (eqb-true (slot_shown seen.readings k number).fresh all_bits whole)).shows
       by false part = rw given refl
 
 -- ---- the width
 
 -- a word gives the width, and lines show no other
-pub width_by_word : (file : RegisterFile) (prints : Prints) (supplied : Supplied) (slots : Slots) (shown : Option ℕ) → supplied.width ≡ Some file.width → IsWidth file prints shown → width_by supplied slots shown ≡ Some file.width
-width_by_word file prints supplied slots None given same = ap (λ width. or_supplied width (assumed_width supplied (slots 0))) given
-width_by_word file prints supplied slots (Some width) given same = ap Some same
+width_by_word : (files : ℕ → RegisterFile) (count : ℕ) (prints : Prints) (supplied : Supplied) (slots : Slots) (shown : Option ℕ) → supplied.width ≡ Some (files 0).width → IsWidth files count prints shown → width_by supplied slots shown ≡ Some (files 0).width
+width_by_word files count prints supplied slots None given same = ap (λ width. or_supplied width (assumed_width supplied (slots 0))) given
+width_by_word files count prints supplied slots (Some width) given same = ap Some same
 
 -- a line shows it
-width_gathers : (file : RegisterFile) (prints : Prints) (facts : List Fact) (seen : Seen) (place : Place) → AllByRecursion (IsSound file prints) facts
-    → IsAmong (is_width file.width place) facts ⊎ (seen.width ≡ Some file.width) → (seen_after seen facts).width ≡ Some file.width
-width_gathers file prints [] seen place sound (inl fact) = absurd fact
-width_gathers file prints [] seen place sound (inr before) = before
-width_gathers file prints (fact ∷ facts) seen place sound (inl (inr later)) = width_gathers file prints facts (seen_with seen fact) place sound.1 (inl later)
-width_gathers file prints (fact ∷ facts) seen place sound (inl (inl same)) =
-    width_gathers file prints facts (seen_with seen fact) place sound.1 (inr (subst (λ (f : Fact). (seen_with seen f).width ≡ Some file.width) (sym same) refl))
-width_gathers file prints (fact ∷ facts) seen place sound (inr before) = width_gathers file prints facts (seen_with seen fact) place sound.1 (inr (by fact sound.0))
+width_gathers : (files : ℕ → RegisterFile) (count : ℕ) (prints : Prints) (facts : List Fact) (seen : Seen) (place : Place) → AllByRecursion (IsSound files count prints) facts
+    → IsAmong (is_width (files 0).width place) facts ⊎ (seen.width ≡ Some (files 0).width) → (seen_after seen facts).width ≡ Some (files 0).width
+width_gathers files count prints [] seen place sound (inl fact) = absurd fact
+width_gathers files count prints [] seen place sound (inr before) = before
+width_gathers files count prints (fact ∷ facts) seen place sound (inl (inr later)) = width_gathers files count prints facts (seen_with seen fact) place sound.1 (inl later)
+width_gathers files count prints (fact ∷ facts) seen place sound (inl (inl same)) =
+    width_gathers files count prints facts (seen_with seen fact) place sound.1 (inr (subst (λ (f : Fact). (seen_with seen f).width ≡ Some (files 0).width) (sym same) refl))
+width_gathers files count prints (fact ∷ facts) seen place sound (inr before) = width_gathers files count prints facts (seen_with seen fact) place sound.1 (inr (by fact sound.0))
   where
-    by : (f : Fact) → IsSound file prints f → (seen_with seen f).width ≡ Some file.width
+    by : (f : Fact) → IsSound files count prints f → (seen_with seen f).width ≡ Some (files 0).width
     by (is_line number format matched) true_one = before
     by (is_register_value reading) true_one = before
     by (is_width width at) true_one = ap Some true_one
@@ -151,7 +194,7 @@ width_gathers file prints (fact ∷ facts) seen place sound (inr before) = width
 abbrev pub HasWidth : RegisterFile → Supplied → List Fact → Type 0
 HasWidth file supplied facts = (supplied.width ≡ Some file.width) ⊎ ((place : Place) × IsAmong (is_width file.width place) facts)
 
-pub width_back : (file : RegisterFile) (prints : Prints) (supplied : Supplied) (slots : Slots) (facts : List Fact) (seen : Seen) → AllByRecursion (IsSound file prints) facts → IsWidth file prints (seen_after seen facts).width
-    → HasWidth file supplied facts → width_by supplied slots (seen_after seen facts).width ≡ Some file.width
-width_back file prints supplied slots facts seen sound is (inl given) = width_by_word file prints supplied slots (seen_after seen facts).width given is
-width_back file prints supplied slots facts seen sound is (inr shown) = ap (width_by supplied slots) (width_gathers file prints facts seen shown.0 sound (inl shown.1))
+pub width_back : (files : ℕ → RegisterFile) (count : ℕ) (prints : Prints) (supplied : Supplied) (slots : Slots) (facts : List Fact) (seen : Seen) → AllByRecursion (IsSound files count prints) facts → IsWidth files count prints (seen_after seen facts).width
+    → HasWidth (files 0) supplied facts → width_by supplied slots (seen_after seen facts).width ≡ Some (files 0).width
+width_back files count prints supplied slots facts seen sound is (inl given) = width_by_word files count prints supplied slots (seen_after seen facts).width given is
+width_back files count prints supplied slots facts seen sound is (inr shown) = ap (width_by supplied slots) (width_gathers files count prints facts seen shown.0 sound (inl shown.1))

@@ -17,7 +17,7 @@ use Rattle.mt_import_laws.proofs.Among.{all_map, among_at, among_filter, among_j
 use Rattle.mt_import_laws.proofs.CorebootLines.{IsNamed, is_displayed, line_plain, named, place, register_said}
 use Rattle.mt_import_laws.proofs.KeyLines.{ShowsAlone, has_line, lines_true}
 use Rattle.mt_import_laws.proofs.Keys.{IsKey, all_within}
-use Rattle.mt_import_laws.proofs.PrintedBack.{HasLine, IsGiven, IsInFile, fits, key_in_file, table_back, word_gives}
+use Rattle.mt_import_laws.proofs.PrintedBack.{HasLine, IsGiven, IsInFile, fits, key_in_file, table_back}
 use Rattle.mt_import_laws.proofs.Whole.{any_bits}
 
 shown_fixed : (register : Register) → is_fixed register ≡ true → is_displayed (Some register) ≡ true
@@ -93,12 +93,12 @@ module _ (leveled : Bool) (tails : Tails) (file : RegisterFile) (supplied : Supp
   line_at : (key : Key) → IsAmong key (displayed file) → HasLine Coreboot (coreboot_lines leveled tails file) key
   line_at = has_line file Coreboot (line_of leveled tails file) (displayed file) are_keys all_fit shows
 
-  each_key : (key : Key) → IsInFile file key → HasLine Coreboot (coreboot_lines leveled tails file) key ⊎ IsGiven file any_bits supplied key
+  each_key : (key : Key) → IsInFile file key → HasLine Coreboot (coreboot_lines leveled tails file) key ⊎ IsGiven supplied file key
   each_key None within = inl (line_at None (inl refl))
   each_key (Some (PhysBase n)) within = inl (line_at (Some (PhysBase n)) (is_of_pairs (PhysBase n) within refl))
   each_key (Some (PhysMask n)) within = inl (line_at (Some (PhysMask n)) (is_of_pairs (PhysMask n) within refl))
   each_key (Some (FixedRange place)) within = inl (line_at (Some (FixedRange place)) (is_of_fixed (FixedRange place) within refl))
-  each_key (Some Pat) within = inr (word_gives file any_bits supplied (Some Pat) suits.is_file suits.has_words tt suits.pat)
+  each_key (Some Pat) within = inr suits.pat
   each_key (Some DefaultType) within = inl (line_at (Some DefaultType) (inr (inl refl)))
 
   table_plain : AllByRecursion (λ line. list_all is_plain line ≡ true) (coreboot_lines leveled tails file)
@@ -110,7 +110,7 @@ module _ (leveled : Bool) (tails : Tails) (file : RegisterFile) (supplied : Supp
 
   pub reads : TableReadsBack Coreboot (coreboot_lines leveled tails file) supplied file
   reads =
-      table_back file any_bits Coreboot (coreboot_lines leveled tails file) supplied suits.is_file suits.has_words suits.agrees (inl suits.width)
+      table_back file Coreboot (coreboot_lines leveled tails file) supplied suits.is_file suits.has_words suits.agrees (inl suits.width)
       (record {
         each = lines_true file Coreboot (line_of leveled tails file) (displayed file) are_keys all_fit shows;
         all = each_key;

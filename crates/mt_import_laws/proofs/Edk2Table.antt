@@ -19,7 +19,7 @@ use Rattle.mt_import_laws.proofs.Among.{all_map, among_join, among_map, each_amo
 use Rattle.mt_import_laws.proofs.Edk2Lines.{base_place, default_place, default_plain, default_said, fixed_place, fixed_plain, fixed_said, mask_place, pair_plain, pair_said}
 use Rattle.mt_import_laws.proofs.KeyLines.{ShowsAlone, has_line, lines_true}
 use Rattle.mt_import_laws.proofs.Keys.{IsKey}
-use Rattle.mt_import_laws.proofs.PrintedBack.{HasLine, IsGiven, IsInFile, fits, key_in_file, table_back, word_gives}
+use Rattle.mt_import_laws.proofs.PrintedBack.{HasLine, IsGiven, IsInFile, fits, key_in_file, table_back}
 use Rattle.mt_import_laws.proofs.TableLines.{IsTrueSaid, all_join, tells_whole}
 use Rattle.mt_import_laws.proofs.Whole.{any_bits}
 
@@ -191,7 +191,7 @@ module _ (file : RegisterFile) (supplied : Supplied) (suits : SuitsEdk2 file sup
       pair_said n (pair_at file.pairs n) (few_pairs n within) number
       (fits file (Some (PhysBase n)) suits.is_file suits.has_words within) (fits file (Some (PhysMask n)) suits.is_file suits.has_words within)
 
-  pair_true : (n : ℕ) → IsPrintedPair n → (number : ℕ) → IsTrueSaid file any_bits (said_of Edk2 number (pair_of n))
+  pair_true : (n : ℕ) → IsPrintedPair n → (number : ℕ) → IsTrueSaid file any_bits 0 (said_of Edk2 number (pair_of n))
   pair_true n is number =
       let within = is.within in
       rw (said_pair n within number) (
@@ -234,35 +234,35 @@ module _ (file : RegisterFile) (supplied : Supplied) (suits : SuitsEdk2 file sup
       let has = has_line file Edk2 (own_line file) keys (λ k at. (own k at).is_key) (λ k at. (own k at).fit) (λ k at. (own k at).shows) key among in
       record { line = has.line; among = inr (inr (join_among_first (map (own_line file) keys) (or_none (pair_lines file)) has.line has.among)); shows = has.shows }
 
-  base_by : (n : ℕ) → n < length file.pairs → (test : Bool) → is_valid (pair_at file.pairs n) ≡ test → HasLine Edk2 (edk2_lines file) (Some (PhysBase n)) ⊎ IsGiven file any_bits supplied (Some (PhysBase n))
+  base_by : (n : ℕ) → n < length file.pairs → (test : Bool) → is_valid (pair_at file.pairs n) ≡ test → HasLine Edk2 (edk2_lines file) (Some (PhysBase n)) ⊎ IsGiven supplied file (Some (PhysBase n))
   base_by n within true valid = inl (base_line n (record { within = within; valid = valid }))
-  base_by n within false hidden = inr (word_gives file any_bits supplied (Some (PhysBase n)) suits.is_file suits.has_words within (suits.bases n within hidden))
+  base_by n within false hidden = inr (suits.bases n within hidden)
 
-  mask_by : (n : ℕ) → n < length file.pairs → (test : Bool) → is_valid (pair_at file.pairs n) ≡ test → HasLine Edk2 (edk2_lines file) (Some (PhysMask n)) ⊎ IsGiven file any_bits supplied (Some (PhysMask n))
+  mask_by : (n : ℕ) → n < length file.pairs → (test : Bool) → is_valid (pair_at file.pairs n) ≡ test → HasLine Edk2 (edk2_lines file) (Some (PhysMask n)) ⊎ IsGiven supplied file (Some (PhysMask n))
   mask_by n within true valid = inl (mask_line n (record { within = within; valid = valid }))
-  mask_by n within false hidden = inr (word_gives file any_bits supplied (Some (PhysMask n)) suits.is_file suits.has_words within (suits.masks n within hidden))
+  mask_by n within false hidden = inr (suits.masks n within hidden)
 
-  each_key : (key : Key) → IsInFile file key → HasLine Edk2 (edk2_lines file) key ⊎ IsGiven file any_bits supplied key
-  each_key None within = inr (word_gives file any_bits supplied None suits.is_file suits.has_words tt suits.capabilities)
+  each_key : (key : Key) → IsInFile file key → HasLine Edk2 (edk2_lines file) key ⊎ IsGiven supplied file key
+  each_key None within = inr suits.capabilities
   each_key (Some (PhysBase n)) within = base_by n within (is_valid (pair_at file.pairs n)) refl
   each_key (Some (PhysMask n)) within = mask_by n within (is_valid (pair_at file.pairs n)) refl
   each_key (Some (FixedRange place)) within = inl (own_has (Some (FixedRange place)) (inr (map_among Some fixed_registers (FixedRange place) (eleven place within.0))))
-  each_key (Some Pat) within = inr (word_gives file any_bits supplied (Some Pat) suits.is_file suits.has_words tt suits.pat)
+  each_key (Some Pat) within = inr suits.pat
   each_key (Some DefaultType) within = inl (own_has (Some DefaultType) (inl refl))
 
-  parts_true : (line : List ℕ) → IsAmong line (map (own_line file) keys ++ or_none (pair_lines file)) → (number : ℕ) → IsTrueSaid file any_bits (said_of Edk2 number line)
+  parts_true : (line : List ℕ) → IsAmong line (map (own_line file) keys ++ or_none (pair_lines file)) → (number : ℕ) → IsTrueSaid file any_bits 0 (said_of Edk2 number line)
   parts_true line among number = elim (among_join (map (own_line file) keys) (or_none (pair_lines file)) line among) [
     | inl first ↦ lines_true file Edk2 (own_line file) keys (λ k at. (own k at).is_key) (λ k at. (own k at).fit) (λ k at. (own k at).shows) line first number
     | inr second ↦ by (none_or (pair_lines file) line second)
   ]
     where
-      by : IsAmong line (pair_lines file) ⊎ (no_pair_line ≡ line) → IsTrueSaid file any_bits (said_of Edk2 number line)
+      by : IsAmong line (pair_lines file) ⊎ (no_pair_line ≡ line) → IsTrueSaid file any_bits 0 (said_of Edk2 number line)
       by (inl pair) = let found = among_map pair_of (valid_from 0 file.pairs) line pair in rw found.2 (pair_true found.0 (printed_pair found.0 found.1) number)
-      by (inr none) = subst (λ l. IsTrueSaid file any_bits (said_of Edk2 number l)) none tt
+      by (inr none) = subst (λ l. IsTrueSaid file any_bits 0 (said_of Edk2 number l)) none tt
 
-  table_true : (line : List ℕ) → IsAmong line (edk2_lines file) → (number : ℕ) → IsTrueSaid file any_bits (said_of Edk2 number line)
-  table_true line (inl same) number = subst (λ l. IsTrueSaid file any_bits (said_of Edk2 number l)) same tt
-  table_true line (inr (inl same)) number = subst (λ l. IsTrueSaid file any_bits (said_of Edk2 number l)) same tt
+  table_true : (line : List ℕ) → IsAmong line (edk2_lines file) → (number : ℕ) → IsTrueSaid file any_bits 0 (said_of Edk2 number line)
+  table_true line (inl same) number = subst (λ l. IsTrueSaid file any_bits 0 (said_of Edk2 number l)) same tt
+  table_true line (inr (inl same)) number = subst (λ l. IsTrueSaid file any_bits 0 (said_of Edk2 number l)) same tt
   table_true line (inr (inr later)) number = parts_true line later number
 
   abbrev IsPlainLine : List ℕ → Type 0
@@ -283,5 +283,5 @@ module _ (file : RegisterFile) (supplied : Supplied) (suits : SuitsEdk2 file sup
 
   pub reads : TableReadsBack Edk2 (edk2_lines file) supplied file
   reads =
-      table_back file any_bits Edk2 (edk2_lines file) supplied suits.is_file suits.has_words suits.agrees (inl suits.width)
+      table_back file Edk2 (edk2_lines file) supplied suits.is_file suits.has_words suits.agrees (inl suits.width)
       (record { each = table_true; all = each_key }) table_plain

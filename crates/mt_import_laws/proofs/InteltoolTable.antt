@@ -37,9 +37,9 @@ module _ (names : Names) (file : RegisterFile) (supplied : Supplied) (suits : Su
         said = λ number. register_said (number_at key) (value_in file key) (names key) named.0 named.1 number (low key (are_keys key among)) (all_fit key among);
       }
 
-  table_true : (line : List ℕ) → IsAmong line (inteltool_lines names file) → (number : ℕ) → IsTrueSaid file any_bits (said_of Inteltool number line)
-  table_true line (inl same) number = subst (λ l. IsTrueSaid file any_bits (said_of Inteltool number l)) same refl
-  table_true line (inr (inl same)) number = subst (λ l. IsTrueSaid file any_bits (said_of Inteltool number l)) same refl
+  table_true : (line : List ℕ) → IsAmong line (inteltool_lines names file) → (number : ℕ) → IsTrueSaid file any_bits 0 (said_of Inteltool number line)
+  table_true line (inl same) number = subst (λ l. IsTrueSaid file any_bits 0 (said_of Inteltool number l)) same refl
+  table_true line (inr (inl same)) number = subst (λ l. IsTrueSaid file any_bits 0 (said_of Inteltool number l)) same refl
   table_true line (inr (inr later)) number = lines_true file Inteltool (line_of names file) (all_keys file) are_keys all_fit shows line later number
 
   table_has : (key : Key) → IsInFile file key → HasLine Inteltool (inteltool_lines names file) key
@@ -59,5 +59,5 @@ module _ (names : Names) (file : RegisterFile) (supplied : Supplied) (suits : Su
 
 pub reads : (names : Names) (file : RegisterFile) (supplied : Supplied) → SuitsInteltool names file supplied → TableReadsBack Inteltool (inteltool_lines names file) supplied file
 reads names file supplied suits =
-    table_back file any_bits Inteltool (inteltool_lines names file) supplied suits.is_file suits.has_words suits.agrees (inl suits.width)
+    table_back file Inteltool (inteltool_lines names file) supplied suits.is_file suits.has_words suits.agrees (inl suits.width)
     (record { each = table_true names file supplied suits; all = λ key inside. inl (table_has names file supplied suits key inside) }) (table_plain names file supplied suits)

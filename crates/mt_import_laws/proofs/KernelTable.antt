@@ -26,10 +26,11 @@ use Rattle.mt_import.specs.Shown.{context_behind, facts_from, facts_of_line, sai
 use Rattle.mt_import.specs.Slot.{all_bits, is_disabled}
 use Rattle.mt_import.specs.Supplied.{Supplied, supplied_value}
 use Rattle.mt_import.specs.Values.{is_pair_number, mask_of}
-use Rattle.mt_import.specs.Outcome.{nothing_seen, outcome, slot_shown}
-use Rattle.mt_import_laws.specs.Origins.{IsAmong}
+use Rattle.mt_import.specs.Outcome.{Seen, nothing_seen, outcome, seen_after, slot_shown}
+use Rattle.mt_import.proofs.Facts.{seen_append}
+use Rattle.mt_import_laws.specs.Origins.{IsAmong, context_after_lines}
 use Rattle.mt_import_laws.specs.FirstLine.{LinesTellFirst}
-use Rattle.mt_import_laws.specs.Printed.{Key, ReadsBack, TableReadsInOrder, Weaves, number_at, value_in}
+use Rattle.mt_import_laws.specs.Printed.{Key, ReadsBack, TableReadsInOrder, Weaves, is_kernel, number_at, value_in}
 use Rattle.mt_import_laws.specs.PrintedByEdk2.{is_valid}
 use Rattle.mt_import_laws.specs.PrintedByKernel.{Style, SuitsKernel, default_line, fixed_line, fixed_lines, fixed_runs, kernel_lines, pair_line, pair_lines, range_type, run_line, variable_line}
 use Rattle.mt_import_laws.specs.PrintedByLinux.{Log, SuitsLinux, calls_enabled, linux_lines, linux_style}
@@ -39,13 +40,13 @@ use Rattle.mt_import_laws.proofs.AutoReads.{text_back}
 use Rattle.mt_import_laws.proofs.Below.{passes}
 use Rattle.mt_import_laws.proofs.KernelLines.{IsKernel, linux, xen, base_place, default_place, default_plain, default_said, default_told, fixed_line_said, fixed_place, fixed_plain, mask_place, off_line_said, off_place, off_plain, pair_line_said, pair_plain, run_line_said, run_place, run_plain, variable_line_said, variable_place, variable_plain}
 use Rattle.mt_import_laws.proofs.KernelParts.{bit_clear, bit_set, bit_shown, both_flags, default_part, flag_part, kernel_bits, run_true, tells_default}
-use Rattle.mt_import_laws.proofs.KernelWeave.{IsGood, IsWithin, Leads, ShowsTrue, by_line, by_next, by_shows, ends_good, good_join, keeps, line_good, shows_good, weaves_among, weaves_itself}
+use Rattle.mt_import_laws.proofs.KernelWeave.{IsGood, IsWithin, Leads, ShowsTrue, Split, by_line, by_next, by_shows, ends_good, facts_split, front_sound, front_within, good_join, keeps, line_good, shows_good, split, weaves_among, weaves_itself}
 use Rattle.mt_import_laws.proofs.KernelRanges.{IsRun, are_runs, marks, runs_cover}
 use Rattle.mt_import_laws.proofs.Keys.{IsKey, is_register_key}
-use Rattle.mt_import_laws.proofs.PartsBack.{held_bits, off_value, parts_whole, table_gathers}
-use Rattle.mt_import_laws.proofs.PrintedBack.{IsBack, IsInFile, fact_back, fits, gathered, gathered_seen, key_in_file, lines_back, slot_back, values_back, word_gives}
+use Rattle.mt_import_laws.proofs.PartsBack.{IsRecent, held_bits, off_value, parts_whole, recent_gathers}
+use Rattle.mt_import_laws.proofs.PrintedBack.{IsBack, IsGiven, IsInFile, fits, gathered, gathered_seen, key_in_file, lines_back, one_back, one_by_fact, one_by_slot}
 use Rattle.mt_import_laws.proofs.TableLines.{HasReading, IsTrueShown, ShowsKey, all_join, gathers, lines_have, tells_whole}
-use Rattle.mt_import_laws.proofs.Whole.{IsPart, known}
+use Rattle.mt_import_laws.proofs.Whole.{IsPart, IsSound, alone as alone_file, known, same_file}
 
 or_second : (a b : Bool) → b ≡ true → (a || b) ≡ true
 or_second true b is = refl
@@ -60,7 +61,7 @@ with_true false = refl
 module _ (format : Format) (alone : Bool) (style : Style) (kernel : IsKernel format alone style.front) (some_digits : 1 ≤ style.digits) (few_digits : style.digits ≤ 13)
     (tells : Bool) (file : RegisterFile) (supplied : Supplied) (suits : SuitsKernel tells file supplied)
     (on : style.fixed ≡ true → is_fixed_enabled file ≡ true) (off : style.fixed ≡ false → (alone || is_enabled file) ≡ true → is_fixed_enabled file ≡ false)
-    (tells_all : tells ≡ true → (style.fixed || (alone || is_enabled file)) ≡ true) where
+    (tells_all : tells ≡ true → (style.fixed || (alone || is_enabled file)) ≡ true) (is_of : is_kernel format ≡ true) where
   abbrev prints : Key → ℕ → Bool
   prints = kernel_bits file
 
@@ -230,11 +231,11 @@ module _ (format : Format) (alone : Bool) (style : Style) (kernel : IsKernel for
     variable_next =
         keeps file format 1 (Says test) context number (variable_line style file) (VariableRanges (is_enabled file) (variable_place format alone style kernel file number)) (variable_line_said format alone style kernel file number) refl refl refl is
 
-  tail_good : (test : Bool) → (test ≡ true → style.fixed ≡ false) → Leads file format (IsGood file) (good_join file) 1 (Says test) tail_lines
+  tail_good : (test : Bool) → (test ≡ true → style.fixed ≡ false) → Leads file format is_of suits.is_file (IsGood file) (good_join file) (Says test) tail_lines
   tail_good test disabled =
-      by_next file format (IsGood file) (good_join file) (variable_line style file) (pair_lines style 0 file.pairs) 1 1 (Says test) (Says test) (λ context number is. (variable_good test context number is disabled, variable_next test context number is))
-      (subst (Leads file format (IsGood file) (good_join file) 1 (Says test)) (append-nil (pair_lines style 0 file.pairs))
-      (by_shows file format (IsGood file) (good_join file) (pair_lines style 0 file.pairs) [] (Says test) pairs_show (ends_good file format 1 (Says test))))
+      by_next file format is_of suits.is_file (IsGood file) (good_join file) (variable_line style file) (pair_lines style 0 file.pairs) (Says test) (Says test) (λ context number is. (variable_good test context number is disabled, variable_next test context number is))
+      (subst (Leads file format is_of suits.is_file (IsGood file) (good_join file) (Says test)) (append-nil (pair_lines style 0 file.pairs))
+      (by_shows file format is_of suits.is_file (IsGood file) (good_join file) (pair_lines style 0 file.pairs) [] (Says test) pairs_show (ends_good file format is_of suits.is_file (Says test))))
 
   -- ---- a reading that a line of the heads shows
 
@@ -256,13 +257,13 @@ module _ (format : Format) (alone : Bool) (style : Style) (kernel : IsKernel for
   has_later : (bits : ℕ) (a b : List Fact) → HasBits bits b → HasBits bits (a ++ b)
   has_later bits a b has = record { reading = has.reading; among = join_among_second a b _ has.among; number = has.number; bits = has.bits }
 
-  abbrev LeadsTo : ℕ → ℕ → (Option FixedLine → Type 0) → List (List ℕ) → Type 0
-  LeadsTo bits = Leads file format (HasBits bits) (λ a b good has. has_later bits a b has)
+  abbrev LeadsTo : ℕ → (Option FixedLine → Type 0) → List (List ℕ) → Type 0
+  LeadsTo bits = Leads file format is_of suits.is_file (HasBits bits) (λ a b good has. has_later bits a b has)
 
-  tail_has : (test : Bool) → LeadsTo (e_bits test) 1 (Says test) tail_lines
+  tail_has : (test : Bool) → LeadsTo (e_bits test) (Says test) tail_lines
   unfolding variable_shown
   tail_has test =
-      by_line file format (HasBits (e_bits test)) (λ a b good has. has_later (e_bits test) a b has) (has_first (e_bits test)) (variable_line style file) (pair_lines style 0 file.pairs) 1 (Says test) (λ context number is.
+      by_line file format is_of suits.is_file (HasBits (e_bits test)) (λ a b good has. has_later (e_bits test) a b has) (has_first (e_bits test)) (variable_line style file) (pair_lines style 0 file.pairs) (Says test) (λ context number is.
       subst (HasBits (e_bits test)) (sym (variable_facts test context number is))
       (bits_shown (is_line number (Some format) true) context.table (e_bits test) (if is_enabled file then 0x800 else 0) (variable_place format alone style kernel file number) (None ∷ replicate 9 None)))
 
@@ -360,17 +361,17 @@ module _ (format : Format) (alone : Bool) (style : Style) (kernel : IsKernel for
     abbrev fixed_part : List (List ℕ)
     fixed_part = fixed_lines style file true ++ tail_lines
 
-    runs_good : Leads file format (IsGood file) (good_join file) 1 IsNone fixed_part
+    runs_good : Leads file format is_of suits.is_file (IsGood file) (good_join file) IsNone fixed_part
     runs_good =
-        by_next file format (IsGood file) (good_join file) (fixed_line style) (map (run_line style file) (fixed_runs file) ++ tail_lines) 1 1 IsNone (Says (not style.fixed))
+        by_next file format is_of suits.is_file (IsGood file) (good_join file) (fixed_line style) (map (run_line style file) (fixed_runs file) ++ tail_lines) IsNone (Says (not style.fixed))
         (λ context number is. (fixed_good context number is has, fixed_next context number is))
-        (by_shows file format (IsGood file) (good_join file) (map (run_line style file) (fixed_runs file)) tail_lines (Says (not style.fixed)) (runs_show has) (tail_good (not style.fixed) not_off))
+        (by_shows file format is_of suits.is_file (IsGood file) (good_join file) (map (run_line style file) (fixed_runs file)) tail_lines (Says (not style.fixed)) (runs_show has) (tail_good (not style.fixed) not_off))
 
-    runs_have : LeadsTo (e_bits (not style.fixed)) 1 IsNone fixed_part
+    runs_have : LeadsTo (e_bits (not style.fixed)) IsNone fixed_part
     runs_have =
-        by_next file format (HasBits (e_bits (not style.fixed))) (λ a b good later. has_later (e_bits (not style.fixed)) a b later) (fixed_line style) (map (run_line style file) (fixed_runs file) ++ tail_lines) 1 1 IsNone (Says (not style.fixed))
+        by_next file format is_of suits.is_file (HasBits (e_bits (not style.fixed))) (λ a b good later. has_later (e_bits (not style.fixed)) a b later) (fixed_line style) (map (run_line style file) (fixed_runs file) ++ tail_lines) IsNone (Says (not style.fixed))
         (λ context number is. (fixed_good context number is has, fixed_next context number is))
-        (by_shows file format (HasBits (e_bits (not style.fixed))) (λ a b good later. has_later (e_bits (not style.fixed)) a b later) (map (run_line style file) (fixed_runs file)) tail_lines (Says (not style.fixed)) (runs_show has)
+        (by_shows file format is_of suits.is_file (HasBits (e_bits (not style.fixed))) (λ a b good later. has_later (e_bits (not style.fixed)) a b later) (map (run_line style file) (fixed_runs file)) tail_lines (Says (not style.fixed)) (runs_show has)
         (tail_has (not style.fixed)))
 
   abbrev IsPlainLine : List ℕ → Type 0
@@ -407,47 +408,75 @@ module _ (format : Format) (alone : Bool) (style : Style) (kernel : IsKernel for
   no_line_off : (fixed : Option FixedLine) → fixed ≡ None → is_off fixed 1 ≡ false
   no_line_off fixed none = rw none refl
 
-  no_line : (Q : List Fact → Type 0) (grow : (a b : List Fact) → IsGood file a → Q b → Q (a ++ b)) → Leads file format Q grow 1 (Says false) tail_lines → Leads file format Q grow 1 IsNone tail_lines
+  no_line : (Q : List Fact → Type 0) (grow : (a b : List Fact) → IsGood file a → Q b → Q (a ++ b)) → Leads file format is_of suits.is_file Q grow (Says false) tail_lines → Leads file format is_of suits.is_file Q grow IsNone tail_lines
   no_line Q grow leads log context number weaves is = leads log context number weaves (record { format_is = is.format_is; processor_is = is.processor_is; table_is = is.table_is; fixed_is = no_line_off context.fixed is.fixed_is })
 
-  rest_good : (test : Bool) → has_fixed file ≡ test → Leads file format (IsGood file) (good_join file) 1 IsNone (rest test)
+  rest_good : (test : Bool) → has_fixed file ≡ test → Leads file format is_of suits.is_file (IsGood file) (good_join file) IsNone (rest test)
   rest_good true has = runs_good has
   rest_good false none = no_line (IsGood file) (good_join file) (tail_good false none_off)
-
-  behind_default : (Q : List Fact → Type 0) (grow : (a b : List Fact) → IsGood file a → Q b → Q (a ++ b)) → Leads file format Q grow 1 IsNone (rest (has_fixed file)) → Leads file format Q grow 0 IsNone all_lines
-  behind_default Q grow leads = by_next file format Q grow (default_line style file) (rest (has_fixed file)) 0 1 IsNone IsNone (λ context number is. (default_good context number is, default_next context number is)) leads
 
   first_within : IsWithin file format 0 IsNone (starts (Some format))
   first_within = record { format_is = refl; processor_is = refl; table_is = refl; fixed_is = refl }
 
-  module _ (log : List (List ℕ)) (weaves : Weaves format file all_lines log) where
-    abbrev facts : List Fact
-    facts = facts_from (starts (Some format)) 1 log
+  -- the heading, and what stands behind it
+  behind_default : (Q : List Fact → Type 0) (grow : (a b : List Fact) → IsGood file a → Q b → Q (a ++ b)) → Leads file format is_of suits.is_file Q grow IsNone (rest (has_fixed file))
+      → (context : Context) (number : ℕ) (behind : List (List ℕ)) → IsWithin file format 0 IsNone context → Weaves format file (rest (has_fixed file)) behind → Q (facts_from context number (default_line style file ∷ behind))
+  behind_default Q grow leads context number behind is weaves =
+      grow (facts_of_line context number (default_line style file)) (facts_from (context_behind context number (default_line style file)) (number + 1) behind) (default_good context number is)
+      (leads behind (context_behind context number (default_line style file)) (number + 1) weaves (default_next context number is))
 
-    facts_good : IsGood file facts
-    facts_good = behind_default (IsGood file) (good_join file) (rest_good (has_fixed file) refl) log (starts (Some format)) 1 weaves first_within
+  module _ (log : List (List ℕ)) (found : Split format file (default_line style file) (rest (has_fixed file)) log) where
+    -- the lines in front of the table, and those from its heading on
+    abbrev at_table : Context
+    at_table = context_after_lines (starts (Some format)) 1 found.front
+
+    abbrev line_number : ℕ
+    line_number = 1 + length found.front
+
+    abbrev front_facts : List Fact
+    front_facts = facts_from (starts (Some format)) 1 found.front
+
+    abbrev table_log : List (List ℕ)
+    table_log = default_line style file ∷ found.behind
+
+    abbrev table_facts : List Fact
+    table_facts = facts_from at_table line_number table_log
+
+    abbrev facts : List Fact
+    facts = front_facts ++ table_facts
+
+    table_within : IsWithin file format 0 IsNone at_table
+    table_within = front_within file format 0 IsNone found.front (starts (Some format)) 1 found.others first_within
+
+    table_good : IsGood file table_facts
+    table_good = behind_default (IsGood file) (good_join file) (rest_good (has_fixed file) refl) at_table line_number found.behind table_within found.weaves
+
+    all_sound : AllByRecursion (IsSound (same_file file) 1 prints) facts
+    all_sound =
+        all_join (IsSound (same_file file) 1 prints) front_facts table_facts (front_sound file format is_of suits.is_file found.front (starts (Some format)) 1 refl refl found.others) table_good.sound
 
     -- each bit of IA32_MTRR_DEF_TYPE where FE is shown
-    has_fe : has_fixed file ≡ true → (style.fixed || alone) ≡ true → HasBits 0x400 facts
+    has_fe : has_fixed file ≡ true → (style.fixed || alone) ≡ true → HasBits 0x400 table_facts
     has_fe has shows =
         behind_default (HasBits 0x400) (λ a b good later. has_later 0x400 a b later)
-        (subst (λ test. LeadsTo 0x400 1 IsNone (rest test)) (sym has)
-        (by_line file format (HasBits 0x400) (λ a b good later. has_later 0x400 a b later) (has_first 0x400) (fixed_line style) (map (run_line style file) (fixed_runs file) ++ tail_lines) 1 IsNone (λ context number is. fixed_has context number is shows)))
-        log (starts (Some format)) 1 weaves first_within
+        (subst (λ test. LeadsTo 0x400 IsNone (rest test)) (sym has)
+        (by_line file format is_of suits.is_file (HasBits 0x400) (λ a b good later. has_later 0x400 a b later) (has_first 0x400) (fixed_line style) (map (run_line style file) (fixed_runs file) ++ tail_lines) IsNone
+        (λ context number is. fixed_has context number is shows)))
+        at_table line_number found.behind table_within found.weaves
 
-    has_e : has_fixed file ≡ true → HasBits (e_bits (not style.fixed)) facts
+    has_e : has_fixed file ≡ true → HasBits (e_bits (not style.fixed)) table_facts
     has_e has =
         behind_default (HasBits (e_bits (not style.fixed))) (λ a b good later. has_later (e_bits (not style.fixed)) a b later)
-        (subst (λ test. LeadsTo (e_bits (not style.fixed)) 1 IsNone (rest test)) (sym has) (runs_have has)) log (starts (Some format)) 1 weaves first_within
+        (subst (λ test. LeadsTo (e_bits (not style.fixed)) IsNone (rest test)) (sym has) (runs_have has)) at_table line_number found.behind table_within found.weaves
 
-    has_others : HasBits 0xfffffffffffff3ff facts
+    has_others : HasBits 0xfffffffffffff3ff table_facts
     has_others =
-        by_line file format (HasBits 0xfffffffffffff3ff) (λ a b good later. has_later 0xfffffffffffff3ff a b later) (has_first 0xfffffffffffff3ff) (default_line style file) (rest (has_fixed file)) 0 IsNone default_has
-        log (starts (Some format)) 1 weaves first_within
+        has_first 0xfffffffffffff3ff (facts_of_line at_table line_number (default_line style file)) (facts_from (context_behind at_table line_number (default_line style file)) (line_number + 1) found.behind)
+        (default_has at_table line_number table_within)
 
     record HasBit (i : ℕ) : Type 0 where
       bits : ℕ
-      has : HasBits bits facts
+      has : HasBits bits table_facts
       one : bit_at bits i ≡ 1
 
     other_bit : (i : ℕ) → i < 64 → (i == 10 || i == 11) ≡ false → bit_at 0xfffffffffffff3ff i ≡ 1
@@ -488,7 +517,7 @@ module _ (format : Format) (alone : Bool) (style : Style) (kernel : IsKernel for
     -- ---- the registers
 
     abbrev Back : Key → Type 0
-    Back = IsBack file format supplied facts
+    Back = IsBack (same_file file) format supplied facts 0
 
     is_key : (key : Key) → IsInFile file key → IsKey key
     is_key key within = key_in_file file key suits.is_file within
@@ -496,25 +525,34 @@ module _ (format : Format) (alone : Bool) (style : Style) (kernel : IsKernel for
     abbrev readings : List Reading
     readings = (gathered format facts).readings
 
-    parts : AllByRecursion (IsPart file prints) readings
-    parts = (gathered_seen file prints format supplied suits.is_file suits.has_words facts facts_good.sound).readings
+    parts : AllByRecursion (IsPart (same_file file) 1 prints) readings
+    parts = (gathered_seen (same_file file) 1 prints format supplied (alone_file file suits.is_file) (λ k less. suits.has_words) facts all_sound).readings
 
-    one_table : AllByRecursion (λ (reading : Reading). reading.table ≡ 1) readings
-    one_table = table_gathers 1 facts (nothing_seen (Some format)) facts_good.table tt
+    -- what the table shows is among all facts
+    in_all : (key : Key) (bits : ℕ) → HasReading key bits table_facts → HasReading key bits facts
+    in_all key bits has = record { reading = has.reading; among = join_among_second front_facts table_facts _ has.among; number = has.number; bits = has.bits }
 
-    among_readings : (key : Key) (bits : ℕ) (has : HasReading key bits facts) → IsAmong has.reading readings
-    among_readings key bits has = gathers facts (nothing_seen (Some format)) has.reading (inl has.among)
+    among_readings : (key : Key) (bits : ℕ) (has : HasReading key bits table_facts) → IsAmong has.reading readings
+    among_readings key bits has = gathers facts (nothing_seen (Some format)) has.reading (inl (join_among_second front_facts table_facts _ has.among))
 
-    whole_by : (key : Key) → IsInFile file key → ((i : ℕ) → i < 64 → (bits : ℕ) × HasReading key bits facts × (bit_at bits i ≡ 1)) → Back key
+    recent : (key : Key) (bits : ℕ) (has : HasReading key bits table_facts) → IsRecent 1 readings has.reading
+    recent key bits has =
+        subst (λ (s : Seen). IsRecent 1 s.readings has.reading) (sym (seen_append (nothing_seen (Some format)) front_facts table_facts))
+        (recent_gathers 1 table_facts (seen_after (nothing_seen (Some format)) front_facts) has.reading table_good.table (inl has.among))
+
+    whole_by : (key : Key) → IsInFile file key → ((i : ℕ) → i < 64 → (bits : ℕ) × HasReading key bits table_facts × (bit_at bits i ≡ 1)) → Back key
     whole_by key within each =
-        slot_back file prints format supplied suits.is_file suits.has_words facts facts_good.sound key within
-        (parts_whole file prints key (is_key key within) 1 readings parts one_table (λ i less.
-        let found = each i less in
-        record { reading = found.1.reading; among = among_readings key found.0 found.1; number = found.1.number; one = ap (λ b. bit_at b i) found.1.bits ∙ found.2 }))
+        one_by_slot file prints format supplied suits.is_file suits.has_words facts all_sound key within
+        (parts_whole file prints key (is_key key within) 1 readings parts (λ i less.
+        let found_bit = each i less in
+        record { reading = found_bit.1.reading; recent = recent key found_bit.0 found_bit.1; number = found_bit.1.number; one = ap (λ b. bit_at b i) found_bit.1.bits ∙ found_bit.2 }))
+
+    by_fact : (key : Key) → IsInFile file key → HasReading key all_bits table_facts ⊎ IsGiven supplied file key → Back key
+    by_fact key within (inl has) = one_by_fact file prints format supplied suits.is_file suits.has_words facts all_sound key within (inl (in_all key all_bits has))
+    by_fact key within (inr given) = one_by_fact file prints format supplied suits.is_file suits.has_words facts all_sound key within (inr given)
 
     by_word : (key : Key) → IsInFile file key → supplied_value supplied (number_at key) ≡ Some (value_in file key) → Back key
-    by_word key within given =
-        fact_back file prints format supplied suits.is_file suits.has_words facts facts_good.sound key within (inr (word_gives file prints supplied key suits.is_file suits.has_words within given))
+    by_word key within given = by_fact key within (inr given)
 
     default_back : (test : Bool) → (has_fixed file && tells) ≡ test → Back (Some DefaultType)
     default_back true is =
@@ -523,8 +561,10 @@ module _ (format : Format) (alone : Bool) (style : Style) (kernel : IsKernel for
     default_back false is = by_word (Some DefaultType) tt (suits.default_given is)
 
     -- what a line of the table shows
-    has_line : (key : Key) (bits : ℕ) (line : List ℕ) → IsInFile file key → IsAmong line all_lines → ((number : ℕ) → ShowsKey key bits (said_of format number line)) → HasReading key bits facts
-    has_line key bits line within among shows = lines_have file prints format log (starts (Some format)) 1 key bits line refl (is_key key within) (weaves_among format file all_lines log line weaves among) shows
+    has_line : (key : Key) (bits : ℕ) (line : List ℕ) → IsInFile file key → IsAmong line all_lines → ((number : ℕ) → ShowsKey key bits (said_of format number line)) → HasReading key bits table_facts
+    has_line key bits line within among shows =
+        lines_have format table_log at_table line_number key bits line table_within.format_is (is_key key within)
+        (weaves_among format file all_lines table_log line (inl (refl, found.weaves)) among) shows
 
     run_among : has_fixed file ≡ true → (run : ℕ × ℕ) → IsAmong run (fixed_runs file) → IsAmong (run_line style file run) all_lines
     run_among has run among =
@@ -533,25 +573,25 @@ module _ (format : Format) (alone : Bool) (style : Style) (kernel : IsKernel for
 
     fixed_back : (place : ℕ) → place < 11 → has_fixed file ≡ true → Back (Some (FixedRange place))
     fixed_back place less has = whole_by (Some (FixedRange place)) (less, has) (λ i within.
-        let found = runs_cover (range_type file) 0 1 87 (8 * place + i / 8) (omega arith) (omega (arith, less, within)) in
-        let is = is_run found.run found.among in
+        let run = runs_cover (range_type file) 0 1 87 (8 * place + i / 8) (omega arith) (omega (arith, less, within)) in
+        let is = is_run run.run run.among in
         let some = is.some in
         let high = is.within in
-        let low : found.run.0 < 88 = omega (arith, some, high) in
-        let named = suits.ranges_named has found.run.0 low in (
-          255 * marks found.run.0 found.run.1 8 (8 * place),
-          has_line (Some (FixedRange place)) (255 * marks found.run.0 found.run.1 8 (8 * place)) (run_line style file found.run) (less, has) (run_among has found.run found.among) (λ number.
-              let part = (bit_shown file found.run is (run_place format alone style kernel file found.run low is.some is.within named number) place i less within found.low found.high).0 in
+        let low : run.run.0 < 88 = omega (arith, some, high) in
+        let named = suits.ranges_named has run.run.0 low in (
+          255 * marks run.run.0 run.run.1 8 (8 * place),
+          has_line (Some (FixedRange place)) (255 * marks run.run.0 run.run.1 8 (8 * place)) (run_line style file run.run) (less, has) (run_among has run.run run.among) (λ number.
+              let part = (bit_shown file run.run is (run_place format alone style kernel file run.run low is.some is.within named number) place i less within run.low run.high).0 in
               record {
                 processor = Some 0;
-                shows = all_fixed_shown found.run.0 found.run.1 (range_type file found.run.0) (run_place format alone style kernel file found.run low is.some is.within named number);
+                shows = all_fixed_shown run.run.0 run.run.1 (range_type file run.run.0) (run_place format alone style kernel file run.run low is.some is.within named number);
                 shown = part.shown;
-                said_is = run_line_said format alone style kernel file found.run low is.some is.within named number;
+                said_is = run_line_said format alone style kernel file run.run low is.some is.within named number;
                 among = part.among;
                 number = part.number;
                 bits = part.bits;
               }),
-          (bit_shown file found.run is (run_place format alone style kernel file found.run low is.some is.within named 0) place i less within found.low found.high).1,
+          (bit_shown file run.run is (run_place format alone style kernel file run.run low is.some is.within named 0) place i less within run.low run.high).1,
         ))
 
     -- ---- pairs
@@ -587,7 +627,7 @@ module _ (format : Format) (alone : Bool) (style : Style) (kernel : IsKernel for
     is_off_slot : (n : ℕ) → n < length file.pairs → is_valid (pair_at file.pairs n) ≡ false → is_disabled (slot_shown readings 0 (0x201 + 2 * n)) ≡ true
     is_off_slot n within hidden =
         let bits = off_bits n within hidden in
-        let shown = (known file prints readings (Some (PhysMask n)) parts (is_key (Some (PhysMask n)) within)).shows in
+        let shown = (known (same_file file) 1 prints readings 0 (Some (PhysMask n)) parts (is_key (Some (PhysMask n)) within)).shows in
         let zero_value : (slot_shown readings 0 (0x201 + 2 * n)).value ≡ 0 = shown ∙ ap (bit_and (pair_at file.pairs n).1) bits ∙ bit_clear (pair_at file.pairs n).1 11 hidden in
         rw (bits, zero_value) refl
 
@@ -600,12 +640,12 @@ module _ (format : Format) (alone : Bool) (style : Style) (kernel : IsKernel for
     off_back : (key : Key) (n : ℕ) → (within : n < length file.pairs) → is_valid (pair_at file.pairs n) ≡ false → IsInFile file key → is_pair_number (number_at key) ≡ true → mask_of (number_at key) ≡ 0x201 + 2 * n
         → (value_in file key ≡ 0) ⊎ (supplied_value supplied (number_at key) ≡ Some (value_in file key)) → Back key
     off_back key n within hidden inside pair mask zero_or_word =
-        off_value file supplied suits.is_file suits.agrees (gathered format facts) key (is_key key inside) (fits file key suits.is_file suits.has_words inside) (known file prints readings key parts (is_key key inside)) pair
+        off_value file supplied suits.is_file suits.agrees (gathered format facts) key (is_key key inside) (fits file key suits.is_file suits.has_words inside) (known (same_file file) 1 prints readings 0 key parts (is_key key inside)) pair
         (ap (λ number. is_disabled (slot_shown readings 0 number)) mask ∙ is_off_slot n within hidden) zero_or_word
 
     whole_pair : (key : Key) (n : ℕ) (within : n < length file.pairs) → is_valid (pair_at file.pairs n) ≡ true → IsInFile file key → ((number : ℕ) → ShowsKey key all_bits (said_of format number (line_of n true))) → Back key
     whole_pair key n within valid inside shows =
-        fact_back file prints format supplied suits.is_file suits.has_words facts facts_good.sound key inside (inl (has_line key all_bits (line_of n true) inside (pair_line_among n within true valid) shows))
+        by_fact key inside (inl (has_line key all_bits (line_of n true) inside (pair_line_among n within true valid) shows))
 
     base_back : (n : ℕ) (within : n < length file.pairs) (valid : Bool) → is_valid (pair_at file.pairs n) ≡ valid → Back (Some (PhysBase n))
     base_back n within true valid =
@@ -649,8 +689,10 @@ module _ (format : Format) (alone : Bool) (style : Style) (kernel : IsKernel for
     each_back (Some Pat) within = by_word (Some Pat) tt suits.pat
     each_back (Some DefaultType) within = default_back (has_fixed file && tells) refl
 
-    pub facts_back : ReadsBack (outcome false supplied (nothing_seen (Some format)) facts) file
-    facts_back = values_back file prints format supplied suits.is_file suits.has_words facts facts_good.sound suits.agrees (inl suits.width) each_back
+    pub log_back : ReadsBack (outcome false supplied (nothing_seen (Some format)) (facts_from (starts (Some format)) 1 log)) file
+    log_back =
+        subst (λ fs. ReadsBack (outcome false supplied (nothing_seen (Some format)) fs) file) (sym (ap (facts_from (starts (Some format)) 1) found.log_is ∙ facts_split found.front (starts (Some format)) 1 table_log))
+        (one_back file prints format supplied suits.is_file suits.has_words facts all_sound suits.agrees (inl suits.width) each_back)
 
   first_told : LinesTellFirst format 1 all_lines
   first_told = inl (default_told format alone style kernel file suits.default_named 1)
@@ -660,8 +702,8 @@ module _ (format : Format) (alone : Bool) (style : Style) (kernel : IsKernel for
     alone =
         let same : shown (Some format) (ended all_lines) ≡ facts_from (starts (Some format)) 1 all_lines = ap (facts_from (starts (Some format)) 1) (lines_back all_lines table_plain) in
         text_back format supplied file all_lines table_plain first_told
-        (subst (λ fs. ReadsBack (outcome false supplied (nothing_seen (Some format)) fs) file) (sym same) (facts_back all_lines (weaves_itself format file all_lines)));
-    among = λ text weaves. facts_back (lines_of text) weaves;
+        (subst (λ fs. ReadsBack (outcome false supplied (nothing_seen (Some format)) fs) file) (sym same) (log_back all_lines (split format file (default_line style file) (rest (has_fixed file)) all_lines (weaves_itself format file all_lines))));
+    among = λ text weaves. log_back (lines_of text) (split format file (default_line style file) (rest (has_fixed file)) (lines_of text) weaves);
   }
 
 -- ---- the two kernels
@@ -670,7 +712,7 @@ pub xen_reads : (file : RegisterFile) (supplied : Supplied) → SuitsXen file su
 xen_reads file supplied suits =
     let wide = suits.is_file.wide in
     let narrow = suits.is_file.narrow in
-    reads Xen true (xen_style file) xen (omega (arith, wide)) (omega (arith, narrow)) true file supplied suits (λ is. is) (λ is some. is) (λ is. either (is_fixed_enabled file))
+    reads Xen true (xen_style file) xen (omega (arith, wide)) (omega (arith, narrow)) true file supplied suits (λ is. is) (λ is some. is) (λ is. either (is_fixed_enabled file)) refl
   where
     either : (test : Bool) → (test || true) ≡ true
     either true = refl
@@ -680,7 +722,7 @@ pub linux_reads : (log : Log) (file : RegisterFile) (supplied : Supplied) → Su
 linux_reads log file supplied suits =
     let narrow = suits.kernel.is_file.narrow in
     reads Linux false (linux_style log file) (linux log.time suits.short suits.visible) (omega arith) (omega (arith, narrow)) (is_enabled file || calls_enabled log.since_4_3 file) file supplied suits.kernel
-    (called log.since_4_3) (not_called log.since_4_3) (λ is. swap (is_enabled file) (calls_enabled log.since_4_3 file) is)
+    (called log.since_4_3) (not_called log.since_4_3) (λ is. swap (is_enabled file) (calls_enabled log.since_4_3 file) is) refl
   where
     called : (since : Bool) → calls_enabled since file ≡ true → is_fixed_enabled file ≡ true
     called true is = (and_parts (is_enabled file) (is_fixed_enabled file) is).1

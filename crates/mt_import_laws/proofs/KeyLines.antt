@@ -48,7 +48,7 @@ pub record ShowsAlone (file : RegisterFile) (format : Format) (key : Key) (line 
   pub said : (number : ℕ) → said_of format number line ≡ Shows processor (Some (record { number = number_at key; bits = all_bits; value = value_in file key; place = place number }) ∷ replicate 10 None)
 
 -- such a line tells of the file
-pub alone_true : (file : RegisterFile) (format : Format) (key : Key) (line : List ℕ) (number : ℕ) → IsKey key → value_in file key < 2 ^ 64 → ShowsAlone file format key line → IsTrueSaid file any_bits (said_of format number line)
+pub alone_true : (file : RegisterFile) (format : Format) (key : Key) (line : List ℕ) (number : ℕ) → IsKey key → value_in file key < 2 ^ 64 → ShowsAlone file format key line → IsTrueSaid file any_bits 0 (said_of format number line)
 alone_true file format key line number is fits shows =
     rw (shows.said number) (shows.own, (inl (tells_whole file any_bits key (shows.place number) is refl fits), (tt, (tt, (tt, (tt, (tt, (tt, (tt, (tt, (tt, (tt, tt))))))))))))
 
@@ -66,7 +66,7 @@ alone_shows file format key line number shows = record {
 module _ (file : RegisterFile) (format : Format) (line_of : Key → List ℕ) (keys : List Key)
     (are_keys : (key : Key) → IsAmong key keys → IsKey key) (fit : (key : Key) → IsAmong key keys → value_in file key < 2 ^ 64)
     (shows : (key : Key) → IsAmong key keys → ShowsAlone file format key (line_of key)) where
-  pub lines_true : (line : List ℕ) → IsAmong line (map line_of keys) → (number : ℕ) → IsTrueSaid file any_bits (said_of format number line)
+  pub lines_true : (line : List ℕ) → IsAmong line (map line_of keys) → (number : ℕ) → IsTrueSaid file any_bits 0 (said_of format number line)
   lines_true line among number =
       let found = among_map line_of keys line among in
       rw found.2 (alone_true file format found.0 (line_of found.0) number (are_keys found.0 found.1) (fit found.0 found.1) (shows found.0 found.1))

@@ -1,7 +1,9 @@
 -- The registers of a dump, each by its number.
-use Rattle.std.proofs.Common.{◌≡◌, ◌∙◌, ◌<◌, ◌≤◌, ◌==◌, nat_lt, ℕ, true, false, List, [], ◌∷◌, Option, Some, None, refl, sym, ap, arith, lit≤}
+use Rattle.std.proofs.Common.{◌≡◌, ◌∙◌, ◌<◌, ◌≤◌, ◌==◌, nat_lt, ℕ, Bool, true, false, List, [], ◌∷◌, Option, Some, None, refl, sym, ap, arith, lit≤}
+use Rattle.std.specs.Prelude.{if◌then◌else◌}
 use Rattle.std.specs.List.{AllByRecursion}
 use Rattle.std.specs.Option.{option_map}
+use Rattle.std.proofs.lemmas.Bool.{eqb-true}
 use Rattle.std.proofs.lemmas.Bool.Decides.{nat_tests}
 use Rattle.mt_regs.specs.declared.registers.Register.{Register}
 use Rattle.mt_regs.specs.declared.registers.Register.TheVariants.{PhysBase, PhysMask, FixedRange, Pat, DefaultType}
@@ -64,6 +66,29 @@ is_register_key None is = refl
 is_register_key (Some register) is =
     let range = range_of register is in
     rw (below_limit (number_of register) range.1, not_first (number_of register) range.0, found_whole register is) refl
+
+-- a register by a number at which a file has a value
+pub record KeyAt (file : RegisterFile) (number value : ℕ) : Type 0 where
+  pub key : Key
+  pub is_key : IsKey key
+  pub number_is : number ≡ number_at key
+  pub value_is : value ≡ value_in file key
+
+pub key_at : (file : RegisterFile) (number value : ℕ) → IsRegisterFile file → value_at file number ≡ Some value → KeyAt file number value
+key_at file number value is has = by (number == 0xfe) refl has
+  where
+    found : (register : Option Register) → register_of file number ≡ register → option_map (value_of file) register ≡ Some value → KeyAt file number value
+    found None none some = cc some
+    found (Some register) is_found some = record {
+      key = Some register;
+      is_key = within_whole file register is (register_of-within file number register is is_found);
+      number_is = sym (register_of-number file number register is is_found);
+      value_is = let e : value_of file register ≡ value = cc some in sym e;
+    }
+
+    by : (test : Bool) → (number == 0xfe) ≡ test → (if test then Some file.capabilities else option_map (value_of file) (register_of file number)) ≡ Some value → KeyAt file number value
+    by true same some = record { key = None; is_key = tt; number_is = eqb-true number 0xfe same; value_is = let e : file.capabilities ≡ value = cc some in sym e }
+    by false other some = found (register_of file number) refl some
 
 -- the value that a file has at the number of a register is that of the register
 pub value_at_key : (file : RegisterFile) (key : Key) (value : ℕ) → IsRegisterFile file → IsKey key → value_at file (number_at key) ≡ Some value → value ≡ value_in file key

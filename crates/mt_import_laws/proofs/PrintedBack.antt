@@ -1,5 +1,5 @@
--- A table whose lines are read as registers of a file gives the file back.
-use Rattle.std.proofs.Common.{◌≡◌, ◌∙◌, ◌^◌, ◌<◌, ℕ, true, false, List, [], ◌∷◌, Some, None, refl, sym, ap, subst, inl, inr}
+-- Facts that tell of files give the files back, and so does a table whose lines are read as registers of a file.
+use Rattle.std.proofs.Common.{◌≡◌, ◌∙◌, ◌^◌, ◌<◌, ℕ, true, false, List, [], ◌∷◌, Some, None, refl, sym, ap, subst, inl, inr, arith, lit<}
 use Rattle.std.specs.Prelude.{◌⊎◌}
 use Rattle.std.specs.List.{AllByRecursion, list_all}
 use Rattle.mt_text.specs.Text.{lines_of}
@@ -17,14 +17,14 @@ use Rattle.mt_import.specs.Readings.{Fact, starts}
 use Rattle.mt_import.specs.Shown.{said_of, shown}
 use Rattle.mt_import.specs.Slot.{all_bits}
 use Rattle.mt_import.specs.Supplied.{Supplied, supplied_value}
-use Rattle.mt_import.specs.Outcome.{Seen, known_of, nothing_seen, outcome, seen_after, slot_shown, values_of}
+use Rattle.mt_import.specs.Outcome.{Seen, known_of, nothing_seen, outcome, processors, seen_after, slot_shown, values_of}
 use Rattle.mt_import.specs.Import.{log_told}
 use Rattle.mt_import_laws.specs.Origins.{IsAmong}
-use Rattle.mt_import_laws.specs.Printed.{Agrees, HoldsTable, Key, ReadsBack, TableReadsBack, number_at, value_in}
+use Rattle.mt_import_laws.specs.Printed.{Agrees, HoldsTable, Key, ReadsAs, ReadsBack, TableReadsBack, number_at, value_in}
 use Rattle.mt_import_laws.proofs.Keys.{IsKey, within_whole}
-use Rattle.mt_import_laws.proofs.Whole.{IsSeen, IsSound, Prints, held, known, no_fault, one_processor, seen_last, whole_slot}
+use Rattle.mt_import_laws.proofs.Whole.{AreAlike, IsPart, IsSeen, IsSound, Prints, alone, any_bits, held, known, no_fault, of_first, one_processor, same_file, seen_last, whole_slot}
 use Rattle.mt_import_laws.proofs.TableLines.{HasReading, IsTrueSaid, ShowsKey, gathers, lines_have, lines_show_width, lines_true, no_more_true}
-use Rattle.mt_import_laws.proofs.Back.{HasWidth, by_lines, by_word, ended_back, width_back}
+use Rattle.mt_import_laws.proofs.Back.{HasWidth, by_lines, by_word, dump_from, ended_back, width_back}
 
 -- a line of the table shows all of the register
 pub record HasLine (format : Format) (table : List (List ℕ)) (key : Key) : Type 0 where
@@ -45,20 +45,14 @@ pub fits : (file : RegisterFile) (key : Key) → IsRegisterFile file → HasWord
 fits file None is words within = words 0xfe file.capabilities refl
 fits file (Some register) is words within = words (number_of register) (value_of file register) (value_at-number_of file register is within)
 
--- The value of the register comes without a line that shows all of it.
-abbrev pub IsGiven : RegisterFile → Prints → Supplied → Key → Type 0
-IsGiven file prints supplied key = (seen : Seen) → IsSeen file prints seen → values_of supplied (slot_shown seen.readings) (known_of seen) 0 (number_at key) ≡ Some (value_in file key)
-
--- a word gives it
-pub word_gives : (file : RegisterFile) (prints : Prints) (supplied : Supplied) (key : Key) → IsRegisterFile file → HasWords file → IsInFile file key → supplied_value supplied (number_at key) ≡ Some (value_in file key)
-    → IsGiven file prints supplied key
-word_gives file prints supplied key is words within given seen is_seen =
-    by_word supplied seen (number_at key) (value_in file key) (known file prints seen.readings key is_seen.readings (key_in_file file key is within)) (fits file key is words within) given
+-- a word gives the register
+abbrev pub IsGiven : Supplied → RegisterFile → Key → Type 0
+IsGiven supplied file key = supplied_value supplied (number_at key) ≡ Some (value_in file key)
 
 -- The lines of a table tell of a file alone, and show each register that words don't give.
-pub record IsReadAs (file : RegisterFile) (prints : Prints) (format : Format) (table : List (List ℕ)) (supplied : Supplied) : Type 0 where
-  pub each : (line : List ℕ) → IsAmong line table → (number : ℕ) → IsTrueSaid file prints (said_of format number line)
-  pub all : (key : Key) → IsInFile file key → HasLine format table key ⊎ IsGiven file prints supplied key
+pub record IsReadAs (file : RegisterFile) (format : Format) (table : List (List ℕ)) (supplied : Supplied) : Type 0 where
+  pub each : (line : List ℕ) → IsAmong line table → (number : ℕ) → IsTrueSaid file any_bits 0 (said_of format number line)
+  pub all : (key : Key) → IsInFile file key → HasLine format table key ⊎ IsGiven supplied file key
 
 -- words or a line of a table give the width
 pub record WidthLine (format : Format) (file : RegisterFile) (table : List (List ℕ)) : Type 0 where
@@ -67,90 +61,133 @@ pub record WidthLine (format : Format) (file : RegisterFile) (table : List (List
   pub place : ℕ → Place
   pub shows : (number : ℕ) → said_of format number line ≡ Width file.width (place number)
 
--- ---- facts that tell of a file
+-- ---- facts that tell of files
 
 -- what facts come to
 abbrev pub gathered : Format → List Fact → Seen
 gathered format facts = seen_after (nothing_seen (Some format)) facts
 
--- the value of a register comes back
-abbrev pub IsBack : RegisterFile → Format → Supplied → List Fact → Key → Type 0
-IsBack file format supplied facts key = values_of supplied (slot_shown (gathered format facts).readings) (known_of (gathered format facts)) 0 (number_at key) ≡ Some (value_in file key)
+-- the value of a processor's register comes back
+abbrev pub IsBack : (ℕ → RegisterFile) → Format → Supplied → List Fact → ℕ → Key → Type 0
+IsBack files format supplied facts k key = values_of supplied (slot_shown (gathered format facts).readings) (known_of (gathered format facts)) k (number_at key) ≡ Some (value_in (files k) key)
 
-module _ (file : RegisterFile) (prints : Prints) (format : Format) (supplied : Supplied) (is : IsRegisterFile file) (words : HasWords file)
-    (facts : List Fact) (sound : AllByRecursion (IsSound file prints) facts) where
+-- a fact shows all of a processor's register
+pub record HasOwn (k : ℕ) (key : Key) (facts : List Fact) : Type 0 where
+  pub has : HasReading key all_bits facts
+  pub own : has.reading.processor ≡ k
+
+module _ (files : ℕ → RegisterFile) (count : ℕ) (prints : Prints) (format : Format) (supplied : Supplied) (alike : AreAlike files count) (words : (k : ℕ) → k < count → HasWords (files k))
+    (facts : List Fact) (sound : AllByRecursion (IsSound files count prints) facts) where
   seen : Seen
   seen = gathered format facts
 
-  is_seen : IsSeen file prints seen
+  is_seen : IsSeen files count prints seen
   unfolding seen
-  is_seen = seen_last file prints facts (nothing_seen (Some format)) (record { readings = tt; width = tt }) sound
+  is_seen = seen_last files count prints facts (nothing_seen (Some format)) (record { readings = tt; width = tt }) sound
 
-  pub gathered_seen : IsSeen file prints (gathered format facts)
+  pub gathered_seen : IsSeen files count prints (gathered format facts)
   unfolding seen
   gathered_seen = is_seen
 
+  fit : (k : ℕ) → k < count → (key : Key) → IsInFile (files k) key → value_in (files k) key < 2 ^ 64
+  fit k less key within = fits (files k) key (alike.is_file k less) (words k less) within
+
+  is_key : (k : ℕ) → k < count → (key : Key) → IsInFile (files k) key → IsKey key
+  is_key k less key within = key_in_file (files k) key (alike.is_file k less) within
+
   -- by a register of which all is shown
-  by_slot : (key : Key) → IsInFile file key → (slot_shown seen.readings 0 (number_at key)).fresh ≡ all_bits → values_of supplied (slot_shown seen.readings) (known_of seen) 0 (number_at key) ≡ Some (value_in file key)
-  by_slot key within whole =
-      by_lines supplied seen (number_at key) (value_in file key)
-      (whole_slot (slot_shown seen.readings 0 (number_at key)) (value_in file key) (known file prints seen.readings key is_seen.readings (key_in_file file key is within)) (fits file key is words within) whole)
+  by_slot : (k : ℕ) → k < count → (key : Key) → IsInFile (files k) key → (slot_shown seen.readings k (number_at key)).fresh ≡ all_bits
+      → values_of supplied (slot_shown seen.readings) (known_of seen) k (number_at key) ≡ Some (value_in (files k) key)
+  by_slot k less key within whole =
+      by_lines supplied seen k (number_at key) (value_in (files k) key)
+      (whole_slot (slot_shown seen.readings k (number_at key)) (value_in (files k) key) (known files count prints seen.readings k key is_seen.readings (is_key k less key within)) (fit k less key within) whole)
 
-  pub slot_back : (key : Key) → IsInFile file key → (slot_shown (gathered format facts).readings 0 (number_at key)).fresh ≡ all_bits → IsBack file format supplied facts key
+  pub slot_back : (k : ℕ) → k < count → (key : Key) → IsInFile (files k) key → (slot_shown (gathered format facts).readings k (number_at key)).fresh ≡ all_bits → IsBack files format supplied facts k key
   unfolding seen
-  slot_back key within whole = by_slot key within whole
+  slot_back k less key within whole = by_slot k less key within whole
 
-  by_fact : (key : Key) → IsInFile file key → HasReading key all_bits facts ⊎ IsGiven file prints supplied key → values_of supplied (slot_shown seen.readings) (known_of seen) 0 (number_at key) ≡ Some (value_in file key)
+  by_fact : (k : ℕ) → k < count → (key : Key) → IsInFile (files k) key → HasOwn k key facts ⊎ IsGiven supplied (files k) key → values_of supplied (slot_shown seen.readings) (known_of seen) k (number_at key) ≡ Some (value_in (files k) key)
   unfolding seen
-  by_fact key within (inl has) =
-      by_slot key within
-      (held file prints seen.readings has.reading key is_seen.readings (key_in_file file key is within) (gathers facts (nothing_seen (Some format)) has.reading (inl has.among)) has.number has.bits)
-  by_fact key within (inr given) = given seen is_seen
+  by_fact k less key within (inl by) =
+      let has = by.has in
+      by_slot k less key within
+      (held files count prints seen.readings k has.reading key is_seen.readings (is_key k less key within) (gathers facts (nothing_seen (Some format)) has.reading (inl has.among)) by.own has.number has.bits)
+  by_fact k less key within (inr given) =
+      by_word supplied seen k (number_at key) (value_in (files k) key) (known files count prints seen.readings k key is_seen.readings (is_key k less key within)) (fit k less key within) given
 
-  pub fact_back : (key : Key) → IsInFile file key → HasReading key all_bits facts ⊎ IsGiven file prints supplied key → IsBack file format supplied facts key
+  pub fact_back : (k : ℕ) → k < count → (key : Key) → IsInFile (files k) key → HasOwn k key facts ⊎ IsGiven supplied (files k) key → IsBack files format supplied facts k key
   unfolding seen
-  fact_back key within by = by_fact key within by
+  fact_back k less key within by = by_fact k less key within by
 
-  pub values_back : Agrees supplied file → HasWidth file supplied facts → ((key : Key) → IsInFile file key → IsBack file format supplied facts key) → ReadsBack (outcome false supplied (nothing_seen (Some format)) facts) file
+  pub values_back : ((k : ℕ) → k < count → Agrees supplied (files k)) → HasWidth (files 0) supplied facts → processors (gathered format facts).readings ≡ count
+      → ((k : ℕ) → k < count → (key : Key) → IsInFile (files k) key → IsBack files format supplied facts k key) → ReadsAs (outcome false supplied (nothing_seen (Some format)) facts) (dump_from files count)
   unfolding seen
-  values_back agrees width all =
-      let none = no_fault file prints supplied agrees is facts (nothing_seen (Some format)) (record { readings = tt; width = tt }) sound in
+  values_back agrees width number all =
+      let none = no_fault files count prints alike supplied agrees facts (nothing_seen (Some format)) (record { readings = tt; width = tt }) sound in
       rw none
-      (ended_back false supplied seen file is (one_processor file prints seen.readings is_seen.readings)
-      (width_back file prints supplied (slot_shown seen.readings) facts (nothing_seen (Some format)) sound is_seen.width width) (all None tt) (λ register within. all (Some register) within))
+      (ended_back false supplied seen files count alike number
+      (width_back files count prints supplied (slot_shown seen.readings) facts (nothing_seen (Some format)) sound is_seen.width width) (λ k less. all k less None tt) (λ k less register within. all k less (Some register) within))
+
+-- ---- facts that tell of one file
+
+module _ (file : RegisterFile) (prints : Prints) (format : Format) (supplied : Supplied) (is : IsRegisterFile file) (words : HasWords file)
+    (facts : List Fact) (sound : AllByRecursion (IsSound (same_file file) 1 prints) facts) where
+  abbrev OneBack : Key → Type 0
+  OneBack key = IsBack (same_file file) format supplied facts 0 key
+
+  only : AllByRecursion (IsPart (same_file file) 1 prints) (gathered format facts).readings
+  only = (gathered_seen (same_file file) 1 prints format supplied (alone file is) (λ k less. words) facts sound).readings
+
+  of_processor : (key : Key) → HasReading key all_bits facts → HasOwn 0 key facts
+  of_processor key has = record { has = has; own = of_first file prints (gathered format facts).readings has.reading only (gathers facts (nothing_seen (Some format)) has.reading (inl has.among)) }
+
+  pub one_by_slot : (key : Key) → IsInFile file key → (slot_shown (gathered format facts).readings 0 (number_at key)).fresh ≡ all_bits → OneBack key
+  one_by_slot key within whole = slot_back (same_file file) 1 prints format supplied (alone file is) (λ k less. words) facts sound 0 (lit< tt) key within whole
+
+  pub one_by_fact : (key : Key) → IsInFile file key → HasReading key all_bits facts ⊎ IsGiven supplied file key → OneBack key
+  one_by_fact key within (inl has) = fact_back (same_file file) 1 prints format supplied (alone file is) (λ k less. words) facts sound 0 (lit< tt) key within (inl (of_processor key has))
+  one_by_fact key within (inr given) = fact_back (same_file file) 1 prints format supplied (alone file is) (λ k less. words) facts sound 0 (lit< tt) key within (inr given)
+
+  pub one_back : Agrees supplied file → HasWidth file supplied facts → ((key : Key) → IsInFile file key → OneBack key) → ReadsBack (outcome false supplied (nothing_seen (Some format)) facts) file
+  one_back agrees width all =
+      values_back (same_file file) 1 prints format supplied (alone file is) (λ k less. words) facts sound (λ k less. agrees) width (one_processor file prints (gathered format facts).readings is only)
+      (λ k less key within. subst (λ j. IsBack (same_file file) format supplied facts j key) (zero_of k less) (all key within))
+    where
+      zero_of : (k : ℕ) → k < 1 → 0 ≡ k
+      zero_of k less = omega (arith, less)
 
 pub facts_back : (file : RegisterFile) (prints : Prints) (format : Format) (supplied : Supplied) → IsRegisterFile file → HasWords file → Agrees supplied file → (facts : List Fact) → HasWidth file supplied facts
-    → AllByRecursion (IsSound file prints) facts → ((key : Key) → IsInFile file key → HasReading key all_bits facts ⊎ IsGiven file prints supplied key) → ReadsBack (outcome false supplied (nothing_seen (Some format)) facts) file
+    → AllByRecursion (IsSound (same_file file) 1 prints) facts → ((key : Key) → IsInFile file key → HasReading key all_bits facts ⊎ IsGiven supplied file key) → ReadsBack (outcome false supplied (nothing_seen (Some format)) facts) file
 facts_back file prints format supplied is words agrees facts width sound all =
-    values_back file prints format supplied is words facts sound agrees width (λ key within. fact_back file prints format supplied is words facts sound key within (all key within))
+    one_back file prints format supplied is words facts sound agrees width (λ key within. one_by_fact file prints format supplied is words facts sound key within (all key within))
 
 -- ---- a log that holds a table
 
-module _ (file : RegisterFile) (prints : Prints) (format : Format) (table : List (List ℕ)) (supplied : Supplied) (text : List ℕ)
+module _ (file : RegisterFile) (format : Format) (table : List (List ℕ)) (supplied : Supplied) (text : List ℕ)
     (is : IsRegisterFile file) (words : HasWords file) (agrees : Agrees supplied file) (width : (supplied.width ≡ Some file.width) ⊎ WidthLine format file table)
-    (read : IsReadAs file prints format table supplied) (holds : HoldsTable format file table text) where
-  all_true : (line : List ℕ) → IsAmong line (lines_of text) → (number : ℕ) → IsTrueSaid file prints (said_of format number line)
+    (read : IsReadAs file format table supplied) (holds : HoldsTable format file table text) where
+  all_true : (line : List ℕ) → IsAmong line (lines_of text) → (number : ℕ) → IsTrueSaid file any_bits 0 (said_of format number line)
   all_true line among number = elim (holds.others line among) [
     | inl own ↦ read.each line own number
-    | inr more ↦ no_more_true file prints (said_of format number line) (more number)
+    | inr more ↦ no_more_true format file any_bits (said_of format number line) is (λ shown key same at. refl) (more number)
   ]
 
   width_shown : HasWidth file supplied (shown (Some format) text)
   width_shown = elim width [
     | inl given ↦ inl given
-    | inr line ↦ inr (lines_show_width file prints format (lines_of text) (starts (Some format)) 1 line.line file.width line.place refl (holds.has line.line line.among) line.shows)
+    | inr line ↦ inr (lines_show_width format (lines_of text) (starts (Some format)) 1 line.line file.width line.place refl (holds.has line.line line.among) line.shows)
   ]
 
-  all_shown : (key : Key) → IsInFile file key → HasReading key all_bits (shown (Some format) text) ⊎ IsGiven file prints supplied key
+  all_shown : (key : Key) → IsInFile file key → HasReading key all_bits (shown (Some format) text) ⊎ IsGiven supplied file key
   all_shown key within = elim (read.all key within) [
-    | inl line ↦ inl (lines_have file prints format (lines_of text) (starts (Some format)) 1 key all_bits line.line refl (key_in_file file key is within) (holds.has line.line line.among) line.shows)
+    | inl line ↦ inl (lines_have format (lines_of text) (starts (Some format)) 1 key all_bits line.line refl (key_in_file file key is within) (holds.has line.line line.among) line.shows)
     | inr given ↦ inr given
   ]
 
   reads_back : ReadsBack (log_told (Only format) supplied text) file
   reads_back =
-      facts_back file prints format supplied is words agrees (shown (Some format) text) width_shown
-      (lines_true file prints format (lines_of text) (starts (Some format)) 1 refl refl all_true) all_shown
+      facts_back file any_bits format supplied is words agrees (shown (Some format) text) width_shown
+      (lines_true (same_file file) 1 any_bits 0 (lit< tt) refl format (lines_of text) (starts (Some format)) 1 refl refl all_true) all_shown
 
 -- ---- the table alone
 
@@ -165,11 +202,11 @@ holds_itself format file table plain =
 
 -- ---- both
 
-module _ (file : RegisterFile) (prints : Prints) (format : Format) (table : List (List ℕ)) (supplied : Supplied)
+module _ (file : RegisterFile) (format : Format) (table : List (List ℕ)) (supplied : Supplied)
     (is : IsRegisterFile file) (words : HasWords file) (agrees : Agrees supplied file) (width : (supplied.width ≡ Some file.width) ⊎ WidthLine format file table)
-    (read : IsReadAs file prints format table supplied) (plain : AllByRecursion (λ line. list_all is_plain line ≡ true) table) where
+    (read : IsReadAs file format table supplied) (plain : AllByRecursion (λ line. list_all is_plain line ≡ true) table) where
   pub table_back : TableReadsBack format table supplied file
   table_back = record {
-    alone = reads_back file prints format table supplied (ended table) is words agrees width read (holds_itself format file table plain);
-    among = λ text holds. reads_back file prints format table supplied text is words agrees width read holds;
+    alone = reads_back file format table supplied (ended table) is words agrees width read (holds_itself format file table plain);
+    among = λ text holds. reads_back file format table supplied text is words agrees width read holds;
   }

@@ -1,5 +1,5 @@
 -- What a shell prints that calls rdmsr for each register reads back.
-use Rattle.std.proofs.Common.{◌≡◌, ◌+◌, ◌^◌, ◌<◌, ℕ, true, false, List, [], ◌∷◌, ◌++◌, Some, refl, sym, ap, subst, inl, inr}
+use Rattle.std.proofs.Common.{◌≡◌, ◌+◌, ◌^◌, ◌<◌, ℕ, true, false, List, [], ◌∷◌, ◌++◌, Some, refl, sym, ap, subst, inl, inr, lit<}
 use Rattle.std.specs.List.{AllByRecursion, list_all}
 use Rattle.std.specs.Fmt.{digits}
 use Rattle.mt_text.specs.declared.place.Place.{Place}
@@ -25,7 +25,7 @@ use Rattle.mt_import_laws.proofs.Keys.{IsKey, is_register_key}
 use Rattle.mt_import_laws.proofs.PrintedBack.{IsInFile, facts_back, fits, key_in_file, lines_back}
 use Rattle.mt_import_laws.proofs.RdmsrLines.{call_plain, call_said, value_place, value_plain, value_said}
 use Rattle.mt_import_laws.proofs.TableLines.{HasReading, all_join, shown_true, tells_whole}
-use Rattle.mt_import_laws.proofs.Whole.{IsSound, any_bits}
+use Rattle.mt_import_laws.proofs.Whole.{IsSound, any_bits, same_file}
 
 abbrev announces : ℕ → Announced
 announces number = record { processor = 0; number = number; goes_on = false }
@@ -70,21 +70,21 @@ module _ (file : RegisterFile) (is_file : IsRegisterFile file) (words : HasWords
   behind key within context number = context_behind (context_behind context number (call_line (number_at key))) (number + 1) (hex_text (value_in file key))
 
   block_sound : (key : Key) (within : IsInFile file key) (context : Context) (number : ℕ) → context.format ≡ Some Rdmsr
-      → AllByRecursion (IsSound file any_bits) (facts_of_line context number (call_line (number_at key)))
-      × AllByRecursion (IsSound file any_bits) (facts_of_line (context_behind context number (call_line (number_at key))) (number + 1) (hex_text (value_in file key)))
+      → AllByRecursion (IsSound (same_file file) 1 any_bits) (facts_of_line context number (call_line (number_at key)))
+      × AllByRecursion (IsSound (same_file file) 1 any_bits) (facts_of_line (context_behind context number (call_line (number_at key))) (number + 1) (hex_text (value_in file key)))
   block_sound key within context number is =
       let small = small_key key within in
       let whole = fits file key is_file words within in (
-        subst (AllByRecursion (IsSound file any_bits)) (sym (call_facts (number_at key) (value_in file key) small whole context number is)) (tt, tt),
-        subst (AllByRecursion (IsSound file any_bits)) (sym (value_facts (number_at key) (value_in file key) small whole context number is)) (
+        subst (AllByRecursion (IsSound (same_file file) 1 any_bits)) (sym (call_facts (number_at key) (value_in file key) small whole context number is)) (tt, tt),
+        subst (AllByRecursion (IsSound (same_file file) 1 any_bits)) (sym (value_facts (number_at key) (value_in file key) small whole context number is)) (
           tt,
-          shown_true file any_bits 0 _ (shown_as (number_at key) (value_in file key) (value_place (value_in file key) whole (number + 1))) refl
+          shown_true (same_file file) 1 any_bits 0 0 _ (shown_as (number_at key) (value_in file key) (value_place (value_in file key) whole (number + 1))) (lit< tt) refl
               (inl (tells_whole file any_bits key (value_place (value_in file key) whole (number + 1)) (key_in_file file key is_file within) refl whole)),
         ),
       )
 
   calls_sound : (keys : List Key) → ((key : Key) → IsAmong key keys → IsInFile file key) → (context : Context) (number : ℕ) → context.format ≡ Some Rdmsr
-      → AllByRecursion (IsSound file any_bits) (facts_from context number (calls file keys))
+      → AllByRecursion (IsSound (same_file file) 1 any_bits) (facts_from context number (calls file keys))
   calls_sound [] inside context number is = tt
   calls_sound (key ∷ keys) inside context number is =
       let within = inside key (inl refl) in
@@ -93,9 +93,9 @@ module _ (file : RegisterFile) (is_file : IsRegisterFile file) (words : HasWords
       let last : Context = behind key within context number in
       let later = calls_sound keys (λ k among. inside k (inr among)) last (number + 1 + 1)
       (last_format (number_at key) (value_in file key) (small_key key within) (fits file key is_file words within) context number is) in
-      all_join (IsSound file any_bits) (facts_of_line context number (call_line (number_at key)))
+      all_join (IsSound (same_file file) 1 any_bits) (facts_of_line context number (call_line (number_at key)))
       (facts_of_line next (number + 1) (hex_text (value_in file key)) ++ facts_from last (number + 1 + 1) (calls file keys)) block.0
-      (all_join (IsSound file any_bits) (facts_of_line next (number + 1) (hex_text (value_in file key))) (facts_from last (number + 1 + 1) (calls file keys)) block.1 later)
+      (all_join (IsSound (same_file file) 1 any_bits) (facts_of_line next (number + 1) (hex_text (value_in file key))) (facts_from last (number + 1 + 1) (calls file keys)) block.1 later)
 
   -- the register is among the facts of its value
   shown_here : (key : Key) → IsKey key → (table : ℕ) (at : Place) → HasReading key all_bits (shown_facts 0 table (shown_as (number_at key) (value_in file key) at))
@@ -159,5 +159,5 @@ own_text file supplied suits =
     let facts : shown (Some Rdmsr) (rdmsr_text file) ≡ facts_from (starts (Some Rdmsr)) 1 (rdmsr_lines file) = ap (facts_from (starts (Some Rdmsr)) 1) lines in
     text_back Rdmsr supplied file (rdmsr_lines file) plain (first_call file)
     (facts_back file any_bits Rdmsr supplied suits.is_file suits.has_words suits.agrees (shown (Some Rdmsr) (rdmsr_text file)) (inl suits.width)
-    (subst (AllByRecursion (IsSound file any_bits)) (sym facts) (calls_sound file suits.is_file suits.has_words (all_keys file) inside (starts (Some Rdmsr)) 1 refl))
+    (subst (AllByRecursion (IsSound (same_file file) 1 any_bits)) (sym facts) (calls_sound file suits.is_file suits.has_words (all_keys file) inside (starts (Some Rdmsr)) 1 refl))
     (λ key within. inl (subst (HasReading key all_bits) (sym facts) (calls_have file suits.is_file suits.has_words (all_keys file) inside (starts (Some Rdmsr)) 1 key refl (among_all file key suits.is_file within)))))

@@ -1,5 +1,5 @@
--- Readings that show bits of registers of a file: what is known of each register, and that none contradicts another.
-use Rattle.std.proofs.Common.{◌≡◌, ◌∙◌, ◌<◌, ◌≤◌, ◌+◌, ◌-◌, ◌*◌, ◌/◌, ◌%◌, ◌==◌, ◌&&◌, ◌^◌, nat_lt, length, slice_index, ℕ, zero, suc, Bool, true, false, List, [], ◌∷◌, Option, Some, None, refl, sym, ap, arith, inl, inr, lit<, bit_and, bit_or}
+-- Readings that show bits of registers of files, one for each processor: what is known of each register, and that none contradicts another.
+use Rattle.std.proofs.Common.{◌≡◌, ◌∙◌, ◌<◌, ◌≤◌, ◌+◌, ◌-◌, ◌*◌, ◌/◌, ◌%◌, ◌==◌, ◌&&◌, ◌^◌, nat_lt, length, slice_index, ℕ, zero, suc, Bool, true, false, List, [], ◌∷◌, Option, Some, None, refl, sym, ap, subst, arith, inl, inr, lit<, lit≤, bit_and, bit_or}
 use Rattle.std.specs.Prelude.{if◌then◌else◌, not, replicate, ⊤}
 use Rattle.std.specs.Int.{bit_at}
 use Rattle.std.specs.List.{AllByRecursion}
@@ -24,6 +24,7 @@ use Rattle.mt_import.specs.Outcome.{Seen, capability_rival, count_rival, counted
 use Rattle.mt_import_laws.specs.Origins.{IsAmong}
 use Rattle.mt_import_laws.specs.Printed.{Agrees, Key, number_at, value_in}
 use Rattle.mt_import_laws.proofs.Keys.{IsKey, same_key, value_at_key}
+use Rattle.mt_import_laws.proofs.Bits.{same_number}
 use Rattle.mt_import_laws.proofs.PartBits.{all_or, covers_both, covers_new, covers_old, parts_agree, parts_join, whole_of_part}
 
 -- the bits that lines may show of a register
@@ -34,15 +35,36 @@ Prints = Key → ℕ → Bool
 abbrev pub any_bits : Prints
 any_bits key bits = true
 
--- a reading of processor 0 shows such bits of a register as the file has them
-pub record IsPart (file : RegisterFile) (prints : Prints) (reading : Reading) : Type 0 where
+-- the same file for each processor
+abbrev pub same_file : RegisterFile → ℕ → RegisterFile
+same_file file k = file
+
+-- The files of so many processors have one width and one capability register.
+pub record AreAlike (files : ℕ → RegisterFile) (count : ℕ) : Type 0 where
+  pub some : 1 ≤ count
+  pub few : count ≤ 16
+  pub is_file : (k : ℕ) → k < count → IsRegisterFile (files k)
+  pub widths : (k : ℕ) → k < count → (files k).width ≡ (files 0).width
+  pub capabilities : (k : ℕ) → k < count → (files k).capabilities ≡ (files 0).capabilities
+
+pub alone : (file : RegisterFile) → IsRegisterFile file → AreAlike (same_file file) 1
+alone file is = record { some = lit≤ tt; few = lit≤ tt; is_file = λ k less. is; widths = λ k less. refl; capabilities = λ k less. refl }
+
+-- a reading of one of the processors shows such bits of a register as its file has them
+pub record IsPart (files : ℕ → RegisterFile) (count : ℕ) (prints : Prints) (reading : Reading) : Type 0 where
   pub key : Key
   pub is_key : IsKey key
   pub is_printed : prints key reading.bits ≡ true
   pub number : reading.number ≡ number_at key
-  pub processor : reading.processor ≡ 0
+  pub processor : reading.processor < count
   pub small : reading.bits < 2 ^ 64
-  pub value : reading.value ≡ bit_and (value_in file key) reading.bits
+  pub value : reading.value ≡ bit_and (value_in (files reading.processor) key) reading.bits
+
+-- a reading that is among some of one processor is of processor 0
+pub of_first : (file : RegisterFile) (prints : Prints) (readings : List Reading) (reading : Reading) → AllByRecursion (IsPart (same_file file) 1 prints) readings → IsAmong reading readings → reading.processor ≡ 0
+of_first file prints [] reading parts among = absurd among
+of_first file prints (other ∷ before) reading parts (inl same) = let less = parts.0.processor in let e : other.processor ≡ 0 = omega (arith, less) in ap (λ (r : Reading). r.processor) (sym same) ∙ e
+of_first file prints (other ∷ before) reading parts (inr later) = of_first file prints before reading parts.1 later
 
 -- What is known of a register are bits of this value. All bits of one table count as shown.
 pub record IsKnown (slot : Slot) (value : ℕ) : Type 0 where
@@ -60,9 +82,6 @@ whole_slot slot value is fits whole = record {
   fresh = whole;
   shows = is.shows ∙ whole_of_part value slot.bits fits (ap (bit_and slot.bits) (sym whole) ∙ is.covers ∙ whole);
 }
-
-same_number : (a b : ℕ) → a ≡ b → (a == b) ≡ true
-same_number a b e = grind (arith, nat_tests, e)
 
 -- ---- one more reading of a register
 
@@ -98,54 +117,10 @@ module _ (slot : Slot) (reading : Reading) where
       by false true is = ap (bit_or slot.fresh) bits ∙ all_or slot.fresh small
       by false false is = bits
 
-module _ (file : RegisterFile) (prints : Prints) where
-  -- the value of a register by its number
-  value_by : (reading : Reading) (key : Key) → IsPart file prints reading → IsKey key → reading.number ≡ number_at key → reading.value ≡ bit_and (value_in file key) reading.bits
-  value_by reading key part is same = part.value ∙ ap (λ k. bit_and (value_in file k) reading.bits) (same_key part.key key part.is_key is (sym part.number ∙ same))
+-- ---- what holds of one file
 
-  -- ---- what is known of each register
-
-  pub known : (readings : List Reading) (key : Key) → AllByRecursion (IsPart file prints) readings → IsKey key → IsKnown (slot_shown readings 0 (number_at key)) (value_in file key)
-  known [] key all is = nothing_known (value_in file key)
-  known (reading ∷ before) key all is = by (reading.processor == 0) (reading.number == number_at key) refl (known before key all.1 is)
-    where
-      by : (p n : Bool) → (reading.number == number_at key) ≡ n → IsKnown (slot_shown before 0 (number_at key)) (value_in file key)
-          → IsKnown (if p && n then slot_with (slot_shown before 0 (number_at key)) reading else slot_shown before 0 (number_at key)) (value_in file key)
-      by true true same earlier =
-          one_more (slot_shown before 0 (number_at key)) reading (value_in file key) earlier all.0.small (value_by reading key all.0 is (eqb-true reading.number (number_at key) same))
-      by true false same earlier = earlier
-      by false n same earlier = earlier
-
-  -- a reading of all bits is among them
-  pub held : (readings : List Reading) (reading : Reading) (key : Key) → AllByRecursion (IsPart file prints) readings → IsKey key → IsAmong reading readings → reading.number ≡ number_at key → reading.bits ≡ all_bits
-      → (slot_shown readings 0 (number_at key)).fresh ≡ all_bits
-  held [] reading key all is among same whole = absurd among
-  held (other ∷ before) reading key all is (inl found) same whole =
-      let number : other.number ≡ number_at key = ap (λ (r : Reading). r.number) found ∙ same in
-      rw (same_number other.processor 0 all.0.processor, same_number other.number (number_at key) number)
-      (now_whole (slot_shown before 0 (number_at key)) other (known before key all.1 is).small (ap (λ (r : Reading). r.bits) found ∙ whole))
-  held (other ∷ before) reading key all is (inr later) same whole = by (other.processor == 0) (other.number == number_at key) (held before reading key all.1 is later same whole)
-    where
-      by : (p n : Bool) → (slot_shown before 0 (number_at key)).fresh ≡ all_bits
-          → (if p && n then slot_with (slot_shown before 0 (number_at key)) other else slot_shown before 0 (number_at key)).fresh ≡ all_bits
-      by true true earlier = still_whole (slot_shown before 0 (number_at key)) other earlier
-      by true false earlier = earlier
-      by false n earlier = earlier
-
-  capabilities_known : (readings : List Reading) → AllByRecursion (IsPart file prints) readings → IsKnown (capabilities_shown readings) file.capabilities
-  capabilities_known [] all = nothing_known file.capabilities
-  capabilities_known (reading ∷ before) all = by (reading.number == 0xfe) refl (capabilities_known before all.1)
-    where
-      by : (n : Bool) → (reading.number == 0xfe) ≡ n → IsKnown (capabilities_shown before) file.capabilities
-          → IsKnown (if n then slot_with (capabilities_shown before) reading else capabilities_shown before) file.capabilities
-      by true same earlier = one_more (capabilities_shown before) reading file.capabilities earlier all.0.small (value_by reading None all.0 tt (eqb-true reading.number 0xfe same))
-      by false same earlier = earlier
-
-  pub one_processor : (readings : List Reading) → AllByRecursion (IsPart file prints) readings → processors readings ≡ 1
-  one_processor [] all = refl
-  one_processor (reading ∷ before) all = rw (all.0.processor, one_processor before all.1) refl
-
-  -- ---- VCNT counts each pair that a reading shows as enabled
+module _ (file : RegisterFile) where
+  -- ---- VCNT counts each pair of the file
 
   and_false : (test : Bool) → (test && false) ≡ false
   and_false true = refl
@@ -200,36 +175,7 @@ module _ (file : RegisterFile) (prints : Prints) where
   enabled_at (Some Pat) bits is_file is = omega arith
   enabled_at (Some DefaultType) bits is_file is = omega arith
 
-  enabled_few : (reading : Reading) → IsRegisterFile file → IsPart file prints reading → enabled_pair reading ≤ low_byte file.capabilities
-  enabled_few reading is_file part = rw (part.number, part.value) (enabled_at part.key reading.bits is_file part.is_key)
-
-  last_few : (readings : List Reading) → IsRegisterFile file → AllByRecursion (IsPart file prints) readings → (last_shown readings).count ≤ low_byte file.capabilities
-  last_few [] is_file all = omega arith
-  last_few (reading ∷ before) is_file all = by (nat_lt (last_shown before).count (enabled_pair reading)) (enabled_few reading is_file all.0) (last_few before is_file all.1)
-    where
-      by : (test : Bool) → enabled_pair reading ≤ low_byte file.capabilities → (last_shown before).count ≤ low_byte file.capabilities
-          → (if test then record { count = enabled_pair reading; line = reading.place.line } else last_shown before).count ≤ low_byte file.capabilities
-      by true new old = new
-      by false new old = old
-
-  not_fewer : (count : ℕ) → count ≤ low_byte file.capabilities → counts_fewer (Some file.capabilities) count ≡ false
-  not_fewer count few = within (low_byte file.capabilities) count few
-    where
-      within : (low count : ℕ) → count ≤ low → nat_lt low count ≡ false
-      within low count few = grind (arith, nat_tests, few)
-
-  -- where all bits of VCNT are shown it is that of the file
-  all_counted : (value bits : ℕ) → bits % 256 ≡ 255 → low_byte (bit_and value bits) ≡ low_byte value
-  all_counted value bits all = and_mod value bits 8 ∙ ap (bit_and (value % 2 ^ 8)) all ∙ and_mask (value % 2 ^ 8) 8 ∙ omega arith
-
-  slot_counts : (slot : Slot) (count : ℕ) → IsKnown slot file.capabilities → count ≤ low_byte file.capabilities → counts_fewer (counted slot) count ≡ false
-  slot_counts slot count known few = by (slot.bits % 256 == 255) refl
-    where
-      by : (test : Bool) → (slot.bits % 256 == 255) ≡ test → counts_fewer (if test then Some slot.value else None) count ≡ false
-      by true all = ap (λ low. nat_lt low count) (ap low_byte known.shows ∙ all_counted file.capabilities slot.bits (eqb-true (slot.bits % 256) 255 all)) ∙ not_fewer count few
-      by false some = refl
-
-  -- ---- FIX allows each fixed-range register that a reading shows as not 0
+  -- ---- without FIX each fixed-range register is 0
 
   zero_at : (count place : ℕ) → slice_index (replicate count 0) place ≡ 0
   zero_at zero place = refl
@@ -252,51 +198,23 @@ module _ (file : RegisterFile) (prints : Prints) where
   unranged (Some Pat) bits is_file is none = refl
   unranged (Some DefaultType) bits is_file is none = refl
 
-  shows_none : (reading : Reading) → IsRegisterFile file → IsPart file prints reading → has_fixed file ≡ false → shows_fixed reading ≡ false
-  shows_none reading is_file part none = rw (part.number, part.value) (unranged part.key reading.bits is_file part.is_key none)
+-- ---- facts that tell of files
 
-  last_none : (readings : List Reading) → IsRegisterFile file → AllByRecursion (IsPart file prints) readings → has_fixed file ≡ false → last_fixed_line readings ≡ None
-  last_none [] is_file all none = refl
-  last_none (reading ∷ before) is_file all none = rw (shows_none reading is_file all.0 none) (last_none before is_file all.1 none)
-
-  -- a bit that is shown is the value's
-  bit_of_part : (value bits k : ℕ) → is_bit_set value k ≡ true → is_bit_set bits k ≡ true → is_bit_set (bit_and value bits) k ≡ true
-  bit_of_part value bits k one two =
-      let first : bit_at value k ≡ 1 = eqb-true (bit_at value k) 1 one in
-      let second : bit_at bits k ≡ 1 = eqb-true (bit_at bits k) 1 two in
-      same_number (bit_at (bit_and value bits) k) 1 (bit_at_and value bits k ∙ rw (first, second) refl)
-
-  slot_fix : (slot : Slot) → IsKnown slot file.capabilities → has_fixed file ≡ true → lacks_fix (fix_shown slot) ≡ false
-  slot_fix slot known has = by (is_bit_set slot.bits 8) refl
-    where
-      by : (test : Bool) → is_bit_set slot.bits 8 ≡ test → lacks_fix (if test then Some slot.value else None) ≡ false
-      by true set = ap (λ v. not (is_bit_set v 8)) known.shows ∙ ap not (bit_of_part file.capabilities slot.bits 8 has set)
-      by false clear = refl
-
-  reading_fix : (reading : Reading) → IsPart file prints reading → has_fixed file ≡ true → shows_no_fix reading ≡ false
-  reading_fix reading part has = by (reading.number == 0xfe) (is_bit_set reading.bits 8) refl refl
-    where
-      by : (n b : Bool) → (reading.number == 0xfe) ≡ n → is_bit_set reading.bits 8 ≡ b → (n && b && not (is_bit_set reading.value 8)) ≡ false
-      by true true same set = ap (λ v. not (is_bit_set v 8)) (value_by reading None part tt (eqb-true reading.number 0xfe same)) ∙ ap not (bit_of_part file.capabilities reading.bits 8 has set)
-      by true false same clear = refl
-      by false b apart bits = refl
-
-  -- ---- no fault
-
-  -- a fact that tells of the file
+module _ (files : ℕ → RegisterFile) (count : ℕ) (prints : Prints) where
+  -- a fact that tells of the files
   abbrev pub IsSound : Fact → Type 0
   IsSound (is_line number format matched) = ⊤
-  IsSound (is_register_value reading) = IsPart file prints reading
-  IsSound (is_width width place) = width ≡ file.width
+  IsSound (is_register_value reading) = IsPart files count prints reading
+  IsSound (is_width width place) = width ≡ (files 0).width
   IsSound is_warning = ⊤
   IsSound (is_fault fault) = ⊥
 
   abbrev pub IsWidth : Option ℕ → Type 0
   IsWidth None = ⊤
-  IsWidth (Some width) = width ≡ file.width
+  IsWidth (Some width) = width ≡ (files 0).width
 
   pub record IsSeen (seen : Seen) : Type 0 where
-    pub readings : AllByRecursion (IsPart file prints) seen.readings
+    pub readings : AllByRecursion (IsPart files count prints) seen.readings
     pub width : IsWidth seen.width
 
   pub seen_next : (seen : Seen) (fact : Fact) → IsSeen seen → IsSound fact → IsSeen (seen_with seen fact)
@@ -310,26 +228,174 @@ module _ (file : RegisterFile) (prints : Prints) where
   seen_last [] seen is sound = is
   seen_last (fact ∷ facts) seen is sound = seen_last facts (seen_with seen fact) (seen_next seen fact is sound.0) sound.1
 
-  module _ (supplied : Supplied) (agrees : Agrees supplied file) (is_file : IsRegisterFile file) where
+module _ (files : ℕ → RegisterFile) (count : ℕ) (prints : Prints) where
+  abbrev AreParts : List Reading → Type 0
+  AreParts readings = AllByRecursion (IsPart files count prints) readings
+
+  -- the value of a processor's register by its number
+  value_by : (reading : Reading) (k : ℕ) (key : Key) → IsPart files count prints reading → reading.processor ≡ k → IsKey key → reading.number ≡ number_at key → reading.value ≡ bit_and (value_in (files k) key) reading.bits
+  value_by reading k key part own is same =
+      part.value ∙ ap (λ j. bit_and (value_in (files j) part.key) reading.bits) own ∙ ap (λ x. bit_and (value_in (files k) x) reading.bits) (same_key part.key key part.is_key is (sym part.number ∙ same))
+
+  -- ---- what is known of each register
+
+  pub known : (readings : List Reading) (k : ℕ) (key : Key) → AreParts readings → IsKey key → IsKnown (slot_shown readings k (number_at key)) (value_in (files k) key)
+  known [] k key all is = nothing_known (value_in (files k) key)
+  known (reading ∷ before) k key all is = by (reading.processor == k) (reading.number == number_at key) refl refl (known before k key all.1 is)
+    where
+      by : (p n : Bool) → (reading.processor == k) ≡ p → (reading.number == number_at key) ≡ n → IsKnown (slot_shown before k (number_at key)) (value_in (files k) key)
+          → IsKnown (if p && n then slot_with (slot_shown before k (number_at key)) reading else slot_shown before k (number_at key)) (value_in (files k) key)
+      by true true own same earlier =
+          one_more (slot_shown before k (number_at key)) reading (value_in (files k) key) earlier all.0.small
+          (value_by reading k key all.0 (eqb-true reading.processor k own) is (eqb-true reading.number (number_at key) same))
+      by true false own same earlier = earlier
+      by false n own same earlier = earlier
+
+  -- a reading of all bits is among them
+  pub held : (readings : List Reading) (k : ℕ) (reading : Reading) (key : Key) → AreParts readings → IsKey key → IsAmong reading readings → reading.processor ≡ k → reading.number ≡ number_at key → reading.bits ≡ all_bits
+      → (slot_shown readings k (number_at key)).fresh ≡ all_bits
+  held [] k reading key all is among own same whole = absurd among
+  held (other ∷ before) k reading key all is (inl found) own same whole =
+      let processor : other.processor ≡ k = ap (λ (r : Reading). r.processor) found ∙ own in
+      let number : other.number ≡ number_at key = ap (λ (r : Reading). r.number) found ∙ same in
+      rw (same_number other.processor k processor, same_number other.number (number_at key) number)
+      (now_whole (slot_shown before k (number_at key)) other (known before k key all.1 is).small (ap (λ (r : Reading). r.bits) found ∙ whole))
+  held (other ∷ before) k reading key all is (inr later) own same whole = by (other.processor == k) (other.number == number_at key) (held before k reading key all.1 is later own same whole)
+    where
+      by : (p n : Bool) → (slot_shown before k (number_at key)).fresh ≡ all_bits
+          → (if p && n then slot_with (slot_shown before k (number_at key)) other else slot_shown before k (number_at key)).fresh ≡ all_bits
+      by true true earlier = still_whole (slot_shown before k (number_at key)) other earlier
+      by true false earlier = earlier
+      by false n earlier = earlier
+
+-- ---- files that are alike
+
+module _ (files : ℕ → RegisterFile) (count : ℕ) (prints : Prints) (alike : AreAlike files count) where
+  -- the capability register of all processors
+  abbrev shared : ℕ
+  shared = (files 0).capabilities
+
+  shared_by : (reading : Reading) → IsPart files count prints reading → reading.number ≡ 0xfe → reading.value ≡ bit_and shared reading.bits
+  shared_by reading part number = value_by files count prints reading reading.processor None part refl tt number ∙ ap (λ c. bit_and c reading.bits) (alike.capabilities reading.processor part.processor)
+
+  capabilities_known : (readings : List Reading) → AreParts files count prints readings → IsKnown (capabilities_shown readings) shared
+  capabilities_known [] all = nothing_known shared
+  capabilities_known (reading ∷ before) all = by (reading.number == 0xfe) refl (capabilities_known before all.1)
+    where
+      by : (n : Bool) → (reading.number == 0xfe) ≡ n → IsKnown (capabilities_shown before) shared → IsKnown (if n then slot_with (capabilities_shown before) reading else capabilities_shown before) shared
+      by true same earlier = one_more (capabilities_shown before) reading shared earlier all.0.small (shared_by reading all.0 (eqb-true reading.number 0xfe same))
+      by false same earlier = earlier
+
+  -- ---- how many processors there are
+
+  at_most : (readings : List Reading) → AreParts files count prints readings → processors readings ≤ count
+  at_most [] all = alike.some
+  at_most (reading ∷ before) all = let less = all.0.processor in let earlier = at_most before all.1 in omega (arith, less, earlier)
+
+  counts : (readings : List Reading) (reading : Reading) → IsAmong reading readings → reading.processor < processors readings
+  counts [] reading among = absurd among
+  counts (other ∷ before) reading (inl same) = subst (λ (r : Reading). r.processor < processors (other ∷ before)) same (omega arith)
+  counts (other ∷ before) reading (inr later) = let earlier = counts before reading later in omega (arith, earlier)
+
+  -- as many as there are files, if a reading is of the last one
+  pub all_processors : (readings : List Reading) (last : Reading) → AreParts files count prints readings → IsAmong last readings → last.processor + 1 ≡ count → processors readings ≡ count
+  all_processors readings last all among is = let most = at_most readings all in let least = counts readings last among in omega (arith, most, least, is)
+
+  -- ---- VCNT counts each pair that a reading shows as enabled
+
+  enabled_few : (reading : Reading) → IsPart files count prints reading → enabled_pair reading ≤ low_byte shared
+  enabled_few reading part =
+      let file = files reading.processor in
+      rw (part.number, part.value) (subst (λ c. enabled file (number_at part.key) (bit_and (value_in file part.key) reading.bits) ≤ low_byte c) (alike.capabilities reading.processor part.processor)
+      (enabled_at file part.key reading.bits (alike.is_file reading.processor part.processor) part.is_key))
+
+  last_few : (readings : List Reading) → AreParts files count prints readings → (last_shown readings).count ≤ low_byte shared
+  last_few [] all = omega arith
+  last_few (reading ∷ before) all = by (nat_lt (last_shown before).count (enabled_pair reading)) (enabled_few reading all.0) (last_few before all.1)
+    where
+      by : (test : Bool) → enabled_pair reading ≤ low_byte shared → (last_shown before).count ≤ low_byte shared
+          → (if test then record { count = enabled_pair reading; line = reading.place.line } else last_shown before).count ≤ low_byte shared
+      by true new old = new
+      by false new old = old
+
+  not_fewer : (pairs : ℕ) → pairs ≤ low_byte shared → counts_fewer (Some shared) pairs ≡ false
+  not_fewer pairs few = within (low_byte shared) pairs few
+    where
+      within : (low pairs : ℕ) → pairs ≤ low → nat_lt low pairs ≡ false
+      within low pairs few = grind (arith, nat_tests, few)
+
+  -- where all bits of VCNT are shown it is that of the files
+  all_counted : (value bits : ℕ) → bits % 256 ≡ 255 → low_byte (bit_and value bits) ≡ low_byte value
+  all_counted value bits all = and_mod value bits 8 ∙ ap (bit_and (value % 2 ^ 8)) all ∙ and_mask (value % 2 ^ 8) 8 ∙ omega arith
+
+  slot_counts : (slot : Slot) (pairs : ℕ) → IsKnown slot shared → pairs ≤ low_byte shared → counts_fewer (counted slot) pairs ≡ false
+  slot_counts slot pairs known few = by (slot.bits % 256 == 255) refl
+    where
+      by : (test : Bool) → (slot.bits % 256 == 255) ≡ test → counts_fewer (if test then Some slot.value else None) pairs ≡ false
+      by true all = ap (λ low. nat_lt low pairs) (ap low_byte known.shows ∙ all_counted shared slot.bits (eqb-true (slot.bits % 256) 255 all)) ∙ not_fewer pairs few
+      by false some = refl
+
+  -- ---- FIX allows each fixed-range register that a reading shows as not 0
+
+  -- each file has FIX as the first has it
+  each_fix : (k : ℕ) (test : Bool) → k < count → has_fixed (files 0) ≡ test → has_fixed (files k) ≡ test
+  each_fix k test less is = ap (λ c. is_bit_set c 8) (alike.capabilities k less) ∙ is
+
+  shows_none : (reading : Reading) → IsPart files count prints reading → has_fixed (files 0) ≡ false → shows_fixed reading ≡ false
+  shows_none reading part none =
+      rw (part.number, part.value)
+      (unranged (files reading.processor) part.key reading.bits (alike.is_file reading.processor part.processor) part.is_key (each_fix reading.processor false part.processor none))
+
+  last_none : (readings : List Reading) → AreParts files count prints readings → has_fixed (files 0) ≡ false → last_fixed_line readings ≡ None
+  last_none [] all none = refl
+  last_none (reading ∷ before) all none = rw (shows_none reading all.0 none) (last_none before all.1 none)
+
+  -- a bit that is shown is the value's
+  bit_of_part : (value bits k : ℕ) → is_bit_set value k ≡ true → is_bit_set bits k ≡ true → is_bit_set (bit_and value bits) k ≡ true
+  bit_of_part value bits k one two =
+      let first : bit_at value k ≡ 1 = eqb-true (bit_at value k) 1 one in
+      let second : bit_at bits k ≡ 1 = eqb-true (bit_at bits k) 1 two in
+      same_number (bit_at (bit_and value bits) k) 1 (bit_at_and value bits k ∙ rw (first, second) refl)
+
+  slot_fix : (slot : Slot) → IsKnown slot shared → has_fixed (files 0) ≡ true → lacks_fix (fix_shown slot) ≡ false
+  slot_fix slot known has = by (is_bit_set slot.bits 8) refl
+    where
+      by : (test : Bool) → is_bit_set slot.bits 8 ≡ test → lacks_fix (if test then Some slot.value else None) ≡ false
+      by true set = ap (λ v. not (is_bit_set v 8)) known.shows ∙ ap not (bit_of_part shared slot.bits 8 has set)
+      by false clear = refl
+
+  reading_fix : (reading : Reading) → IsPart files count prints reading → has_fixed (files 0) ≡ true → shows_no_fix reading ≡ false
+  reading_fix reading part has = by (reading.number == 0xfe) (is_bit_set reading.bits 8) refl refl
+    where
+      by : (n b : Bool) → (reading.number == 0xfe) ≡ n → is_bit_set reading.bits 8 ≡ b → (n && b && not (is_bit_set reading.value 8)) ≡ false
+      by true true same set = ap (λ v. not (is_bit_set v 8)) (shared_by reading part (eqb-true reading.number 0xfe same)) ∙ ap not (bit_of_part shared reading.bits 8 has set)
+      by true false same clear = refl
+      by false b apart bits = refl
+
+  -- ---- no fault
+
+  module _ (supplied : Supplied) (agrees : (k : ℕ) → k < count → Agrees supplied (files k)) where
     -- no word gives other bits
-    same_word : (key : Key) (bits : ℕ) (given : Option ℕ) → IsKey key → supplied_value supplied (number_at key) ≡ given → bits_differ given bits (bit_and (value_in file key) bits) ≡ false
-    same_word key bits None is is_given = refl
-    same_word key bits (Some word) is is_given =
-        let same : word ≡ value_in file key = value_at_key file key word is_file is (agrees.registers (number_at key) word is_given) in
-        rw (same, same_number (bit_and (value_in file key) bits) (bit_and (value_in file key) bits) refl) refl
+    same_word : (k : ℕ) (key : Key) (bits : ℕ) (given : Option ℕ) → k < count → IsKey key → supplied_value supplied (number_at key) ≡ given → bits_differ given bits (bit_and (value_in (files k) key) bits) ≡ false
+    same_word k key bits None less is is_given = refl
+    same_word k key bits (Some word) less is is_given =
+        let same : word ≡ value_in (files k) key = value_at_key (files k) key word (alike.is_file k less) is ((agrees k less).registers (number_at key) word is_given) in
+        rw (same, same_number (bit_and (value_in (files k) key) bits) (bit_and (value_in (files k) key) bits) refl) refl
 
-    word_counts : (given : Option ℕ) (count : ℕ) → supplied_value supplied 0xfe ≡ given → count ≤ low_byte file.capabilities → counts_fewer given count ≡ false
-    word_counts None count is_given few = refl
-    word_counts (Some word) count is_given few =
-        let same : word ≡ file.capabilities = value_at_key file None word is_file tt (agrees.registers 0xfe word is_given) in
-        rw same (not_fewer count few)
+    -- a word's capability register
+    word_is : (word : ℕ) → supplied_value supplied 0xfe ≡ Some word → word ≡ shared
+    word_is word given = value_at_key (files 0) None word (alike.is_file 0 alike.some) tt ((agrees 0 alike.some).registers 0xfe word given)
 
-    word_fix : (given : Option ℕ) → supplied_value supplied 0xfe ≡ given → has_fixed file ≡ true → lacks_fix given ≡ false
+    word_counts : (given : Option ℕ) (pairs : ℕ) → supplied_value supplied 0xfe ≡ given → pairs ≤ low_byte shared → counts_fewer given pairs ≡ false
+    word_counts None pairs is_given few = refl
+    word_counts (Some word) pairs is_given few = rw (word_is word is_given) (not_fewer pairs few)
+
+    word_fix : (given : Option ℕ) → supplied_value supplied 0xfe ≡ given → has_fixed (files 0) ≡ true → lacks_fix given ≡ false
     word_fix None is_given has = refl
-    word_fix (Some word) is_given has = rw (value_at_key file None word is_file tt (agrees.registers 0xfe word is_given), has) refl
+    word_fix (Some word) is_given has = rw (word_is word is_given, has) refl
 
-    no_fixed_rival : (before : List Reading) (reading : Reading) → AllByRecursion (IsPart file prints) before → IsPart file prints reading → fixed_rival (supplied_value supplied 0xfe) before reading ≡ None
-    no_fixed_rival before reading all part = by (has_fixed file) refl
+    no_fixed_rival : (before : List Reading) (reading : Reading) → AreParts files count prints before → IsPart files count prints reading → fixed_rival (supplied_value supplied 0xfe) before reading ≡ None
+    no_fixed_rival before reading all part = by (has_fixed (files 0)) refl
       where
         with_fix : (range unfixed word line : Bool) (at : ℕ) (last : Option Rival) → unfixed ≡ false → word ≡ false → line ≡ false
             → (if range then (if word then Some CapabilityWord else if line then Some (CapabilityLine at) else None) else if unfixed then last else None) ≡ None
@@ -340,104 +406,122 @@ module _ (file : RegisterFile) (prints : Prints) where
         without range true found last one two = rw (one, two) refl
         without range false found last one two = rw one refl
 
-        by : (test : Bool) → has_fixed file ≡ test → fixed_rival (supplied_value supplied 0xfe) before reading ≡ None
+        by : (test : Bool) → has_fixed (files 0) ≡ test → fixed_rival (supplied_value supplied 0xfe) before reading ≡ None
         by true has =
             with_fix (shows_fixed reading) (shows_no_fix reading) (lacks_fix (supplied_value supplied 0xfe)) (lacks_fix (fix_shown (capabilities_shown before))) (capabilities_shown before).line
             (ranged_rival (last_fixed_line before)) (reading_fix reading part has) (word_fix (supplied_value supplied 0xfe) refl has) (slot_fix (capabilities_shown before) (capabilities_known before all) has)
         by false none =
-            without (shows_fixed reading) (shows_no_fix reading) _ (last_fixed_line before) (shows_none reading is_file part none) (last_none before is_file all none)
+            without (shows_fixed reading) (shows_no_fix reading) _ (last_fixed_line before) (shows_none reading part none) (last_none before all none)
 
-    no_rival : (before : List Reading) (reading : Reading) → AllByRecursion (IsPart file prints) before → IsPart file prints reading → rival supplied before reading ≡ None
+    no_rival : (before : List Reading) (reading : Reading) → AreParts files count prints before → IsPart files count prints reading → rival supplied before reading ≡ None
     no_rival before reading all part =
         let key = part.key in
-        let few = enabled_few reading is_file part in
+        let few = enabled_few reading part in
         let word : bits_differ (supplied_value supplied reading.number) reading.bits reading.value ≡ false =
-        rw (part.number, part.value) (same_word key reading.bits (supplied_value supplied (number_at key)) part.is_key refl) in
+        rw (part.number, part.value) (same_word reading.processor key reading.bits (supplied_value supplied (number_at key)) part.processor part.is_key refl) in
         let word_too : counts_fewer (supplied_value supplied 0xfe) (enabled_pair reading) ≡ false = word_counts (supplied_value supplied 0xfe) (enabled_pair reading) refl few in
         let line : clashes (slot_shown before reading.processor reading.number) reading ≡ false =
-        rw (part.processor, part.number) (no_clash (slot_shown before 0 (number_at key)) reading (value_in file key) (known before key all part.is_key) part.value) in
+        rw part.number (no_clash (slot_shown before reading.processor (number_at key)) reading (value_in (files reading.processor) key) (known files count prints before reading.processor key all part.is_key) part.value) in
         by_tests (bits_differ (supplied_value supplied reading.number) reading.bits reading.value) (counts_fewer (supplied_value supplied 0xfe) (enabled_pair reading))
         (clashes (slot_shown before reading.processor reading.number) reading) (slot_shown before reading.processor reading.number).line (count_rival (capabilities_shown before) (last_shown before) reading) word word_too line
         (by_counts (counts_fewer (counted (capabilities_shown before)) (enabled_pair reading)) (capabilities_shown before).line (reading.number == 0xfe) (slot_counts (capabilities_shown before) (enabled_pair reading) (capabilities_known before all) few) refl)
       where
-        by_tests : (word count clash : Bool) (at : ℕ) (others : Option Rival) → word ≡ false → count ≡ false → clash ≡ false → others ≡ None → (if word then Some Word else if count then Some CapabilityWord else if clash then Some (Line at) else others) ≡ None
-        by_tests word count clash at others one two three none = rw (one, two, three) none
+        by_tests : (word fewer clash : Bool) (at : ℕ) (others : Option Rival) → word ≡ false → fewer ≡ false → clash ≡ false → others ≡ None → (if word then Some Word else if fewer then Some CapabilityWord else if clash then Some (Line at) else others) ≡ None
+        by_tests word fewer clash at others one two three none = rw (one, two, three) none
 
         capability : (reading.number == 0xfe) ≡ true → capability_rival (capabilities_shown before) (last_shown before) reading ≡ None
         capability same =
-            let value = value_by reading None part tt (eqb-true reading.number 0xfe same) in
-            let next = one_more (capabilities_shown before) reading file.capabilities (capabilities_known before all) part.small value in
+            let value = shared_by reading part (eqb-true reading.number 0xfe same) in
+            let next = one_more (capabilities_shown before) reading shared (capabilities_known before all) part.small value in
             by_two (clashes (capabilities_shown before) reading) (counts_fewer (counted (slot_with (capabilities_shown before) reading)) (last_shown before).count) (capabilities_shown before).line (last_shown before).line
-            (no_clash (capabilities_shown before) reading file.capabilities (capabilities_known before all) value)
-            (slot_counts (slot_with (capabilities_shown before) reading) (last_shown before).count next (last_few before is_file all))
+            (no_clash (capabilities_shown before) reading shared (capabilities_known before all) value)
+            (slot_counts (slot_with (capabilities_shown before) reading) (last_shown before).count next (last_few before all))
           where
-            by_two : (clash count : Bool) (a b : ℕ) → clash ≡ false → count ≡ false → (if clash then Some (Line a) else if count then Some (RegisterLine b) else None) ≡ None
-            by_two clash count a b one two = rw (one, two) refl
+            by_two : (clash fewer : Bool) (a b : ℕ) → clash ≡ false → fewer ≡ false → (if clash then Some (Line a) else if fewer then Some (RegisterLine b) else None) ≡ None
+            by_two clash fewer a b one two = rw (one, two) refl
 
         by_counts : (fewer : Bool) (at : ℕ) (n : Bool) → fewer ≡ false → (reading.number == 0xfe) ≡ n → (if fewer then Some (CapabilityLine at) else if n then capability_rival (capabilities_shown before) (last_shown before) reading else None) ≡ None
         by_counts fewer at true none same = rw none (capability same)
         by_counts fewer at false none apart = rw none refl
 
-    few : (value bits : ℕ) → value ≡ bit_and file.capabilities bits → nat_lt 32 (low_byte value) ≡ false
+    few : (value bits : ℕ) → value ≡ bit_and shared bits → nat_lt 32 (low_byte value) ≡ false
     few value bits is =
-        let part = and_mod file.capabilities bits 8 in
-        let less = and_le_l (file.capabilities % 2 ^ 8) (bits % 2 ^ 8) in
-        let all = is_file.few_pairs in
-        rw is (small (low_byte (bit_and file.capabilities bits)) (omega (arith, part, less, all)))
+        let part = and_mod shared bits 8 in
+        let less = and_le_l (shared % 2 ^ 8) (bits % 2 ^ 8) in
+        let all = (alike.is_file 0 alike.some).few_pairs in
+        rw is (small (low_byte (bit_and shared bits)) (omega (arith, part, less, all)))
       where
-        small : (count : ℕ) → count ≤ 32 → nat_lt 32 count ≡ false
-        small count le = grind (arith, nat_tests, le)
+        small : (pairs : ℕ) → pairs ≤ 32 → nat_lt 32 pairs ≡ false
+        small pairs le = grind (arith, nat_tests, le)
 
-    no_reading_fault : (before : List Reading) (reading : Reading) → AllByRecursion (IsPart file prints) before → IsPart file prints reading → reading_fault supplied before reading ≡ None
+    near : (k : ℕ) → k < count → nat_lt 15 k ≡ false
+    near k less = let most = alike.few in below k (omega (arith, less, most))
+      where
+        below : (k : ℕ) → k < 16 → nat_lt 15 k ≡ false
+        below k less = grind (arith, nat_tests, less)
+
+    no_reading_fault : (before : List Reading) (reading : Reading) → AreParts files count prints before → IsPart files count prints reading → reading_fault supplied before reading ≡ None
     no_reading_fault before reading all part =
-        let far : nat_lt 15 reading.processor ≡ false = rw part.processor refl in
-        let many : (reading.number == 0xfe && nat_lt 32 (low_byte (bit_or (slot_shown before reading.processor 0xfe).value reading.value))) ≡ false = rw part.processor (by (reading.number == 0xfe) refl) in
+        let far : nat_lt 15 reading.processor ≡ false = near reading.processor part.processor in
+        let many : (reading.number == 0xfe && nat_lt 32 (low_byte (bit_or (slot_shown before reading.processor 0xfe).value reading.value))) ≡ false = by (reading.number == 0xfe) refl in
         let none = no_rival before reading all part in
         let none_too = no_fixed_rival before reading all part in
         rw (far, none, none_too, many) refl
       where
-        by : (n : Bool) → (reading.number == 0xfe) ≡ n → (n && nat_lt 32 (low_byte (bit_or (slot_shown before 0 0xfe).value reading.value))) ≡ false
+        own : IsKnown (slot_shown before reading.processor 0xfe) shared
+        own = subst (IsKnown (slot_shown before reading.processor 0xfe)) (alike.capabilities reading.processor part.processor) (known files count prints before reading.processor None all tt)
+
+        by : (n : Bool) → (reading.number == 0xfe) ≡ n → (n && nat_lt 32 (low_byte (bit_or (slot_shown before reading.processor 0xfe).value reading.value))) ≡ false
         by true same =
-            let next = one_more (slot_shown before 0 0xfe) reading file.capabilities (known before None all tt) part.small (value_by reading None part tt (eqb-true reading.number 0xfe same)) in
-            few (bit_or (slot_shown before 0 0xfe).value reading.value) (bit_or (slot_shown before 0 0xfe).bits reading.bits) next.shows
+            let next = one_more (slot_shown before reading.processor 0xfe) reading shared own part.small (shared_by reading part (eqb-true reading.number 0xfe same)) in
+            few (bit_or (slot_shown before reading.processor 0xfe).value reading.value) (bit_or (slot_shown before reading.processor 0xfe).bits reading.bits) next.shows
         by false apart = refl
 
-    -- a width is the file's
-    same_width : (given : Option ℕ) (width : ℕ) → ((other : ℕ) → given ≡ Some other → other ≡ file.width) → width ≡ file.width → differs given width ≡ false
+    -- a width is that of the files
+    same_width : (given : Option ℕ) (width : ℕ) → ((other : ℕ) → given ≡ Some other → other ≡ (files 0).width) → width ≡ (files 0).width → differs given width ≡ false
     same_width None width each is = refl
     same_width (Some other) width each is = rw (same_number other width (each other refl ∙ sym is)) refl
 
-    fit : nat_lt 31 file.width ≡ true
-    fit = between file.width is_file.wide
+    fit : nat_lt 31 (files 0).width ≡ true
+    fit = between (files 0).width (alike.is_file 0 alike.some).wide
       where
         between : (width : ℕ) → 32 ≤ width → nat_lt 31 width ≡ true
         between width wide = grind (arith, nat_tests, wide)
 
-    fit_too : nat_lt file.width 53 ≡ true
-    fit_too = between file.width is_file.narrow
+    fit_too : nat_lt (files 0).width 53 ≡ true
+    fit_too = between (files 0).width (alike.is_file 0 alike.some).narrow
       where
         between : (width : ℕ) → width ≤ 52 → nat_lt width 53 ≡ true
         between width narrow = grind (arith, nat_tests, narrow)
 
-    seen_width : (shown : Option ℕ) → IsWidth shown → (other : ℕ) → shown ≡ Some other → other ≡ file.width
+    seen_width : (shown : Option ℕ) → IsWidth files count prints shown → (other : ℕ) → shown ≡ Some other → other ≡ (files 0).width
     seen_width None is other same = cc same
     seen_width (Some width) is other same = let e : width ≡ other = cc same in sym e ∙ is
 
-    no_width_fault : (seen : Seen) (width : ℕ) (place : Place) → IsSeen seen → width ≡ file.width → width_fault supplied seen width place ≡ None
+    no_width_fault : (seen : Seen) (width : ℕ) (place : Place) → IsSeen files count prints seen → width ≡ (files 0).width → width_fault supplied seen width place ≡ None
     no_width_fault seen width place is same =
         let low : nat_lt 31 width ≡ true = ap (nat_lt 31) same ∙ fit in
         let high : nat_lt width 53 ≡ true = ap (λ w. nat_lt w 53) same ∙ fit_too in
-        let word = same_width supplied.width width agrees.width same in
+        let word = same_width supplied.width width (agrees 0 alike.some).width same in
         let line = same_width seen.width width (seen_width seen.width is.width) same in
         rw (low, high, word, line) refl
 
-    no_fact_fault : (seen : Seen) (fact : Fact) → IsSeen seen → IsSound fact → fact_fault supplied seen fact ≡ None
+    no_fact_fault : (seen : Seen) (fact : Fact) → IsSeen files count prints seen → IsSound files count prints fact → fact_fault supplied seen fact ≡ None
     no_fact_fault seen (is_line number format matched) is sound = refl
     no_fact_fault seen (is_register_value reading) is sound = no_reading_fault seen.readings reading is.readings sound
     no_fact_fault seen (is_width width place) is sound = no_width_fault seen width place is sound
     no_fact_fault seen is_warning is sound = refl
     no_fact_fault seen (is_fault fault) is sound = absurd sound
 
-    pub no_fault : (facts : List Fact) (seen : Seen) → IsSeen seen → AllByRecursion IsSound facts → facts_fault supplied seen facts ≡ None
+    pub no_fault : (facts : List Fact) (seen : Seen) → IsSeen files count prints seen → AllByRecursion (IsSound files count prints) facts → facts_fault supplied seen facts ≡ None
     no_fault [] seen is sound = refl
-    no_fault (fact ∷ facts) seen is sound = rw (no_fact_fault seen fact is sound.0) (no_fault facts (seen_with seen fact) (seen_next seen fact is sound.0) sound.1)
+    no_fault (fact ∷ facts) seen is sound = rw (no_fact_fault seen fact is sound.0) (no_fault facts (seen_with seen fact) (seen_next files count prints seen fact is sound.0) sound.1)
+
+-- ---- one processor
+
+some_processor : (readings : List Reading) → 1 ≤ processors readings
+some_processor [] = omega arith
+some_processor (reading ∷ before) = omega arith
+
+pub one_processor : (file : RegisterFile) (prints : Prints) (readings : List Reading) → IsRegisterFile file → AreParts (same_file file) 1 prints readings → processors readings ≡ 1
+one_processor file prints readings is all = let most = at_most (same_file file) 1 prints (alone file is) readings all in let least = some_processor readings in omega (arith, most, least)

@@ -17,7 +17,7 @@ use Rattle.mt_import_laws.specs.PrintedByX86info.{Print, SuitsX86info, first_beh
 use Rattle.mt_import_laws.proofs.Among.{all_map, among_join, among_map, each_among, join_among_first, join_among_second, map_among}
 use Rattle.mt_import_laws.proofs.KeyLines.{ShowsAlone, alone_shows, alone_true, has_line, lines_true}
 use Rattle.mt_import_laws.proofs.Keys.{IsKey}
-use Rattle.mt_import_laws.proofs.PrintedBack.{HasLine, IsGiven, IsInFile, WidthLine, fits, key_in_file, table_back, word_gives}
+use Rattle.mt_import_laws.proofs.PrintedBack.{HasLine, IsGiven, IsInFile, WidthLine, fits, key_in_file, table_back}
 use Rattle.mt_import_laws.proofs.TableLines.{IsTrueSaid, all_join}
 use Rattle.mt_import_laws.proofs.Whole.{any_bits}
 use Rattle.mt_import_laws.proofs.X86infoLines.{nothing_said, place, register_said, size_place, size_plain, size_said, text_plain}
@@ -194,7 +194,7 @@ module _ (print : Print) (file : RegisterFile) (supplied : Supplied) (suits : Su
       let fields = suits.are_fields key in
       text_plain print.names suits.are_names key (is_key key within) (value_in file key) (print.fields key) fields.0 fields.1 fields.2 unread keys size
 
-  lines_of_keys : (keys : List Key) → ((key : Key) → IsAmong key keys → IsInFile file key) → (line : List ℕ) → IsAmong line (map (line_of print file) keys) → (number : ℕ) → IsTrueSaid file any_bits (said_of X86info number line)
+  lines_of_keys : (keys : List Key) → ((key : Key) → IsAmong key keys → IsInFile file key) → (line : List ℕ) → IsAmong line (map (line_of print file) keys) → (number : ℕ) → IsTrueSaid file any_bits 0 (said_of X86info number line)
   lines_of_keys keys within =
       lines_true file X86info (line_of print file) keys (λ key among. is_key key (within key among)) (λ key among. fit key (within key among)) (λ key among. shows [] tt (lit≤ tt) key (within key among))
 
@@ -208,7 +208,7 @@ module _ (print : Print) (file : RegisterFile) (supplied : Supplied) (suits : Su
     abbrev joint : List ℕ
     joint = line_behind print file (unread fixed file) (first_behind fixed)
 
-    joint_true : (number : ℕ) → IsTrueSaid file any_bits (said_of X86info number joint)
+    joint_true : (number : ℕ) → IsTrueSaid file any_bits 0 (said_of X86info number joint)
     joint_true number = elim (cases_lt 2 (length (unread fixed file))) [
       | inl more ↦
           let fields = suits.are_fields (first_behind fixed) in
@@ -221,10 +221,10 @@ module _ (print : Print) (file : RegisterFile) (supplied : Supplied) (suits : Su
           (shows (unread fixed file) (unread_keys fixed) few (first_behind fixed) key)
     ]
 
-    registers_true : (line : List ℕ) → IsAmong line (lines fixed) → (number : ℕ) → IsTrueSaid file any_bits (said_of X86info number line)
+    registers_true : (line : List ℕ) → IsAmong line (lines fixed) → (number : ℕ) → IsTrueSaid file any_bits 0 (said_of X86info number line)
     registers_true line among number = elim (among_join (map (line_of print file) (None ∷ map Some (read_pairs file))) (joint ∷ map (line_of print file) (last_keys fixed)) line among) [
       | inl first ↦ lines_of_keys (None ∷ map Some (read_pairs file)) first_in line first number
-      | inr (inl same) ↦ subst (λ l. IsTrueSaid file any_bits (said_of X86info number l)) same (joint_true number)
+      | inr (inl same) ↦ subst (λ l. IsTrueSaid file any_bits 0 (said_of X86info number l)) same (joint_true number)
       | inr (inr last) ↦ lines_of_keys (last_keys fixed) (last_in fixed is) line last number
     ]
 
@@ -275,17 +275,14 @@ module _ (print : Print) (file : RegisterFile) (supplied : Supplied) (suits : Su
           shows = λ number. alone_shows file X86info (first_behind fixed) joint number (shows (unread fixed file) (unread_keys fixed) few (first_behind fixed) (first_behind_in fixed is));
         })
 
-  given : (key : Key) → IsInFile file key → supplied_value supplied (number_at key) ≡ Some (value_in file key) → IsGiven file any_bits supplied key
-  given key within is = word_gives file any_bits supplied key suits.is_file suits.has_words within is
-
   -- a line or words
   abbrev HasBoth : Key → Type 0
-  HasBoth key = HasLine X86info (x86info_lines print file) key ⊎ IsGiven file any_bits supplied key
+  HasBoth key = HasLine X86info (x86info_lines print file) key ⊎ IsGiven supplied file key
 
   base_by : (n : ℕ) → n < length file.pairs → HasBoth (Some (PhysBase n))
   base_by n within = elim (cases_lt n 8) [
     | inl low ↦ inl (in_first (has_fixed file) refl (Some (PhysBase n)) (inr (map_among Some (read_pairs file) (PhysBase n) (subst (λ k. IsAmong (PhysBase k) (read_pairs file)) (zero_plus n) (bases_among 0 (read_count file) n (omega (arith, low, within)))))))
-    | inr high ↦ inr (given (Some (PhysBase n)) within (suits.bases n high within))
+    | inr high ↦ inr (suits.bases n high within)
   ]
     where
       zero_plus : (k : ℕ) → 0 + k ≡ k
@@ -294,7 +291,7 @@ module _ (print : Print) (file : RegisterFile) (supplied : Supplied) (suits : Su
   mask_by : (n : ℕ) → n < length file.pairs → HasBoth (Some (PhysMask n))
   mask_by n within = elim (cases_lt n 8) [
     | inl low ↦ inl (in_first (has_fixed file) refl (Some (PhysMask n)) (inr (map_among Some (read_pairs file) (PhysMask n) (subst (λ k. IsAmong (PhysMask k) (read_pairs file)) (zero_plus n) (masks_among 0 (read_count file) n (omega (arith, low, within)))))))
-    | inr high ↦ inr (given (Some (PhysMask n)) within (suits.masks n high within))
+    | inr high ↦ inr (suits.masks n high within)
   ]
     where
       zero_plus : (k : ℕ) → 0 + k ≡ k
@@ -316,7 +313,7 @@ module _ (print : Print) (file : RegisterFile) (supplied : Supplied) (suits : Su
 
   fixed_first : has_fixed file ≡ true → HasBoth (Some (FixedRange 0))
   fixed_first has = elim (cases_lt (length file.pairs) 7) [
-    | inl few ↦ inr (given (Some (FixedRange 0)) (lit< tt, has) (suits.fixed_00000 has few))
+    | inl few ↦ inr (suits.fixed_00000 has few)
     | inr many ↦
         let one = map_long Some (unread_pairs file) in
         let two = pairs_long (read_count file) (8 - read_count file) in
@@ -328,19 +325,19 @@ module _ (print : Print) (file : RegisterFile) (supplied : Supplied) (suits : Su
   fixed_by (suc place) few has = by (suc place == 3) refl
     where
       by : (third : Bool) → (suc place == 3) ≡ third → HasBoth (Some (FixedRange (suc place)))
-      by true is = let same : 3 ≡ suc place = sym (eqb-true (suc place) 3 is) in subst (λ k. HasBoth (Some (FixedRange k))) same (inr (given (Some (FixedRange 3)) (lit< tt, has) (suits.fixed_c0000 has)))
+      by true is = let same : 3 ≡ suc place = sym (eqb-true (suc place) 3 is) in subst (λ k. HasBoth (Some (FixedRange k))) same (inr (suits.fixed_c0000 has))
       by false apart = inl (in_last true has (Some (FixedRange (suc place))) (in_later (suc place) few (λ e. omega (arith, e)) (eqb-false (suc place) 3 apart)))
 
   default_by : (fixed : Bool) → has_fixed file ≡ fixed → HasBoth (Some DefaultType)
   default_by true has = inl (in_last true has (Some DefaultType) (inr (inr (inr (inr (inr (inr (inr (inr (inr (inl refl)))))))))))
-  default_by false none = inr (given (Some DefaultType) tt (suits.default_type none))
+  default_by false none = inr (suits.default_type none)
 
   each_key : (key : Key) → IsInFile file key → HasBoth key
   each_key None within = inl (in_first (has_fixed file) refl None (inl refl))
   each_key (Some (PhysBase n)) within = base_by n within
   each_key (Some (PhysMask n)) within = mask_by n within
   each_key (Some (FixedRange place)) within = fixed_by place within.0 within.1
-  each_key (Some Pat) within = inr (given (Some Pat) tt suits.pat)
+  each_key (Some Pat) within = inr suits.pat
   each_key (Some DefaultType) within = default_by (has_fixed file) refl
 
   -- ---- the line on sizes
@@ -351,10 +348,10 @@ module _ (print : Print) (file : RegisterFile) (supplied : Supplied) (suits : Su
   few_bits : (virtual : ℕ) → print.virtual ≡ Some virtual → virtual < 65
   few_bits virtual is = let few = suits.few_virtual virtual is in omega (arith, few)
 
-  size_true : (line : List ℕ) (virtual : Option ℕ) → print.virtual ≡ virtual → IsAmong line (size_lines file virtual) → (number : ℕ) → IsTrueSaid file any_bits (said_of X86info number line)
+  size_true : (line : List ℕ) (virtual : Option ℕ) → print.virtual ≡ virtual → IsAmong line (size_lines file virtual) → (number : ℕ) → IsTrueSaid file any_bits 0 (said_of X86info number line)
   size_true line None is among number = absurd among
   size_true line (Some virtual) is (inl same) number =
-      subst (λ l. IsTrueSaid file any_bits (said_of X86info number l)) same (rw (size_said file.width virtual wide (few_bits virtual is) number) refl)
+      subst (λ l. IsTrueSaid file any_bits 0 (said_of X86info number l)) same (rw (size_said file.width virtual wide (few_bits virtual is) number) refl)
   size_true line (Some virtual) is (inr none) number = absurd none
 
   sizes_plain : (virtual : Option ℕ) → print.virtual ≡ virtual → AllByRecursion (λ line. list_all is_plain line ≡ true) (size_lines file virtual)
@@ -372,8 +369,8 @@ module _ (print : Print) (file : RegisterFile) (supplied : Supplied) (suits : Su
 
   -- ---- all lines
 
-  table_true : (line : List ℕ) → IsAmong line (x86info_lines print file) → (number : ℕ) → IsTrueSaid file any_bits (said_of X86info number line)
-  table_true line (inl same) number = subst (λ l. IsTrueSaid file any_bits (said_of X86info number l)) same tt
+  table_true : (line : List ℕ) → IsAmong line (x86info_lines print file) → (number : ℕ) → IsTrueSaid file any_bits 0 (said_of X86info number line)
+  table_true line (inl same) number = subst (λ l. IsTrueSaid file any_bits 0 (said_of X86info number l)) same tt
   table_true line (inr later) number = elim (among_join (lines (has_fixed file)) (size_lines file print.virtual) line later) [
     | inl register ↦ registers_true (has_fixed file) refl line register number
     | inr size ↦ size_true line print.virtual refl size number
@@ -387,5 +384,5 @@ module _ (print : Print) (file : RegisterFile) (supplied : Supplied) (suits : Su
 
   pub reads : TableReadsBack X86info (x86info_lines print file) supplied file
   reads =
-      table_back file any_bits X86info (x86info_lines print file) supplied suits.is_file suits.has_words suits.agrees (width print.virtual refl)
+      table_back file X86info (x86info_lines print file) supplied suits.is_file suits.has_words suits.agrees (width print.virtual refl)
       (record { each = table_true; all = each_key }) table_plain

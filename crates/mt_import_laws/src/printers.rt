@@ -22,7 +22,7 @@ pub fn what_rdmsr_prints_reads_back()
 {}
 
 /// What inteltool prints of a register file reads back as the file, if words supply its width. So does any log that has each of
-/// these lines, and besides them only lines that say no more of a dump than its width.
+/// these lines, and besides them only lines that say no more of a dump than the file.
 pub fn what_inteltool_prints_reads_back()
     ensures { (names : Names) (file : RegisterFile) (supplied : Supplied) → SuitsInteltool names file supplied
         → TableReadsBack Inteltool (inteltool_lines names file) supplied file }
@@ -30,21 +30,21 @@ pub fn what_inteltool_prints_reads_back()
 
 /// What x86info prints of a register file reads back as the file, if words supply what it doesn't print, and what stands behind
 /// the names of more than two registers that it couldn't read. So does any log that has each of these lines, and besides them
-/// only lines that say no more of a dump than its width.
+/// only lines that say no more of a dump than the file.
 pub fn what_x86info_prints_reads_back()
     ensures { (print : Print) (file : RegisterFile) (supplied : Supplied) → SuitsX86info print file supplied
         → TableReadsBack X86info (x86info_lines print file) supplied file }
 {}
 
 /// What coreboot displays of a register file reads back as the file, if words supply its width and its PAT. So does any log that has
-/// each of these lines, and besides them only lines that say no more of a dump than its width.
+/// each of these lines, and besides them only lines that say no more of a dump than the file.
 pub fn what_coreboot_displays_reads_back()
     ensures { (leveled : Bool) (tails : Tails) (file : RegisterFile) (supplied : Supplied) → SuitsCoreboot tails file supplied
         → TableReadsBack Coreboot (coreboot_lines leveled tails file) supplied file }
 {}
 
 /// What EDK2 prints of a register file reads back as the file, if words supply the width, 0FEH, the PAT and the pairs without a line.
-/// So does any log that has each of these lines, and besides them only lines that say no more of a dump than its width.
+/// So does any log that has each of these lines, and besides them only lines that say no more of a dump than the file.
 pub fn what_edk2_prints_reads_back()
     ensures { (file : RegisterFile) (supplied : Supplied) → SuitsEdk2 file supplied → TableReadsBack Edk2 (edk2_lines file) supplied file }
 {}
@@ -52,7 +52,7 @@ pub fn what_edk2_prints_reads_back()
 /// What Xen prints of a register file reads back as the file, if words supply the width, 0FEH, the PAT and what the table doesn't show:
 /// the registers of pairs that are off and not 0, and IA32_MTRR_DEF_TYPE without FIX. Types without a name and reserved bits aren't shown.
 /// So it does by `auto`, and so does any log that has these lines in their order, and between them only lines that say no more of a
-/// dump than its width.
+/// dump than the file.
 pub fn what_xen_prints_reads_back()
     ensures { (file : RegisterFile) (supplied : Supplied) → SuitsXen file supplied → TableReadsInOrder Xen (xen_lines file) supplied file }
 {}
@@ -75,9 +75,13 @@ pub fn worked_formats()
     ensures other { LinesTellFirst Linux 1 (xen_lines ordinary_pc) → ⊥ }
 {}
 
-/// Lines that say no more of an ordinary PC's dump: another register, the width, and a kernel's warning.
+/// Lines that say no more of an ordinary PC's dump: another register, a register of its own, a line of `/proc/mtrr`, that lines of
+/// processor 0 follow, the width, and a kernel's warning.
 pub fn worked_others()
     ensures register { TellsNoMore Inteltool ordinary_pc (codes " MSR 0x0000001B = 0x00000000:0xFEE00900 (IA32_APIC_BASE)") }
+    ensures own { TellsNoMore Inteltool ordinary_pc (codes " MSR 0x00000200 = 0x00000000:0x00000006 (IA32_MTRR_PHYSBASE0)") }
+    ensures pair { TellsNoMore Linux ordinary_pc (codes "reg00: base=0x000000000 (    0MB), size= 4096MB, count=1: write-back") }
+    ensures turn { TellsNoMore Inteltool ordinary_pc (codes "======================= UNIQUE MSRs  (core 0) =======================") }
     ensures width { TellsNoMore Linux ordinary_pc (codes "Address sizes: 36 bits physical, 48 bits virtual") }
     ensures warning { TellsNoMore Xen ordinary_pc (codes "(XEN) mtrr: your CPUs had inconsistent variable MTRR settings") }
     ensures nothing { TellsNoMore Linux ordinary_pc (codes "[    0.000000] BIOS-provided physical RAM map:") }
