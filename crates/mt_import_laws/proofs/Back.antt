@@ -4,7 +4,6 @@ use Rattle.std.specs.Prelude.{◌⊎◌, if◌then◌else◌, unwrap_or}
 use Rattle.std.specs.List.{AllByRecursion}
 use Rattle.std.proofs.lemmas.Bool.{eqb-true}
 use Rattle.std.proofs.lemmas.List.{ext_get_or, get_or-map, take_all}
-use Rattle.mt_kinds.specs.Bits.{is_bit_set}
 use Rattle.mt_regs.specs.declared.registers.Register.{Register}
 use Rattle.mt_regs.specs.declared.registers.Register.TheVariants.{PhysBase, PhysMask, FixedRange, Pat, DefaultType}
 use Rattle.mt_regs.specs.RegisterFile.{IsRegisterFile, RegisterFile, has_fixed, low_byte, pair_at}
@@ -21,7 +20,7 @@ use Rattle.mt_import.specs.Outcome.{Seen, Slots, dump_told, ended, file_of, file
 use Rattle.mt_import.proofs.Same.{value_is}
 use Rattle.mt_import_laws.specs.Origins.{IsAmong}
 use Rattle.mt_import_laws.specs.Printed.{ReadsAs}
-use Rattle.mt_import_laws.proofs.Keys.{all_within}
+use Rattle.mt_import_laws.proofs.Keys.{all_within, within_alike}
 use Rattle.mt_import_laws.proofs.Whole.{AreAlike, Holds, IsKnown, IsSound, IsWidth, Prints, whole_slot}
 
 -- ---- the file
@@ -87,20 +86,9 @@ module _ (values : ℕ → ℕ → Option ℕ) (files : ℕ → RegisterFile) (c
   files_back (suc n) within =
       ap (λ fs. fs ++ file_of (values n) (files 0).width (files 0).capabilities ∷ []) (files_back n (omega (arith, within))) ∙ ap (λ f. first_files files n ++ f ∷ []) (one_back n (omega (arith, within)))
 
-  more : (k : ℕ) → k < count → (n : ℕ) → n < length (files 0).pairs → n < length (files k).pairs
-  more k less n within =
-      let own = (alike.is_file k less).all_pairs in
-      let first = (alike.is_file 0 alike.some).all_pairs in
-      let same : low_byte (files k).capabilities ≡ low_byte (files 0).capabilities = ap low_byte (alike.capabilities k less) in
-      omega (arith, within, own, first, same)
-
   -- a register of the first file is one of each
   in_each : (k : ℕ) → k < count → (register : Register) → IsWithin (files 0) register → IsWithin (files k) register
-  in_each k less (PhysBase n) within = more k less n within
-  in_each k less (PhysMask n) within = more k less n within
-  in_each k less (FixedRange place) within = (within.0, ap (λ c. is_bit_set c 8) (alike.capabilities k less) ∙ within.1)
-  in_each k less Pat within = tt
-  in_each k less DefaultType within = tt
+  in_each k less register within = within_alike (files 0) (files k) register (alike.is_file 0 alike.some) (alike.is_file k less) (alike.capabilities k less) within
 
   -- ---- nothing is missing
 

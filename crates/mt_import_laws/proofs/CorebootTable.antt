@@ -18,7 +18,6 @@ use Rattle.mt_import_laws.proofs.CorebootLines.{IsNamed, is_displayed, line_plai
 use Rattle.mt_import_laws.proofs.KeyLines.{ShowsAlone, has_line, lines_true}
 use Rattle.mt_import_laws.proofs.Keys.{IsKey, all_within}
 use Rattle.mt_import_laws.proofs.PrintedBack.{HasLine, IsGiven, IsInFile, fits, key_in_file, table_back}
-use Rattle.mt_import_laws.proofs.Whole.{any_bits}
 
 shown_fixed : (register : Register) → is_fixed register ≡ true → is_displayed (Some register) ≡ true
 shown_fixed (PhysBase n) is = refl
@@ -78,7 +77,7 @@ module _ (leveled : Bool) (tails : Tails) (file : RegisterFile) (supplied : Supp
   all_fit : (key : Key) → IsAmong key (displayed file) → value_in file key < 2 ^ 64
   all_fit key among = fits file key suits.is_file suits.has_words (of_key key among).0
 
-  shows : (key : Key) → IsAmong key (displayed file) → ShowsAlone file Coreboot key (line_of leveled tails file key)
+  shows : (key : Key) → IsAmong key (displayed file) → ShowsAlone 0 file Coreboot key (line_of leveled tails file key)
   shows key among =
       let of = of_key key among in
       let name : IsNamed key (name_of file key) = named file key (are_keys key among) of.1 in
@@ -91,7 +90,7 @@ module _ (leveled : Bool) (tails : Tails) (file : RegisterFile) (supplied : Supp
       }
 
   line_at : (key : Key) → IsAmong key (displayed file) → HasLine Coreboot (coreboot_lines leveled tails file) key
-  line_at = has_line file Coreboot (line_of leveled tails file) (displayed file) are_keys all_fit shows
+  line_at = has_line 0 file Coreboot (line_of leveled tails file) (displayed file) are_keys all_fit shows
 
   each_key : (key : Key) → IsInFile file key → HasLine Coreboot (coreboot_lines leveled tails file) key ⊎ IsGiven supplied file key
   each_key None within = inl (line_at None (inl refl))
@@ -112,6 +111,6 @@ module _ (leveled : Bool) (tails : Tails) (file : RegisterFile) (supplied : Supp
   reads =
       table_back file Coreboot (coreboot_lines leveled tails file) supplied suits.is_file suits.has_words suits.agrees (inl suits.width)
       (record {
-        each = lines_true file Coreboot (line_of leveled tails file) (displayed file) are_keys all_fit shows;
+        each = lines_true 0 file Coreboot (line_of leveled tails file) (displayed file) are_keys all_fit shows;
         all = each_key;
       }) table_plain

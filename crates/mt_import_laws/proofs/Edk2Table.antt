@@ -129,7 +129,7 @@ module _ (file : RegisterFile) (supplied : Supplied) (suits : SuitsEdk2 file sup
   record OwnLine (key : Key) : Type 0 where
     is_key : IsKey key
     fit : value_in file key < 2 ^ 64
-    shows : ShowsAlone file Edk2 key (own_line file key)
+    shows : ShowsAlone 0 file Edk2 key (own_line file key)
     plain : list_all is_plain (own_line file key) ≡ true
 
   default_own : OwnLine (Some DefaultType)
@@ -231,7 +231,7 @@ module _ (file : RegisterFile) (supplied : Supplied) (suits : SuitsEdk2 file sup
 
   own_has : (key : Key) → IsAmong key keys → HasLine Edk2 (edk2_lines file) key
   own_has key among =
-      let has = has_line file Edk2 (own_line file) keys (λ k at. (own k at).is_key) (λ k at. (own k at).fit) (λ k at. (own k at).shows) key among in
+      let has = has_line 0 file Edk2 (own_line file) keys (λ k at. (own k at).is_key) (λ k at. (own k at).fit) (λ k at. (own k at).shows) key among in
       record { line = has.line; among = inr (inr (join_among_first (map (own_line file) keys) (or_none (pair_lines file)) has.line has.among)); shows = has.shows }
 
   base_by : (n : ℕ) → n < length file.pairs → (test : Bool) → is_valid (pair_at file.pairs n) ≡ test → HasLine Edk2 (edk2_lines file) (Some (PhysBase n)) ⊎ IsGiven supplied file (Some (PhysBase n))
@@ -252,7 +252,7 @@ module _ (file : RegisterFile) (supplied : Supplied) (suits : SuitsEdk2 file sup
 
   parts_true : (line : List ℕ) → IsAmong line (map (own_line file) keys ++ or_none (pair_lines file)) → (number : ℕ) → IsTrueSaid file any_bits 0 (said_of Edk2 number line)
   parts_true line among number = elim (among_join (map (own_line file) keys) (or_none (pair_lines file)) line among) [
-    | inl first ↦ lines_true file Edk2 (own_line file) keys (λ k at. (own k at).is_key) (λ k at. (own k at).fit) (λ k at. (own k at).shows) line first number
+    | inl first ↦ lines_true 0 file Edk2 (own_line file) keys (λ k at. (own k at).is_key) (λ k at. (own k at).fit) (λ k at. (own k at).shows) line first number
     | inr second ↦ by (none_or (pair_lines file) line second)
   ]
     where

@@ -27,7 +27,7 @@ module _ (names : Names) (file : RegisterFile) (supplied : Supplied) (suits : Su
   all_fit : (key : Key) → IsAmong key (all_keys file) → value_in file key < 2 ^ 64
   all_fit key among = fits file key suits.is_file suits.has_words (within key among)
 
-  shows : (key : Key) → IsAmong key (all_keys file) → ShowsAlone file Inteltool key (line_of names file key)
+  shows : (key : Key) → IsAmong key (all_keys file) → ShowsAlone 0 file Inteltool key (line_of names file key)
   shows key among =
       let named = suits.are_names key in
       record {
@@ -40,11 +40,11 @@ module _ (names : Names) (file : RegisterFile) (supplied : Supplied) (suits : Su
   table_true : (line : List ℕ) → IsAmong line (inteltool_lines names file) → (number : ℕ) → IsTrueSaid file any_bits 0 (said_of Inteltool number line)
   table_true line (inl same) number = subst (λ l. IsTrueSaid file any_bits 0 (said_of Inteltool number l)) same refl
   table_true line (inr (inl same)) number = subst (λ l. IsTrueSaid file any_bits 0 (said_of Inteltool number l)) same refl
-  table_true line (inr (inr later)) number = lines_true file Inteltool (line_of names file) (all_keys file) are_keys all_fit shows line later number
+  table_true line (inr (inr later)) number = lines_true 0 file Inteltool (line_of names file) (all_keys file) are_keys all_fit shows line later number
 
   table_has : (key : Key) → IsInFile file key → HasLine Inteltool (inteltool_lines names file) key
   table_has key inside =
-      let has = has_line file Inteltool (line_of names file) (all_keys file) are_keys all_fit shows key (among_all file key suits.is_file inside) in
+      let has = has_line 0 file Inteltool (line_of names file) (all_keys file) are_keys all_fit shows key (among_all file key suits.is_file inside) in
       record { line = has.line; among = inr (inr has.among); shows = has.shows }
 
   table_plain : AllByRecursion (λ line. list_all is_plain line ≡ true) (inteltool_lines names file)

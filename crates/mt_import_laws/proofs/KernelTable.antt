@@ -5,7 +5,6 @@ use Rattle.std.specs.Int.{bit_at}
 use Rattle.std.specs.List.{AllByRecursion, list_all}
 use Rattle.std.proofs.lemmas.Bool.{and_parts, eqb-true}
 use Rattle.std.proofs.lemmas.Bool.Decides.{nat_tests}
-use lib.Bits.{and_zero_r}
 use Rattle.mt_text.specs.declared.place.Place.{Place}
 use Rattle.mt_text.proofs.Plain.{is_plain}
 use Rattle.mt_regs.specs.declared.registers.Register.TheVariants.{PhysBase, PhysMask, FixedRange, Pat, DefaultType}
@@ -36,16 +35,17 @@ use Rattle.mt_import_laws.specs.PrintedByKernel.{Style, SuitsKernel, default_lin
 use Rattle.mt_import_laws.specs.PrintedByLinux.{Log, SuitsLinux, calls_enabled, linux_lines, linux_style}
 use Rattle.mt_import_laws.specs.PrintedByXen.{SuitsXen, xen_lines, xen_style}
 use Rattle.mt_import_laws.proofs.Among.{all_map, among_map, join_among_first, join_among_second, map_among}
-use Rattle.mt_import_laws.proofs.AutoReads.{text_back}
+use Rattle.mt_import_laws.proofs.AutoReads.{text_as}
+use Rattle.mt_dump.specs.Dumps.{dump_of}
 use Rattle.mt_import_laws.proofs.Below.{passes}
 use Rattle.mt_import_laws.proofs.KernelLines.{IsKernel, linux, xen, base_place, default_place, default_plain, default_said, default_told, fixed_line_said, fixed_place, fixed_plain, mask_place, off_line_said, off_place, off_plain, pair_line_said, pair_plain, run_line_said, run_place, run_plain, variable_line_said, variable_place, variable_plain}
 use Rattle.mt_import_laws.proofs.KernelParts.{bit_clear, bit_set, bit_shown, both_flags, default_part, flag_part, kernel_bits, run_true, tells_default}
-use Rattle.mt_import_laws.proofs.KernelWeave.{IsGood, IsWithin, Leads, ShowsTrue, Split, by_line, by_next, by_shows, ends_good, facts_split, front_sound, front_within, good_join, keeps, line_good, shows_good, split, weaves_among, weaves_itself}
+use Rattle.mt_import_laws.proofs.KernelWeave.{IsGood, IsWithin, Leads, ShowsTrue, Split, by_line, by_next, by_shows, ends_good, front_sound, front_within, good_join, keeps, line_good, shows_good, split, weaves_among, weaves_itself}
 use Rattle.mt_import_laws.proofs.KernelRanges.{IsRun, are_runs, marks, runs_cover}
 use Rattle.mt_import_laws.proofs.Keys.{IsKey, is_register_key}
 use Rattle.mt_import_laws.proofs.PartsBack.{IsRecent, held_bits, off_value, parts_whole, recent_gathers}
 use Rattle.mt_import_laws.proofs.PrintedBack.{IsBack, IsGiven, IsInFile, fits, gathered, gathered_seen, key_in_file, lines_back, one_back, one_by_fact, one_by_slot}
-use Rattle.mt_import_laws.proofs.TableLines.{HasReading, IsTrueShown, ShowsKey, all_join, gathers, lines_have, tells_whole}
+use Rattle.mt_import_laws.proofs.TableLines.{HasReading, IsTrueShown, ShowsKey, all_join, facts_split, gathers, lines_have, tells_whole}
 use Rattle.mt_import_laws.proofs.Whole.{IsPart, IsSound, alone as alone_file, known, same_file}
 
 or_second : (a b : Bool) → b ≡ true → (a || b) ≡ true
@@ -701,7 +701,7 @@ module _ (format : Format) (alone : Bool) (style : Style) (kernel : IsKernel for
   reads = record {
     alone =
         let same : shown (Some format) (ended all_lines) ≡ facts_from (starts (Some format)) 1 all_lines = ap (facts_from (starts (Some format)) 1) (lines_back all_lines table_plain) in
-        text_back format supplied file all_lines table_plain first_told
+        text_as format supplied (dump_of file) all_lines table_plain first_told
         (subst (λ fs. ReadsBack (outcome false supplied (nothing_seen (Some format)) fs) file) (sym same) (log_back all_lines (split format file (default_line style file) (rest (has_fixed file)) all_lines (weaves_itself format file all_lines))));
     among = λ text weaves. log_back (lines_of text) (split format file (default_line style file) (rest (has_fixed file)) (lines_of text) weaves);
   }

@@ -1,5 +1,5 @@
 -- Lines of a kernel's table in their order, among lines that say no more of a dump than the file.
-use Rattle.std.proofs.Common.{◌≡◌, ◌∙◌, ◌+◌, ◌==◌, ℕ, Bool, true, false, List, [], ◌∷◌, ◌++◌, length, Option, Some, None, refl, sym, ap, subst, inl, inr, unwrap_or, arith, lit<, append_assoc}
+use Rattle.std.proofs.Common.{◌≡◌, ◌∙◌, ◌+◌, ◌==◌, ℕ, Bool, true, false, List, [], ◌∷◌, ◌++◌, Option, Some, None, refl, sym, ap, subst, inl, inr, unwrap_or, lit<}
 use Rattle.std.specs.Prelude.{◌||◌, if◌then◌else◌}
 use Rattle.std.specs.List.{AllByRecursion}
 use Rattle.mt_regs.specs.declared.registers.Register.TheVariants.{PhysBase, PhysMask, FixedRange, Pat, DefaultType}
@@ -16,10 +16,11 @@ use Rattle.mt_import_laws.specs.Origins.{IsAmong, context_after_lines}
 use Rattle.mt_import_laws.specs.Printed.{IsSame, Key, SaysNoMore, TellsNoMore, Weaves, is_kernel, no_match, number_at, only_shows, only_turns, only_warns, only_width}
 use Rattle.mt_import_laws.specs.PrintedByEdk2.{is_valid}
 use Rattle.mt_import_laws.proofs.Among.{each_among}
+use Rattle.mt_import_laws.proofs.Bits.{same_number}
 use Rattle.mt_import_laws.proofs.KernelParts.{kernel_bits}
 use Rattle.mt_import_laws.proofs.PartsBack.{IsOfTable}
 use Rattle.mt_import_laws.proofs.TableLines.{IsTrueShown, all_join, lines_true, no_more_true, of_line, said_true, shows_true}
-use Rattle.mt_import_laws.proofs.Whole.{IsSound, same_file, same_number}
+use Rattle.mt_import_laws.proofs.Whole.{IsSound, same_file}
 
 -- ---- each line of the table is one of the log, and each line of the log one of the table or no more
 pub weaves_among : (format : Format) (file : RegisterFile) (table log : List (List ℕ)) (line : List ℕ) → Weaves format file table log → IsAmong line table → IsAmong line log
@@ -48,17 +49,6 @@ split format file heading rest (other ∷ log) (inl weaves) = record { front = [
 split format file heading rest (other ∷ log) (inr weaves) =
     let later = split format file heading rest log weaves.1 in
     record { front = other ∷ later.front; behind = later.behind; log_is = ap (λ ls. other ∷ ls) later.log_is; others = (weaves.0, later.others); weaves = later.weaves }
-
--- what lines come to, and those behind them
-pub facts_split : (front : List (List ℕ)) (context : Context) (number : ℕ) (behind : List (List ℕ))
-    → facts_from context number (front ++ behind) ≡ facts_from context number front ++ facts_from (context_after_lines context number front) (number + length front) behind
-facts_split [] context number behind = ap (λ n. facts_from context n behind) (omega arith)
-facts_split (line ∷ front) context number behind =
-    let next : Context = context_behind context number line in
-    let shift : number + 1 + length front ≡ number + length (line ∷ front) = omega arith in
-    ap (λ (fs : List Fact). facts_of_line context number line ++ fs)
-    (facts_split front next (number + 1) behind ∙ ap (λ n. facts_from next (number + 1) front ++ facts_from (context_after_lines next (number + 1) front) n behind) shift)
-    ∙ sym (append_assoc (facts_of_line context number line) (facts_from next (number + 1) front) (facts_from (context_after_lines next (number + 1) front) (number + length (line ∷ front)) behind))
 
 -- ---- facts of one table that tell of a file
 

@@ -40,20 +40,20 @@ among_all file (Some register) is within =
 
 -- ---- their lines
 
--- A line shows all of a register, and nothing else.
-pub record ShowsAlone (file : RegisterFile) (format : Format) (key : Key) (line : List ℕ) : Type 0 where
+-- A line shows all of a register of this processor, and nothing else.
+pub record ShowsAlone (at : ℕ) (file : RegisterFile) (format : Format) (key : Key) (line : List ℕ) : Type 0 where
   pub processor : Option ℕ
-  pub own : unwrap_or processor 0 ≡ 0
+  pub own : unwrap_or processor at ≡ at
   pub place : ℕ → Place
   pub said : (number : ℕ) → said_of format number line ≡ Shows processor (Some (record { number = number_at key; bits = all_bits; value = value_in file key; place = place number }) ∷ replicate 10 None)
 
 -- such a line tells of the file
-pub alone_true : (file : RegisterFile) (format : Format) (key : Key) (line : List ℕ) (number : ℕ) → IsKey key → value_in file key < 2 ^ 64 → ShowsAlone file format key line → IsTrueSaid file any_bits 0 (said_of format number line)
-alone_true file format key line number is fits shows =
+pub alone_true : (at : ℕ) (file : RegisterFile) (format : Format) (key : Key) (line : List ℕ) (number : ℕ) → IsKey key → value_in file key < 2 ^ 64 → ShowsAlone at file format key line → IsTrueSaid file any_bits at (said_of format number line)
+alone_true at file format key line number is fits shows =
     rw (shows.said number) (shows.own, (inl (tells_whole file any_bits key (shows.place number) is refl fits), (tt, (tt, (tt, (tt, (tt, (tt, (tt, (tt, (tt, (tt, tt))))))))))))
 
-pub alone_shows : (file : RegisterFile) (format : Format) (key : Key) (line : List ℕ) (number : ℕ) → ShowsAlone file format key line → ShowsKey key all_bits (said_of format number line)
-alone_shows file format key line number shows = record {
+pub alone_shows : (at : ℕ) (file : RegisterFile) (format : Format) (key : Key) (line : List ℕ) (number : ℕ) → ShowsAlone at file format key line → ShowsKey key all_bits (said_of format number line)
+alone_shows at file format key line number shows = record {
   processor = shows.processor;
   shows = Some (record { number = number_at key; bits = all_bits; value = value_in file key; place = shows.place number }) ∷ replicate 10 None;
   shown = record { number = number_at key; bits = all_bits; value = value_in file key; place = shows.place number };
@@ -63,17 +63,17 @@ alone_shows file format key line number shows = record {
   bits = refl;
 }
 
-module _ (file : RegisterFile) (format : Format) (line_of : Key → List ℕ) (keys : List Key)
+module _ (at : ℕ) (file : RegisterFile) (format : Format) (line_of : Key → List ℕ) (keys : List Key)
     (are_keys : (key : Key) → IsAmong key keys → IsKey key) (fit : (key : Key) → IsAmong key keys → value_in file key < 2 ^ 64)
-    (shows : (key : Key) → IsAmong key keys → ShowsAlone file format key (line_of key)) where
-  pub lines_true : (line : List ℕ) → IsAmong line (map line_of keys) → (number : ℕ) → IsTrueSaid file any_bits 0 (said_of format number line)
+    (shows : (key : Key) → IsAmong key keys → ShowsAlone at file format key (line_of key)) where
+  pub lines_true : (line : List ℕ) → IsAmong line (map line_of keys) → (number : ℕ) → IsTrueSaid file any_bits at (said_of format number line)
   lines_true line among number =
       let found = among_map line_of keys line among in
-      rw found.2 (alone_true file format found.0 (line_of found.0) number (are_keys found.0 found.1) (fit found.0 found.1) (shows found.0 found.1))
+      rw found.2 (alone_true at file format found.0 (line_of found.0) number (are_keys found.0 found.1) (fit found.0 found.1) (shows found.0 found.1))
 
   pub has_line : (key : Key) → IsAmong key keys → HasLine format (map line_of keys) key
   has_line key among = record {
     line = line_of key;
     among = map_among line_of keys key among;
-    shows = λ number. alone_shows file format key (line_of key) number (shows key among);
+    shows = λ number. alone_shows at file format key (line_of key) number (shows key among);
   }

@@ -1,13 +1,14 @@
 -- The registers of a dump, each by its number.
-use Rattle.std.proofs.Common.{◌≡◌, ◌∙◌, ◌<◌, ◌≤◌, ◌==◌, nat_lt, ℕ, Bool, true, false, List, [], ◌∷◌, Option, Some, None, refl, sym, ap, arith, lit≤}
+use Rattle.std.proofs.Common.{◌≡◌, ◌∙◌, ◌<◌, ◌≤◌, ◌==◌, nat_lt, ℕ, Bool, true, false, List, [], ◌∷◌, length, Option, Some, None, refl, sym, ap, arith, lit≤}
 use Rattle.std.specs.Prelude.{if◌then◌else◌}
 use Rattle.std.specs.List.{AllByRecursion}
 use Rattle.std.specs.Option.{option_map}
 use Rattle.std.proofs.lemmas.Bool.{eqb-true}
 use Rattle.std.proofs.lemmas.Bool.Decides.{nat_tests}
+use Rattle.mt_kinds.specs.Bits.{is_bit_set}
 use Rattle.mt_regs.specs.declared.registers.Register.{Register}
 use Rattle.mt_regs.specs.declared.registers.Register.TheVariants.{PhysBase, PhysMask, FixedRange, Pat, DefaultType}
-use Rattle.mt_regs.specs.RegisterFile.{IsRegisterFile, RegisterFile, blank_file}
+use Rattle.mt_regs.specs.RegisterFile.{IsRegisterFile, RegisterFile, blank_file, low_byte}
 use Rattle.mt_regs.specs.Registers.{IsWithin, number_of, register_of, value_at, value_of, writable}
 use Rattle.mt_regs.proofs.ByNumber.{register_of-number, register_of-number_of, register_of-range, register_of-within, writable_found}
 use Rattle.mt_import.specs.Readings.{all_registers, is_register}
@@ -25,12 +26,27 @@ abbrev pub IsKey : Key → Type 0
 IsKey None = Unit {0}
 IsKey (Some register) = IsWithin whole_file register
 
+as_many : (file other : RegisterFile) (n : ℕ) → IsRegisterFile file → IsRegisterFile other → other.capabilities ≡ file.capabilities → n < length file.pairs → n < length other.pairs
+as_many file other n is is_too same within =
+    let first = is.all_pairs in
+    let own = is_too.all_pairs in
+    let count : low_byte other.capabilities ≡ low_byte file.capabilities = ap low_byte same in
+    omega (arith, within, first, own, count)
+
 pub within_whole : (file : RegisterFile) (register : Register) → IsRegisterFile file → IsWithin file register → IsWithin whole_file register
 within_whole file (PhysBase n) is within = let few = is.few_pairs in let all = is.all_pairs in omega (arith, within, few, all)
 within_whole file (PhysMask n) is within = let few = is.few_pairs in let all = is.all_pairs in omega (arith, within, few, all)
 within_whole file (FixedRange place) is within = (within.0, refl)
 within_whole file Pat is within = tt
 within_whole file DefaultType is within = tt
+
+-- a register of a file is one of each file with the same capability register
+pub within_alike : (file other : RegisterFile) (register : Register) → IsRegisterFile file → IsRegisterFile other → other.capabilities ≡ file.capabilities → IsWithin file register → IsWithin other register
+within_alike file other (PhysBase n) is is_too same within = as_many file other n is is_too same within
+within_alike file other (PhysMask n) is is_too same within = as_many file other n is is_too same within
+within_alike file other (FixedRange place) is is_too same within = (within.0, ap (λ c. is_bit_set c 8) same ∙ within.1)
+within_alike file other Pat is is_too same within = tt
+within_alike file other DefaultType is is_too same within = tt
 
 -- each writable register of a file is in it
 within_each : (file : RegisterFile) (registers : List Register) → IsRegisterFile file → AllByRecursion (λ register. register_of file (number_of register) ≡ Some register) registers → AllByRecursion (IsWithin file) registers

@@ -47,5 +47,9 @@ mod KernelWeave
 mod KernelTable
 mod RdmsrLines
 mod RdmsrTable
+mod Several
+mod RdmsrAll
+mod X86infoAll
 mod WorkedFiles
+mod WorkedCpus
 mod Others

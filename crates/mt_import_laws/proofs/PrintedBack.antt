@@ -1,10 +1,11 @@
 -- Facts that tell of files give the files back, and so does a table whose lines are read as registers of a file.
-use Rattle.std.proofs.Common.{◌≡◌, ◌∙◌, ◌^◌, ◌<◌, ℕ, true, false, List, [], ◌∷◌, Some, None, refl, sym, ap, subst, inl, inr, arith, lit<}
+use Rattle.std.proofs.Common.{◌≡◌, ◌∙◌, ◌^◌, ◌<◌, ℕ, Bool, true, false, not, List, [], ◌∷◌, ◌++◌, Some, None, refl, sym, ap, subst, inl, inr, arith, lit<}
 use Rattle.std.specs.Prelude.{◌⊎◌}
 use Rattle.std.specs.List.{AllByRecursion, list_all}
-use Rattle.mt_text.specs.Text.{lines_of}
+use Rattle.std.proofs.lemmas.Bool.{and_parts}
+use Rattle.mt_text.specs.Text.{is_line_end, lines_of}
 use Rattle.mt_text.specs.declared.place.Place.{Place}
-use Rattle.mt_text.proofs.Plain.{is_plain, lines_of-line}
+use Rattle.mt_text.proofs.Plain.{is_plain, no_line_end}
 use Rattle.mt_regs.specs.RegisterFile.{IsRegisterFile, RegisterFile}
 use Rattle.mt_regs.specs.Registers.{IsWithin, number_of, value_of}
 use Rattle.mt_regs.proofs.ByNumber.{value_at-number_of}
@@ -23,7 +24,7 @@ use Rattle.mt_import_laws.specs.Origins.{IsAmong}
 use Rattle.mt_import_laws.specs.Printed.{Agrees, HoldsTable, Key, ReadsAs, ReadsBack, TableReadsBack, number_at, value_in}
 use Rattle.mt_import_laws.proofs.Keys.{IsKey, within_whole}
 use Rattle.mt_import_laws.proofs.Whole.{AreAlike, IsPart, IsSeen, IsSound, Prints, alone, any_bits, held, known, no_fault, of_first, one_processor, same_file, seen_last, whole_slot}
-use Rattle.mt_import_laws.proofs.TableLines.{HasReading, IsTrueSaid, ShowsKey, gathers, lines_have, lines_show_width, lines_true, no_more_true}
+use Rattle.mt_import_laws.proofs.TableLines.{HasOwn, HasReading, IsTrueSaid, ShowsKey, gathers, lines_have, lines_show_width, lines_true, no_more_true}
 use Rattle.mt_import_laws.proofs.Back.{HasWidth, by_lines, by_word, dump_from, ended_back, width_back}
 
 -- a line of the table shows all of the register
@@ -71,11 +72,6 @@ gathered format facts = seen_after (nothing_seen (Some format)) facts
 abbrev pub IsBack : (ℕ → RegisterFile) → Format → Supplied → List Fact → ℕ → Key → Type 0
 IsBack files format supplied facts k key = values_of supplied (slot_shown (gathered format facts).readings) (known_of (gathered format facts)) k (number_at key) ≡ Some (value_in (files k) key)
 
--- a fact shows all of a processor's register
-pub record HasOwn (k : ℕ) (key : Key) (facts : List Fact) : Type 0 where
-  pub has : HasReading key all_bits facts
-  pub own : has.reading.processor ≡ k
-
 module _ (files : ℕ → RegisterFile) (count : ℕ) (prints : Prints) (format : Format) (supplied : Supplied) (alike : AreAlike files count) (words : (k : ℕ) → k < count → HasWords (files k))
     (facts : List Fact) (sound : AllByRecursion (IsSound files count prints) facts) where
   seen : Seen
@@ -106,16 +102,15 @@ module _ (files : ℕ → RegisterFile) (count : ℕ) (prints : Prints) (format 
   unfolding seen
   slot_back k less key within whole = by_slot k less key within whole
 
-  by_fact : (k : ℕ) → k < count → (key : Key) → IsInFile (files k) key → HasOwn k key facts ⊎ IsGiven supplied (files k) key → values_of supplied (slot_shown seen.readings) (known_of seen) k (number_at key) ≡ Some (value_in (files k) key)
+  by_fact : (k : ℕ) → k < count → (key : Key) → IsInFile (files k) key → HasOwn k key all_bits facts ⊎ IsGiven supplied (files k) key → values_of supplied (slot_shown seen.readings) (known_of seen) k (number_at key) ≡ Some (value_in (files k) key)
   unfolding seen
-  by_fact k less key within (inl by) =
-      let has = by.has in
+  by_fact k less key within (inl has) =
       by_slot k less key within
-      (held files count prints seen.readings k has.reading key is_seen.readings (is_key k less key within) (gathers facts (nothing_seen (Some format)) has.reading (inl has.among)) by.own has.number has.bits)
+      (held files count prints seen.readings k has.reading key is_seen.readings (is_key k less key within) (gathers facts (nothing_seen (Some format)) has.reading (inl has.among)) has.own has.number has.bits)
   by_fact k less key within (inr given) =
       by_word supplied seen k (number_at key) (value_in (files k) key) (known files count prints seen.readings k key is_seen.readings (is_key k less key within)) (fit k less key within) given
 
-  pub fact_back : (k : ℕ) → k < count → (key : Key) → IsInFile (files k) key → HasOwn k key facts ⊎ IsGiven supplied (files k) key → IsBack files format supplied facts k key
+  pub fact_back : (k : ℕ) → k < count → (key : Key) → IsInFile (files k) key → HasOwn k key all_bits facts ⊎ IsGiven supplied (files k) key → IsBack files format supplied facts k key
   unfolding seen
   fact_back k less key within by = by_fact k less key within by
 
@@ -138,8 +133,8 @@ module _ (file : RegisterFile) (prints : Prints) (format : Format) (supplied : S
   only : AllByRecursion (IsPart (same_file file) 1 prints) (gathered format facts).readings
   only = (gathered_seen (same_file file) 1 prints format supplied (alone file is) (λ k less. words) facts sound).readings
 
-  of_processor : (key : Key) → HasReading key all_bits facts → HasOwn 0 key facts
-  of_processor key has = record { has = has; own = of_first file prints (gathered format facts).readings has.reading only (gathers facts (nothing_seen (Some format)) has.reading (inl has.among)) }
+  of_processor : (key : Key) → HasReading key all_bits facts → HasOwn 0 key all_bits facts
+  of_processor key has = record { reading = has.reading; among = has.among; number = has.number; bits = has.bits; own = of_first file prints (gathered format facts).readings has.reading only (gathers facts (nothing_seen (Some format)) has.reading (inl has.among)) }
 
   pub one_by_slot : (key : Key) → IsInFile file key → (slot_shown (gathered format facts).readings 0 (number_at key)).fresh ≡ all_bits → OneBack key
   one_by_slot key within whole = slot_back (same_file file) 1 prints format supplied (alone file is) (λ k less. words) facts sound 0 (lit< tt) key within whole
@@ -191,9 +186,36 @@ module _ (file : RegisterFile) (format : Format) (table : List (List ℕ)) (supp
 
 -- ---- the table alone
 
+-- no byte of a line ends it
+abbrev pub IsOneLine : List ℕ → Type 0
+IsOneLine line = list_all (λ byte. not (is_line_end byte)) line ≡ true
+
+ended_line : (line rest : List ℕ) → IsOneLine line → lines_of (line ++ 10 ∷ rest) ≡ line ∷ lines_of rest
+ended_line [] rest one = refl
+ended_line (byte ∷ bytes) rest one =
+    let parts = and_parts (not (is_line_end byte)) (list_all (λ other. not (is_line_end other)) bytes) one in
+    rw (not_true (is_line_end byte) parts.0, ended_line bytes rest parts.1) refl
+  where
+    not_true : (test : Bool) → not test ≡ true → test ≡ false
+    not_true true is = cc is
+    not_true false is = refl
+
+pub one_lines_back : (lines : List (List ℕ)) → AllByRecursion IsOneLine lines → lines_of (ended lines) ≡ lines
+one_lines_back [] ones = refl
+one_lines_back (line ∷ lines) ones = ended_line line (ended lines) ones.0 ∙ ap (λ ls. line ∷ ls) (one_lines_back lines ones.1)
+
+one_line : (line : List ℕ) → list_all is_plain line ≡ true → IsOneLine line
+one_line [] plain = refl
+one_line (byte ∷ bytes) plain =
+    let parts = and_parts (is_plain byte) (list_all is_plain bytes) plain in
+    rw (no_line_end byte parts.0) (one_line bytes parts.1)
+
+pub one_lines : (lines : List (List ℕ)) → AllByRecursion (λ line. list_all is_plain line ≡ true) lines → AllByRecursion IsOneLine lines
+one_lines [] plain = tt
+one_lines (line ∷ lines) plain = (one_line line plain.0, one_lines lines plain.1)
+
 pub lines_back : (lines : List (List ℕ)) → AllByRecursion (λ line. list_all is_plain line ≡ true) lines → lines_of (ended lines) ≡ lines
-lines_back [] plain = refl
-lines_back (line ∷ lines) plain = lines_of-line line (ended lines) plain.0 ∙ ap (λ ls. line ∷ ls) (lines_back lines plain.1)
+lines_back lines plain = one_lines_back lines (one_lines lines plain)
 
 holds_itself : (format : Format) (file : RegisterFile) (table : List (List ℕ)) → AllByRecursion (λ line. list_all is_plain line ≡ true) table → HoldsTable format file table (ended table)
 holds_itself format file table plain =

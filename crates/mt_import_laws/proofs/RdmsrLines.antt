@@ -1,5 +1,5 @@
 -- What a call of rdmsr and its value are read as.
-use Rattle.std.proofs.Common.{◌≡◌, ◌∙◌, ◌^◌, ◌<◌, ◌≤◌, nat_eq, nat_lt, ℕ, true, false, List, [], ◌∷◌, ◌++◌, length, Some, refl, sym, ap, arith, lit≤, append-nil, codes}
+use Rattle.std.proofs.Common.{◌≡◌, ◌∙◌, ◌^◌, ◌<◌, ◌≤◌, nat_eq, nat_lt, ℕ, true, false, List, [], ◌∷◌, ◌++◌, length, None, Some, refl, sym, ap, arith, lit≤, append-nil, codes}
 use Rattle.std.specs.List.{list_all}
 use Rattle.std.proofs.lemmas.Bool.{and_parts}
 use Rattle.std.proofs.lemmas.Bool.Decides.{nat_tests}
@@ -12,7 +12,7 @@ use Rattle.mt_import.specs.declared.format.Format.TheVariants.{Rdmsr}
 use Rattle.mt_import.specs.declared.reading.Said.TheVariants.{Announces, Value}
 use Rattle.mt_import.specs.Rdmsr.{announced, is_traced, rdmsr_said, register_named, said_by_words, said_value}
 use Rattle.mt_import.specs.Shown.{said_of, said_or_sizes}
-use Rattle.mt_import_laws.specs.PrintedByRdmsr.{call_line, hex_text}
+use Rattle.mt_import_laws.specs.PrintedByRdmsr.{all_line, call_line, hex_text}
 use Rattle.mt_import_laws.proofs.HexDigits.{hex_alone, hex_digits, hex_prefixed, hex_short, hex_some}
 use Rattle.mt_import_laws.proofs.LineWords.{AreWords, IsWord, digits_are_word, length_of_pieces, line_with, pieces_plain, placed, word_append, words_of_pieces}
 
@@ -59,6 +59,34 @@ module _ (register : ℕ) (small : register < 0x1000) where
       let words : words_of (call_line register) ≡ placed 0 ((0, codes "+") ∷ others) [] = ap words_of call_is ∙ words_of_pieces (0, codes "+") others [] call_words refl refl refl in
       let said : rdmsr_said number (call_line register) ≡ Announces (Some 0) register = ap (said_by_words number) words ∙ ap (announced (Some 0)) register_read in
       rw call_short (ap (λ s. said_or_sizes s number (call_line register)) said)
+
+  -- ---- of all processors
+
+  abbrev all_others : List (ℕ × List ℕ)
+  all_others = (1, codes "rdmsr") ∷ (1, codes "-a") ∷ (1, codes "0x" ++ hex_text register) ∷ []
+
+  all_is : all_line register ≡ line_with ((0, codes "+") ∷ all_others) []
+  all_is = rw (append-nil (hex_text register)) refl
+
+  all_words : AreWords ((0, codes "+") ∷ all_others)
+  all_words =
+      let digits = hex_word register in
+      ((lit≤ tt, refl, refl), ((lit≤ tt, refl, refl), ((lit≤ tt, refl, refl), (word_append (codes "0x") (hex_text register) (lit≤ tt, refl, refl) digits.1 digits.2, tt))))
+
+  pub all_plain : list_all is_plain (all_line register) ≡ true
+  all_plain = ap (list_all is_plain) all_is ∙ pieces_plain ((0, codes "+") ∷ all_others) [] all_words refl
+
+  all_short : nat_lt 4096 (length (all_line register)) ≡ false
+  all_short =
+      let size = ap length all_is ∙ length_of_pieces ((0, codes "+") ∷ all_others) [] in
+      let few = hex_short register fits in
+      within_limit (length (all_line register)) (omega (arith, size, few))
+
+  pub all_said : (number : ℕ) → said_of Rdmsr number (all_line register) ≡ Announces None register
+  all_said number =
+      let words : words_of (all_line register) ≡ placed 0 ((0, codes "+") ∷ all_others) [] = ap words_of all_is ∙ words_of_pieces (0, codes "+") all_others [] all_words refl refl refl in
+      let said : rdmsr_said number (all_line register) ≡ Announces None register = ap (said_by_words number) words ∙ ap (announced None) register_read in
+      rw all_short (ap (λ s. said_or_sizes s number (all_line register)) said)
 
 -- ---- a value
 

@@ -19,7 +19,8 @@ use Rattle.mt_import_laws.specs.FirstLine.{LinesTellFirst}
 use Rattle.mt_import_laws.specs.Printed.{Key, TextReadsBack, number_at, value_in}
 use Rattle.mt_import_laws.specs.PrintedByRdmsr.{SuitsRdmsr, call_line, calls, hex_text, rdmsr_lines, rdmsr_text}
 use Rattle.mt_import_laws.proofs.Among.{join_among_first, join_among_second}
-use Rattle.mt_import_laws.proofs.AutoReads.{text_back}
+use Rattle.mt_import_laws.proofs.AutoReads.{text_as}
+use Rattle.mt_dump.specs.Dumps.{dump_of}
 use Rattle.mt_import_laws.proofs.KeyLines.{all_keys, among_all, in_file, low}
 use Rattle.mt_import_laws.proofs.Keys.{IsKey, is_register_key}
 use Rattle.mt_import_laws.proofs.PrintedBack.{IsInFile, facts_back, fits, key_in_file, lines_back}
@@ -157,7 +158,7 @@ own_text file supplied suits =
     let plain = calls_plain file suits.is_file suits.has_words (all_keys file) inside in
     let lines = lines_back (rdmsr_lines file) plain in
     let facts : shown (Some Rdmsr) (rdmsr_text file) ≡ facts_from (starts (Some Rdmsr)) 1 (rdmsr_lines file) = ap (facts_from (starts (Some Rdmsr)) 1) lines in
-    text_back Rdmsr supplied file (rdmsr_lines file) plain (first_call file)
+    text_as Rdmsr supplied (dump_of file) (rdmsr_lines file) plain (first_call file)
     (facts_back file any_bits Rdmsr supplied suits.is_file suits.has_words suits.agrees (shown (Some Rdmsr) (rdmsr_text file)) (inl suits.width)
     (subst (AllByRecursion (IsSound (same_file file) 1 any_bits)) (sym facts) (calls_sound file suits.is_file suits.has_words (all_keys file) inside (starts (Some Rdmsr)) 1 refl))
     (λ key within. inl (subst (HasReading key all_bits) (sym facts) (calls_have file suits.is_file suits.has_words (all_keys file) inside (starts (Some Rdmsr)) 1 key refl (among_all file key suits.is_file within)))))

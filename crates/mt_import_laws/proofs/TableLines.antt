@@ -1,5 +1,5 @@
 -- Logs each of whose lines tells of one file, or says nothing: the readings that they come to.
-use Rattle.std.proofs.Common.{◌≡◌, ◌∙◌, ◌+◌, ◌^◌, ◌<◌, ℕ, Bool, true, false, List, [], ◌∷◌, ◌++◌, Option, Some, None, refl, sym, ap, subst, inl, inr, lit<, bit_and, unwrap_or}
+use Rattle.std.proofs.Common.{◌≡◌, ◌∙◌, ◌+◌, ◌^◌, ◌<◌, ℕ, Bool, true, false, List, [], ◌∷◌, ◌++◌, length, Option, Some, None, refl, sym, ap, subst, inl, inr, arith, lit<, bit_and, unwrap_or, append_assoc}
 use Rattle.std.specs.Prelude.{◌⊎◌, ⊤, if◌then◌else◌}
 use Rattle.std.specs.List.{AllByRecursion}
 use Rattle.mt_regs.specs.RegisterFile.{IsRegisterFile, RegisterFile}
@@ -14,7 +14,7 @@ use Rattle.mt_import.specs.Readings.{Fact, is_fault, is_line, is_match, is_regis
 use Rattle.mt_import.specs.Shown.{context_behind, facts_from, facts_of_line, said_of}
 use Rattle.mt_import.specs.Slot.{all_bits}
 use Rattle.mt_import.specs.Outcome.{Seen, seen_after, seen_with}
-use Rattle.mt_import_laws.specs.Origins.{IsAmong}
+use Rattle.mt_import_laws.specs.Origins.{IsAmong, context_after_lines}
 use Rattle.mt_import_laws.specs.Printed.{IsNoMore, IsSame, Key, SaysNoMore, no_match, number_at, only_shows, only_turns, only_warns, only_width, value_in}
 use Rattle.mt_import_laws.proofs.Among.{join_among_first, join_among_second}
 use Rattle.mt_import_laws.proofs.Keys.{IsKey, is_register_key, key_at}
@@ -59,6 +59,20 @@ pub record HasReading (key : Key) (part : ℕ) (facts : List Fact) : Type 0 wher
   pub among : IsAmong (is_register_value reading) facts
   pub number : reading.number ≡ number_at key
   pub bits : reading.bits ≡ part
+
+-- a fact of these bits of this processor's register
+pub record HasOwn (k : ℕ) (key : Key) (part : ℕ) (facts : List Fact) : Type 0 where
+  pub reading : Reading
+  pub among : IsAmong (is_register_value reading) facts
+  pub own : reading.processor ≡ k
+  pub number : reading.number ≡ number_at key
+  pub bits : reading.bits ≡ part
+
+pub own_first : (k : ℕ) (key : Key) (part : ℕ) (a b : List Fact) → HasOwn k key part a → HasOwn k key part (a ++ b)
+own_first k key part a b has = record { reading = has.reading; among = join_among_first a b _ has.among; own = has.own; number = has.number; bits = has.bits }
+
+pub own_later : (k : ℕ) (key : Key) (part : ℕ) (a b : List Fact) → HasOwn k key part b → HasOwn k key part (a ++ b)
+own_later k key part a b has = record { reading = has.reading; among = join_among_second a b _ has.among; own = has.own; number = has.number; bits = has.bits }
 
 -- ---- what a line says of one file
 
@@ -207,6 +221,17 @@ module _ (files : ℕ → RegisterFile) (count : ℕ) (prints : Prints) where
   said_true k context Warns less width own tells = (tt, tt)
   said_true k context (Long place) less width own tells = absurd tells
 
+-- what lines come to, and those behind them
+pub facts_split : (front : List (List ℕ)) (context : Context) (number : ℕ) (behind : List (List ℕ))
+    → facts_from context number (front ++ behind) ≡ facts_from context number front ++ facts_from (context_after_lines context number front) (number + length front) behind
+facts_split [] context number behind = ap (λ n. facts_from context n behind) (omega arith)
+facts_split (line ∷ front) context number behind =
+    let next : Context = context_behind context number line in
+    let shift : number + 1 + length front ≡ number + length (line ∷ front) = omega arith in
+    ap (λ (fs : List Fact). facts_of_line context number line ++ fs)
+    (facts_split front next (number + 1) behind ∙ ap (λ n. facts_from next (number + 1) front ++ facts_from (context_after_lines next (number + 1) front) n behind) shift)
+    ∙ sym (append_assoc (facts_of_line context number line) (facts_from next (number + 1) front) (facts_from (context_after_lines next (number + 1) front) (number + length (line ∷ front)) behind))
+
 -- ---- the facts of lines
 
 module _ (format : Format) where
@@ -217,6 +242,10 @@ module _ (format : Format) where
 
   pub next_format : (context : Context) (number : ℕ) (line : List ℕ) → context.format ≡ Some format → (context_behind context number line).format ≡ Some format
   next_format context number line is = rw is refl
+
+  pub lines_format : (lines : List (List ℕ)) (context : Context) (number : ℕ) → context.format ≡ Some format → (context_after_lines context number lines).format ≡ Some format
+  lines_format [] context number is = is
+  lines_format (line ∷ lines) context number is = lines_format lines (context_behind context number line) (number + 1) (next_format context number line is)
 
   pub lines_have : (lines : List (List ℕ)) (context : Context) (number : ℕ) (key : Key) (bits : ℕ) (line : List ℕ) → context.format ≡ Some format → IsKey key → IsAmong line lines
       → ((at : ℕ) → ShowsKey key bits (said_of format at line)) → HasReading key bits (facts_from context number lines)
@@ -263,3 +292,35 @@ module _ (files : ℕ → RegisterFile) (count : ℕ) (prints : Prints) (k : ℕ
       let here = tells line (inl refl) number in
       all_join (IsSound files count prints) (facts_of_line context number line) (facts_from (context_behind context number line) (number + 1) lines) (line_true line context number is own here)
       (lines_true lines (context_behind context number line) (number + 1) (next_format format context number line is) (next_processor context number line is own here) (λ other among. tells other (inr among)))
+
+  -- the processor that lines are of stays
+  pub still_of : (lines : List (List ℕ)) (context : Context) (number : ℕ) → context.format ≡ Some format → context.processor ≡ k → AreTrue lines → (context_after_lines context number lines).processor ≡ k
+  still_of [] context number is own tells = own
+  still_of (line ∷ lines) context number is own tells =
+      still_of lines (context_behind context number line) (number + 1) (next_format format context number line is) (next_processor context number line is own (tells line (inl refl) number)) (λ other among. tells other (inr among))
+
+  own_has : (context : Context) (said : Said) (key : Key) (bits : ℕ) → context.processor ≡ k → IsTrueSaid (files k) prints k said → IsKey key → ShowsKey key bits said → HasOwn k key bits (said_facts context said)
+  own_has context said key bits own tells is shows =
+      let register : is_register shows.shown.number ≡ true = rw shows.number (is_register_key key is) in
+      let named : unwrap_or shows.processor k ≡ k = (subst (IsTrueSaid (files k) prints k) shows.said_is tells).0 in
+      record {
+        reading = record { processor = unwrap_or shows.processor context.processor; table = context.table; number = shows.shown.number; bits = shows.shown.bits; value = shows.shown.value; place = shows.shown.place };
+        among = rw shows.said_is (shown_among (unwrap_or shows.processor context.processor) context.table shows.shows shows.shown register shows.among);
+        own = own_by shows.processor k context.processor named own;
+        number = shows.number;
+        bits = shows.bits;
+      }
+
+  -- a register that a line shows is among the facts, of this processor
+  pub lines_have_own : (lines : List (List ℕ)) (context : Context) (number : ℕ) (key : Key) (bits : ℕ) (line : List ℕ) → context.format ≡ Some format → context.processor ≡ k → AreTrue lines → IsKey key → IsAmong line lines
+      → ((at : ℕ) → ShowsKey key bits (said_of format at line)) → HasOwn k key bits (facts_from context number lines)
+  lines_have_own [] context number key bits line is own tells is_key among shows = absurd among
+  lines_have_own (first ∷ lines) context number key bits line is own tells is_key (inl same) shows =
+      let here : ShowsKey key bits (said_of format number first) = subst (λ l. ShowsKey key bits (said_of format number l)) (sym same) (shows number) in
+      let has = own_has context (said_of format number first) key bits own (tells first (inl refl) number) is_key here in
+      own_first k key bits (facts_of_line context number first) (facts_from (context_behind context number first) (number + 1) lines)
+      (subst (HasOwn k key bits) (sym (of_line format context number first is)) (own_later k key bits (is_line number (Some format) (is_match (said_of format number first)) ∷ []) (said_facts context (said_of format number first)) has))
+  lines_have_own (first ∷ lines) context number key bits line is own tells is_key (inr later) shows =
+      own_later k key bits (facts_of_line context number first) (facts_from (context_behind context number first) (number + 1) lines)
+      (lines_have_own lines (context_behind context number first) (number + 1) key bits line (next_format format context number first is) (next_processor context number first is own (tells first (inl refl) number))
+      (λ other at. tells other (inr at)) is_key later shows)

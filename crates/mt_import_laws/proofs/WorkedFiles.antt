@@ -31,7 +31,7 @@ fits file register = nat_lt (value_of file register) 0x10000000000000000
 tested : (value : ℕ) → nat_lt value 0x10000000000000000 ≡ true → value < 2 ^ 64
 tested value is = grind (arith, nat_tests, is)
 
-fit_at : (file : RegisterFile) (registers : List Register) (k : ℕ) (register : Register) → list_all (fits file) registers ≡ true → slice_get registers k ≡ Some register → value_of file register < 2 ^ 64
+pub fit_at : (file : RegisterFile) (registers : List Register) (k : ℕ) (register : Register) → list_all (fits file) registers ≡ true → slice_get registers k ≡ Some register → value_of file register < 2 ^ 64
 fit_at file [] k register all at = cc at
 fit_at file (first ∷ registers) zero register all at =
     let same : first ≡ register = cc at in
@@ -84,7 +84,7 @@ rdmsr_suits = record { is_file = is_ordinary; has_words = ordinary_words; agrees
 
 -- ---- words that supply registers
 
-words_agree : (file : RegisterFile) (registers : List (ℕ × ℕ)) (number value : ℕ) → AllByRecursion (λ register. value_at file register.0 ≡ Some register.1) registers → value_among number registers ≡ Some value
+pub words_agree : (file : RegisterFile) (registers : List (ℕ × ℕ)) (number value : ℕ) → AllByRecursion (λ register. value_at file register.0 ≡ Some register.1) registers → value_among number registers ≡ Some value
     → value_at file number ≡ Some value
 words_agree file [] number value all is = cc is
 words_agree file (register ∷ registers) number value all is = by (register.0 == number) refl (words_agree file registers number value all.1) is

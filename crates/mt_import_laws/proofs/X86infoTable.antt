@@ -10,9 +10,9 @@ use Rattle.mt_regs.specs.RegisterFile.{RegisterFile, has_fixed}
 use Rattle.mt_regs.specs.Registers.{IsWithin, pair_registers}
 use Rattle.mt_import.specs.declared.format.Format.TheVariants.{X86info}
 use Rattle.mt_import.specs.Shown.{said_of}
-use Rattle.mt_import.specs.Supplied.{Supplied, supplied_value}
+use Rattle.mt_import.specs.Supplied.{Supplied}
 use Rattle.mt_import_laws.specs.Origins.{IsAmong}
-use Rattle.mt_import_laws.specs.Printed.{Key, TableReadsBack, number_at, value_in}
+use Rattle.mt_import_laws.specs.Printed.{Key, TableReadsBack, value_in}
 use Rattle.mt_import_laws.specs.PrintedByX86info.{Print, SuitsX86info, first_behind, last_keys, later_fixed, line_behind, line_of, read_count, read_pairs, register_lines, size_line, size_lines, unread, unread_pairs, x86info_lines}
 use Rattle.mt_import_laws.proofs.Among.{all_map, among_join, among_map, each_among, join_among_first, join_among_second, map_among}
 use Rattle.mt_import_laws.proofs.KeyLines.{ShowsAlone, alone_shows, alone_true, has_line, lines_true}
@@ -79,7 +79,7 @@ later_places = (
   ),
 )
 
-module _ (print : Print) (file : RegisterFile) (supplied : Supplied) (suits : SuitsX86info print file supplied) where
+module _ (at : ℕ) (print : Print) (file : RegisterFile) (supplied : Supplied) (suits : SuitsX86info print file supplied) where
   abbrev lines : Bool → List (List ℕ)
   lines fixed = register_lines print file fixed
 
@@ -179,7 +179,7 @@ module _ (print : Print) (file : RegisterFile) (supplied : Supplied) (suits : Su
   is_key : (key : Key) → IsInFile file key → IsKey key
   is_key key within = key_in_file file key suits.is_file within
 
-  shows : (unread : List Key) → AllByRecursion IsKey unread → length unread ≤ 2 → (key : Key) → IsInFile file key → ShowsAlone file X86info key (line_behind print file unread key)
+  shows : (unread : List Key) → AllByRecursion IsKey unread → length unread ≤ 2 → (key : Key) → IsInFile file key → ShowsAlone at file X86info key (line_behind print file unread key)
   shows unread keys two key within =
       let fields = suits.are_fields key in
       record {
@@ -194,13 +194,13 @@ module _ (print : Print) (file : RegisterFile) (supplied : Supplied) (suits : Su
       let fields = suits.are_fields key in
       text_plain print.names suits.are_names key (is_key key within) (value_in file key) (print.fields key) fields.0 fields.1 fields.2 unread keys size
 
-  lines_of_keys : (keys : List Key) → ((key : Key) → IsAmong key keys → IsInFile file key) → (line : List ℕ) → IsAmong line (map (line_of print file) keys) → (number : ℕ) → IsTrueSaid file any_bits 0 (said_of X86info number line)
+  lines_of_keys : (keys : List Key) → ((key : Key) → IsAmong key keys → IsInFile file key) → (line : List ℕ) → IsAmong line (map (line_of print file) keys) → (number : ℕ) → IsTrueSaid file any_bits at (said_of X86info number line)
   lines_of_keys keys within =
-      lines_true file X86info (line_of print file) keys (λ key among. is_key key (within key among)) (λ key among. fit key (within key among)) (λ key among. shows [] tt (lit≤ tt) key (within key among))
+      lines_true at file X86info (line_of print file) keys (λ key among. is_key key (within key among)) (λ key among. fit key (within key among)) (λ key among. shows [] tt (lit≤ tt) key (within key among))
 
   line_of_key : (keys : List Key) → ((key : Key) → IsAmong key keys → IsInFile file key) → (key : Key) → IsAmong key keys → HasLine X86info (map (line_of print file) keys) key
   line_of_key keys within =
-      has_line file X86info (line_of print file) keys (λ key among. is_key key (within key among)) (λ key among. fit key (within key among)) (λ key among. shows [] tt (lit≤ tt) key (within key among))
+      has_line at file X86info (line_of print file) keys (λ key among. is_key key (within key among)) (λ key among. fit key (within key among)) (λ key among. shows [] tt (lit≤ tt) key (within key among))
 
   -- ---- the table
 
@@ -208,7 +208,7 @@ module _ (print : Print) (file : RegisterFile) (supplied : Supplied) (suits : Su
     abbrev joint : List ℕ
     joint = line_behind print file (unread fixed file) (first_behind fixed)
 
-    joint_true : (number : ℕ) → IsTrueSaid file any_bits 0 (said_of X86info number joint)
+    joint_true : (number : ℕ) → IsTrueSaid file any_bits at (said_of X86info number joint)
     joint_true number = elim (cases_lt 2 (length (unread fixed file))) [
       | inl more ↦
           let fields = suits.are_fields (first_behind fixed) in
@@ -217,14 +217,14 @@ module _ (print : Print) (file : RegisterFile) (supplied : Supplied) (suits : Su
           (unread fixed file) (unread_keys fixed) more (unread_long fixed) number) tt
       | inr few ↦
           let key = first_behind_in fixed is in
-          alone_true file X86info (first_behind fixed) joint number (is_key (first_behind fixed) key) (fit (first_behind fixed) key)
+          alone_true at file X86info (first_behind fixed) joint number (is_key (first_behind fixed) key) (fit (first_behind fixed) key)
           (shows (unread fixed file) (unread_keys fixed) few (first_behind fixed) key)
     ]
 
-    registers_true : (line : List ℕ) → IsAmong line (lines fixed) → (number : ℕ) → IsTrueSaid file any_bits 0 (said_of X86info number line)
+    registers_true : (line : List ℕ) → IsAmong line (lines fixed) → (number : ℕ) → IsTrueSaid file any_bits at (said_of X86info number line)
     registers_true line among number = elim (among_join (map (line_of print file) (None ∷ map Some (read_pairs file))) (joint ∷ map (line_of print file) (last_keys fixed)) line among) [
       | inl first ↦ lines_of_keys (None ∷ map Some (read_pairs file)) first_in line first number
-      | inr (inl same) ↦ subst (λ l. IsTrueSaid file any_bits 0 (said_of X86info number l)) same (joint_true number)
+      | inr (inl same) ↦ subst (λ l. IsTrueSaid file any_bits at (said_of X86info number l)) same (joint_true number)
       | inr (inr last) ↦ lines_of_keys (last_keys fixed) (last_in fixed is) line last number
     ]
 
@@ -272,11 +272,11 @@ module _ (print : Print) (file : RegisterFile) (supplied : Supplied) (suits : Su
         in_table (first_behind fixed) (record {
           line = joint;
           among = join_among_second (map (line_of print file) (None ∷ map Some (read_pairs file))) (joint ∷ map (line_of print file) (last_keys fixed)) joint (inl refl);
-          shows = λ number. alone_shows file X86info (first_behind fixed) joint number (shows (unread fixed file) (unread_keys fixed) few (first_behind fixed) (first_behind_in fixed is));
+          shows = λ number. alone_shows at file X86info (first_behind fixed) joint number (shows (unread fixed file) (unread_keys fixed) few (first_behind fixed) (first_behind_in fixed is));
         })
 
   -- a line or words
-  abbrev HasBoth : Key → Type 0
+  abbrev pub HasBoth : Key → Type 0
   HasBoth key = HasLine X86info (x86info_lines print file) key ⊎ IsGiven supplied file key
 
   base_by : (n : ℕ) → n < length file.pairs → HasBoth (Some (PhysBase n))
@@ -332,8 +332,11 @@ module _ (print : Print) (file : RegisterFile) (supplied : Supplied) (suits : Su
   default_by true has = inl (in_last true has (Some DefaultType) (inr (inr (inr (inr (inr (inr (inr (inr (inr (inl refl)))))))))))
   default_by false none = inr (suits.default_type none)
 
-  each_key : (key : Key) → IsInFile file key → HasBoth key
-  each_key None within = inl (in_first (has_fixed file) refl None (inl refl))
+  pub capability_line : HasLine X86info (x86info_lines print file) None
+  capability_line = in_first (has_fixed file) refl None (inl refl)
+
+  pub each_key : (key : Key) → IsInFile file key → HasBoth key
+  each_key None within = inl capability_line
   each_key (Some (PhysBase n)) within = base_by n within
   each_key (Some (PhysMask n)) within = mask_by n within
   each_key (Some (FixedRange place)) within = fixed_by place within.0 within.1
@@ -348,17 +351,17 @@ module _ (print : Print) (file : RegisterFile) (supplied : Supplied) (suits : Su
   few_bits : (virtual : ℕ) → print.virtual ≡ Some virtual → virtual < 65
   few_bits virtual is = let few = suits.few_virtual virtual is in omega (arith, few)
 
-  size_true : (line : List ℕ) (virtual : Option ℕ) → print.virtual ≡ virtual → IsAmong line (size_lines file virtual) → (number : ℕ) → IsTrueSaid file any_bits 0 (said_of X86info number line)
+  size_true : (line : List ℕ) (virtual : Option ℕ) → print.virtual ≡ virtual → IsAmong line (size_lines file virtual) → (number : ℕ) → IsTrueSaid file any_bits at (said_of X86info number line)
   size_true line None is among number = absurd among
   size_true line (Some virtual) is (inl same) number =
-      subst (λ l. IsTrueSaid file any_bits 0 (said_of X86info number l)) same (rw (size_said file.width virtual wide (few_bits virtual is) number) refl)
+      subst (λ l. IsTrueSaid file any_bits at (said_of X86info number l)) same (rw (size_said file.width virtual wide (few_bits virtual is) number) refl)
   size_true line (Some virtual) is (inr none) number = absurd none
 
   sizes_plain : (virtual : Option ℕ) → print.virtual ≡ virtual → AllByRecursion (λ line. list_all is_plain line ≡ true) (size_lines file virtual)
   sizes_plain None is = tt
   sizes_plain (Some virtual) is = (size_plain file.width virtual wide (few_bits virtual is), tt)
 
-  width : (virtual : Option ℕ) → print.virtual ≡ virtual → (supplied.width ≡ Some file.width) ⊎ WidthLine X86info file (x86info_lines print file)
+  pub width : (virtual : Option ℕ) → print.virtual ≡ virtual → (supplied.width ≡ Some file.width) ⊎ WidthLine X86info file (x86info_lines print file)
   width None is = inl (suits.width is)
   width (Some virtual) is = inr (record {
     line = size_line file.width virtual;
@@ -369,20 +372,20 @@ module _ (print : Print) (file : RegisterFile) (supplied : Supplied) (suits : Su
 
   -- ---- all lines
 
-  table_true : (line : List ℕ) → IsAmong line (x86info_lines print file) → (number : ℕ) → IsTrueSaid file any_bits 0 (said_of X86info number line)
-  table_true line (inl same) number = subst (λ l. IsTrueSaid file any_bits 0 (said_of X86info number l)) same tt
+  pub table_true : (line : List ℕ) → IsAmong line (x86info_lines print file) → (number : ℕ) → IsTrueSaid file any_bits at (said_of X86info number line)
+  table_true line (inl same) number = subst (λ l. IsTrueSaid file any_bits at (said_of X86info number l)) same tt
   table_true line (inr later) number = elim (among_join (lines (has_fixed file)) (size_lines file print.virtual) line later) [
     | inl register ↦ registers_true (has_fixed file) refl line register number
     | inr size ↦ size_true line print.virtual refl size number
   ]
 
-  table_plain : AllByRecursion (λ line. list_all is_plain line ≡ true) (x86info_lines print file)
+  pub table_plain : AllByRecursion (λ line. list_all is_plain line ≡ true) (x86info_lines print file)
   table_plain = (
     refl,
     all_join (λ line. list_all is_plain line ≡ true) (lines (has_fixed file)) (size_lines file print.virtual) (registers_plain (has_fixed file) refl) (sizes_plain print.virtual refl),
   )
 
-  pub reads : TableReadsBack X86info (x86info_lines print file) supplied file
-  reads =
-      table_back file X86info (x86info_lines print file) supplied suits.is_file suits.has_words suits.agrees (width print.virtual refl)
-      (record { each = table_true; all = each_key }) table_plain
+pub reads : (print : Print) (file : RegisterFile) (supplied : Supplied) → SuitsX86info print file supplied → TableReadsBack X86info (x86info_lines print file) supplied file
+reads print file supplied suits =
+    table_back file X86info (x86info_lines print file) supplied suits.is_file suits.has_words suits.agrees (width 0 print file supplied suits print.virtual refl)
+    (record { each = table_true 0 print file supplied suits; all = each_key 0 print file supplied suits }) (table_plain 0 print file supplied suits)

@@ -3,10 +3,10 @@
 --     Agrees supplied file      words supply no other value than the file's
 --     ReadsAs told wanted      the outcome is this dump
 --     ReadsBack told file      the outcome is the file's dump
---     TextReadsBack format text supplied file      so it is of a text, by its format and by `auto`
+--     TextReadsAs format text supplied wanted      so it is of a text, by its format and by `auto`
 --     TableReadsBack format table supplied file      so it is of a table's lines, and of each log that holds them
 --     TableReadsInOrder format table supplied file      the same of each log that holds them in their order
-use Rattle.std.specs.Prelude.{ℕ, ◌≡◌, ◌<◌, ◌+◌, ◌*◌, ◌^◌, ◌⊎◌, ⊤, bit_and, Bool, true, false, List, [], ◌∷◌, Option, None, Some, unwrap_or}
+use Rattle.std.specs.Prelude.{ℕ, ◌≡◌, ◌<◌, ◌+◌, ◌*◌, ◌^◌, ◌⊎◌, ⊤, bit_and, Bool, true, false, List, [], ◌∷◌, length, Option, None, Some, unwrap_or}
 use Rattle.std.specs.List.{AllByRecursion}
 use Rattle.mt_ports.specs.declared.status.Status.TheVariants.{Done}
 use Rattle.mt_text.specs.Text.{lines_of}
@@ -25,7 +25,7 @@ use Rattle.mt_import.specs.declared.reading.Said.{Said}
 use Rattle.mt_import.specs.declared.shape.Shown.{Shown}
 use Rattle.mt_import.specs.Import.{log_told}
 use Rattle.mt_import.specs.Readings.{is_register}
-use Rattle.mt_import.specs.Outcome.{Told}
+use Rattle.mt_import.specs.Outcome.{Told, version_of}
 use Rattle.mt_import.specs.Shown.{said_of}
 use Rattle.mt_import.specs.Supplied.{Supplied, supplied_value}
 use Rattle.mt_import_laws.specs.Origins.{IsAmong}
@@ -104,10 +104,17 @@ pub record ReadsAs (told : Told) (wanted : Dump) : Type 0 where
 abbrev pub ReadsBack : Told → RegisterFile → Type 0
 ReadsBack told file = ReadsAs told (dump_of file)
 
--- A text gives the file by the name of its format, and by `auto`.
-pub record TextReadsBack (format : Format) (text : List ℕ) (supplied : Supplied) (file : RegisterFile) : Type 0 where
-  pub by_name : ReadsBack (log_told (Only format) supplied text) file
-  pub by_auto : ReadsBack (log_told Auto supplied text) file
+-- the dump of these processors' files: of version 1 for one, else of version 2
+abbrev pub dump_of_all : List RegisterFile → Dump
+dump_of_all files = record { version = version_of (length files); files = files }
+
+-- A text gives this dump by the name of its format, and by `auto`.
+pub record TextReadsAs (format : Format) (text : List ℕ) (supplied : Supplied) (wanted : Dump) : Type 0 where
+  pub by_name : ReadsAs (log_told (Only format) supplied text) wanted
+  pub by_auto : ReadsAs (log_told Auto supplied text) wanted
+
+abbrev pub TextReadsBack : Format → List ℕ → Supplied → RegisterFile → Type 0
+TextReadsBack format text supplied file = TextReadsAs format text supplied (dump_of file)
 
 -- A table of lines gives the file: alone, and in any log that holds it.
 pub record TableReadsBack (format : Format) (table : List (List ℕ)) (supplied : Supplied) (file : RegisterFile) : Type 0 where

@@ -1,8 +1,9 @@
 -- What x86info prints of a processor's MTRRs with --mtrr, and of the sizes of its addresses with --addr
 -- (Debian's x86info 1.31pre, the functions that print `MTRR registers:` and `Address sizes`).
 --     x86info_lines print file      the lines
+--     cpu_lines k cpus      the lines of all processors
 use Rattle.std.specs.Prelude.{ℕ, ◌≡◌, ◌≤◌, ◌<◌, ◌+◌, ◌*◌, ◌-◌, ◌==◌, ◌&&◌, min, not, nat_lt, decimal, Bool, true, false, codes, List, [], ◌∷◌, ◌++◌, length, map, Option, None, Some}
-use Rattle.std.specs.List.{list_all}
+use Rattle.std.specs.List.{AllByRecursion, list_all}
 use Rattle.mt_text.specs.Text.{goes_on}
 use Rattle.mt_regs.specs.declared.registers.Register.{Register}
 use Rattle.mt_regs.specs.declared.registers.Register.TheVariants.{PhysBase, PhysMask, FixedRange, Pat, DefaultType}
@@ -10,8 +11,9 @@ use Rattle.mt_regs.specs.RegisterFile.{IsRegisterFile, RegisterFile, has_fixed, 
 use Rattle.mt_regs.specs.Registers.{pair_registers, value_of}
 use Rattle.mt_regs.specs.Words.{HasWords}
 use Rattle.mt_dump.specs.Canon.{value_text}
+use Rattle.mt_dump.specs.Dumps.{IsDump}
 use Rattle.mt_import.specs.Supplied.{Supplied, supplied_value}
-use Rattle.mt_import_laws.specs.Printed.{Agrees, Key, number_at, value_in}
+use Rattle.mt_import_laws.specs.Printed.{Agrees, Key, dump_of_all, number_at, value_in}
 use Rattle.mt_import_laws.specs.PrintedByInteltool.{AreNames, Names}
 use Rattle.mt_import_laws.specs.PrintedByRdmsr.{hex_text}
 
@@ -127,3 +129,22 @@ pub record SuitsX86info (print : Print) (file : RegisterFile) (supplied : Suppli
   pub default_type : has_fixed file ≡ false → supplied_value supplied 0x2ff ≡ Some file.default_type
   pub bases : (n : ℕ) → 8 ≤ n → n < length file.pairs → supplied_value supplied (0x200 + 2 * n) ≡ Some (pair_at file.pairs n).0
   pub masks : (n : ℕ) → 8 ≤ n → n < length file.pairs → supplied_value supplied (0x201 + 2 * n) ≡ Some (pair_at file.pairs n).1
+
+-- ---- all processors, with --all-cpus
+
+-- `CPU #%u:`, counted from 1
+abbrev pub cpu_line : ℕ → List ℕ
+cpu_line k = codes "CPU #" ++ (decimal (k + 1) ++ codes ":")
+
+-- what is printed of each processor, of which the first has this number
+abbrev pub cpu_lines : ℕ → List (Print × RegisterFile) → List (List ℕ)
+cpu_lines k [] = []
+cpu_lines k (cpu ∷ cpus) = cpu_line k ∷ (x86info_lines cpu.0 cpu.1 ++ cpu_lines (k + 1) cpus)
+
+abbrev pub files_in : List (Print × RegisterFile) → List RegisterFile
+files_in cpus = map (λ (cpu : Print × RegisterFile). cpu.1) cpus
+
+-- The files of one dump can be printed. Words supply what isn't printed, which is to be alike of all processors.
+pub record SuitsX86infoOfAll (cpus : List (Print × RegisterFile)) (supplied : Supplied) : Type 0 where
+  pub is_dump : IsDump (dump_of_all (files_in cpus))
+  pub each : AllByRecursion (λ (cpu : Print × RegisterFile). SuitsX86info cpu.0 cpu.1 supplied) cpus

@@ -24,6 +24,13 @@ ordinary_pc = record {
   default_type = 0xc00;
 }
 
+-- a second processor, whose default type is another
+abbrev pub other_cpu : RegisterFile
+other_cpu = record ordinary_pc { default_type = 0xc06 }
+
+abbrev pub two_cpus : List RegisterFile
+two_cpus = ordinary_pc ∷ other_cpu ∷ []
+
 abbrev pub fixed_names : List (List ℕ)
 fixed_names =
     codes "FIX64K_00000" ∷ codes "FIX16K_80000" ∷ codes "FIX16K_A0000" ∷ codes "FIX4K_C0000" ∷ codes "FIX4K_C8000" ∷ codes "FIX4K_D0000"
@@ -65,6 +72,9 @@ some_fields (Some DefaultType) = []
 -- with --addr
 abbrev pub x86info_print : Print
 x86info_print = record { names = x86info_names; fields = some_fields; virtual = Some 48 }
+
+abbrev pub two_prints : List (Print × RegisterFile)
+two_prints = (x86info_print, ordinary_pc) ∷ (x86info_print, other_cpu) ∷ []
 
 -- `268=505050505050505 277=7040600070406`
 abbrev pub words_for_x86info : Supplied

@@ -3,22 +3,31 @@ ghost use Rattle.mt_regs.specs.declared.registers.Register.TheVariants.{PhysBase
 ghost use Rattle.mt_regs.specs.RegisterFile.{RegisterFile, pair_at};
 ghost use Rattle.mt_import.specs.declared.format.Choice.TheVariants.{Only};
 ghost use Rattle.mt_import.specs.declared.format.Format.TheVariants.{Coreboot, Edk2, Inteltool, Linux, Rdmsr, X86info, Xen};
+ghost use Rattle.mt_dump.specs.Canon.{ended};
+ghost use Rattle.mt_import.specs.Import.{log_told};
 ghost use Rattle.mt_import.specs.Supplied.{Supplied, command_of};
 ghost use Rattle.mt_import_laws.specs.FirstLine.{LinesTellFirst};
-ghost use Rattle.mt_import_laws.specs.Printed.{TableReadsBack, TableReadsInOrder, TellsNoMore, TextReadsBack};
+ghost use Rattle.mt_import_laws.specs.Printed.{ReadsAs, TableReadsBack, TableReadsInOrder, TellsNoMore, TextReadsAs, TextReadsBack, dump_of_all};
 ghost use Rattle.mt_import_laws.specs.PrintedByCoreboot.{SuitsCoreboot, Tails, coreboot_lines, line_of as coreboot_line};
 ghost use Rattle.mt_import_laws.specs.PrintedByEdk2.{SuitsEdk2, edk2_lines, pair_line};
 ghost use Rattle.mt_import_laws.specs.PrintedByInteltool.{Names, SuitsInteltool, inteltool_lines, line_of as inteltool_line};
-ghost use Rattle.mt_import_laws.specs.PrintedByRdmsr.{SuitsRdmsr, call_line, hex_text, rdmsr_lines, rdmsr_text};
-ghost use Rattle.mt_import_laws.specs.PrintedByX86info.{Print, SuitsX86info, line_of as x86info_line, size_line, x86info_lines};
+ghost use Rattle.mt_import_laws.specs.PrintedByRdmsr.{SuitsRdmsr, SuitsRdmsrOfAll, all_line, call_line, hex_text, rdmsr_all_lines, rdmsr_lines, rdmsr_text};
+ghost use Rattle.mt_import_laws.specs.PrintedByX86info.{Print, SuitsX86info, SuitsX86infoOfAll, cpu_line, cpu_lines, files_in, line_of as x86info_line, size_line, x86info_lines};
 ghost use Rattle.mt_import_laws.specs.PrintedByLinux.{Log, SuitsLinux, linux_lines};
 ghost use Rattle.mt_import_laws.specs.PrintedByXen.{SuitsXen, xen_lines};
-ghost use Rattle.mt_import_laws.specs.WorkedPrinted.{early_log, linux_log, model_names, ordinary_pc, some_tails, width_36, width_and_pat, words_for_edk2, words_for_kernels, words_for_x86info, x86info_print, xen_log};
+ghost use Rattle.mt_import_laws.specs.WorkedPrinted.{early_log, linux_log, model_names, ordinary_pc, some_tails, two_cpus, two_prints, width_36, width_and_pat, words_for_edk2, words_for_kernels, words_for_x86info, x86info_print, xen_log};
 
 /// What a shell prints under `set -x` that calls rdmsr for each register of a file reads back as the file, if words supply its width.
 /// So it does by `auto`.
 pub fn what_rdmsr_prints_reads_back()
     ensures { (file : RegisterFile) (supplied : Supplied) → SuitsRdmsr file supplied → TextReadsBack Rdmsr (rdmsr_text file) supplied file }
+{}
+
+/// What a shell prints that calls rdmsr for each register of all processors, by `-a`, reads back as the dump with a section for each,
+/// if words supply the width. So it does by `auto`.
+pub fn what_rdmsr_prints_of_all_reads_back()
+    ensures { (files : List RegisterFile) (supplied : Supplied) → SuitsRdmsrOfAll files supplied
+        → TextReadsAs Rdmsr (ended (rdmsr_all_lines files)) supplied (dump_of_all files) }
 {}
 
 /// What inteltool prints of a register file reads back as the file, if words supply its width. So does any log that has each of
@@ -34,6 +43,13 @@ pub fn what_inteltool_prints_reads_back()
 pub fn what_x86info_prints_reads_back()
     ensures { (print : Print) (file : RegisterFile) (supplied : Supplied) → SuitsX86info print file supplied
         → TableReadsBack X86info (x86info_lines print file) supplied file }
+{}
+
+/// What x86info prints of each processor with `--all-cpus` reads back as the dump with a section for each, if words supply what it
+/// doesn't print. A word is for all processors.
+pub fn what_x86info_prints_of_all_reads_back()
+    ensures { (cpus : List (Print × RegisterFile)) (supplied : Supplied) → SuitsX86infoOfAll cpus supplied
+        → ReadsAs (log_told (Only X86info) supplied (ended (cpu_lines 0 cpus))) (dump_of_all (files_in cpus)) }
 {}
 
 /// What coreboot displays of a register file reads back as the file, if words supply its width and its PAT. So does any log that has
@@ -112,4 +128,12 @@ pub fn worked_prints()
     ensures by_coreboot { coreboot_line true some_tails ordinary_pc (Some (PhysMask 2))
         ≡ codes "[DEBUG]  0x0000000fe0000800: PHYMASK2: Length  = 0x0000000020000000, Valid" }
     ensures by_edk2 { pair_line 3 (pair_at ordinary_pc.pairs 3) ≡ codes "Variable MTRR[03]: Base=00000000E0000000 Mask=0000000FE0000800" }
+{}
+
+/// The registers of two processors, one with another default type, are an instance for the programs that print several.
+pub fn worked_cpus()
+    ensures rdmsr { SuitsRdmsrOfAll two_cpus width_36 }
+    ensures x86info { SuitsX86infoOfAll two_prints words_for_x86info }
+    ensures call { all_line 0x2ff ≡ codes "+ rdmsr -a 0x2ff" }
+    ensures cpu { cpu_line 1 ≡ codes "CPU #2:" }
 {}
