@@ -10,16 +10,17 @@ use Rattle.mt_text.specs.Number.{decimal_number, is_decimal_digit}
 use Rattle.mt_text.specs.declared.place.Place.{Place}
 use Rattle.mt_text.proofs.Plain.{is_plain}
 use Rattle.mt_regs.specs.Registers.{fixed_numbers}
-use Rattle.mt_import.specs.declared.format.Format.TheVariants.{Edk2}
+use Rattle.mt_import.specs.declared.format.Format.TheVariants.{Coreboot, Edk2, Linux, Xen}
 use Rattle.mt_import.specs.declared.reading.Said.{Said}
 use Rattle.mt_import.specs.declared.reading.Said.TheVariants.{Shows}
 use Rattle.mt_import.specs.Edk2.{fixed_number, said_by_words, shows_pair}
 use Rattle.mt_import.specs.Linux.{pair_numbered}
 use Rattle.mt_import.specs.Pieces.{shown_as, shows_one, sixteen_digits as sixteen_read_of}
 use Rattle.mt_import.specs.Readings.{two_shown}
-use Rattle.mt_import.specs.Shown.{said_of, said_or_sizes}
+use Rattle.mt_import.specs.Shown.{format_told, is_telling, said_of, said_or_sizes, tells}
 use Rattle.mt_import_laws.specs.PrintedByEdk2.{default_line, fixed_line, pair_line, sixteen_digits, two_digits}
 use Rattle.mt_import_laws.proofs.PrintedDigits.{sixteen_all, sixteen_long, sixteen_number}
+use Rattle.mt_import_laws.proofs.Tells.{coreboot_by, edk2_by, linux_by, xen_by}
 use Rattle.mt_import_laws.proofs.LineWords.{AreWords, IsWord, are_apart, digits_are_word, length_of_pieces, line_with, pieces_plain, placed, size_of, word_append, words_of_pieces}
 
 long : (value : ℕ) → length (sixteen_digits value) ≡ 16
@@ -115,6 +116,24 @@ module _ (value : ℕ) where
   default_said number fits =
       said_by number (default_line value) (0, codes "MTRR") default_others default_is default_words refl default_size (shows_one (Some 0) (Some 0x2ff) (Some value) (default_place number))
       (ap (λ v. shows_one (Some 0) (Some 0x2ff) v (default_place number)) (value_read value fits)) refl
+
+  default_found : words_of (default_line value) ≡ placed 0 ((0, codes "MTRR") ∷ default_others) []
+  default_found = ap words_of default_is ∙ words_of_pieces (0, codes "MTRR") default_others [] default_words refl refl refl
+
+  default_short : nat_lt 4096 (length (default_line value)) ≡ false
+  default_short = let size = ap length default_is ∙ length_of_pieces ((0, codes "MTRR") ∷ default_others) [] in let few = default_size in within_limit (length (default_line value)) (omega (arith, size, few))
+
+  -- the line tells the format
+  pub default_told : (number : ℕ) → value < 2 ^ 64 → format_told number (default_line value) ≡ Some Edk2
+  default_told number fits =
+      let line = default_line value in
+      let ws = placed 0 ((0, codes "MTRR") ∷ default_others) [] in
+      let xen : tells Xen number line ≡ false = xen_by number line ws default_found in
+      let linux : tells Linux number line ≡ false = linux_by number line ws default_found in
+      let coreboot : tells Coreboot number line ≡ false = coreboot_by number line ws default_found in
+      let own : tells Edk2 number line ≡ true =
+      edk2_by number line ws default_found ∙ ap (λ v. is_telling (shows_one (Some 0) (Some 0x2ff) v (place_of number (take 7 ws) 3))) (value_read value fits) in
+      rw (default_short, xen, linux, coreboot, own) refl
 
 -- ---- a fixed-range register
 

@@ -10,13 +10,14 @@ use Rattle.mt_import.specs.declared.format.Format.TheVariants.{Edk2}
 use Rattle.mt_import.specs.declared.reading.Said.TheVariants.{Shows}
 use Rattle.mt_import.specs.Pieces.{shown_as}
 use Rattle.mt_import.specs.Readings.{two_shown}
-use Rattle.mt_import.specs.Shown.{said_of}
+use Rattle.mt_import.specs.Shown.{said_of, tells}
 use Rattle.mt_import.specs.Supplied.{Supplied}
 use Rattle.mt_import_laws.specs.Origins.{IsAmong}
+use Rattle.mt_import_laws.specs.FirstLine.{LinesTellFirst, says_same}
 use Rattle.mt_import_laws.specs.Printed.{Key, TableReadsBack, value_in}
 use Rattle.mt_import_laws.specs.PrintedByEdk2.{SuitsEdk2, edk2_lines, is_valid, no_pair_line, or_none, own_line, pair_line, pair_lines, valid_from}
 use Rattle.mt_import_laws.proofs.Among.{all_map, among_join, among_map, each_among, join_among_first, join_among_second, map_among}
-use Rattle.mt_import_laws.proofs.Edk2Lines.{base_place, default_place, default_plain, default_said, fixed_place, fixed_plain, fixed_said, mask_place, pair_plain, pair_said}
+use Rattle.mt_import_laws.proofs.Edk2Lines.{base_place, default_place, default_plain, default_said, default_told, fixed_place, fixed_plain, fixed_said, mask_place, pair_plain, pair_said}
 use Rattle.mt_import_laws.proofs.KeyLines.{ShowsAlone, has_line, lines_true}
 use Rattle.mt_import_laws.proofs.Keys.{IsKey}
 use Rattle.mt_import_laws.proofs.PrintedBack.{HasLine, IsGiven, IsInFile, fits, key_in_file, table_back}
@@ -285,3 +286,10 @@ module _ (file : RegisterFile) (supplied : Supplied) (suits : SuitsEdk2 file sup
   reads =
       table_back file Edk2 (edk2_lines file) supplied suits.is_file suits.has_words suits.agrees (inl suits.width)
       (record { each = table_true; all = each_key }) table_plain
+
+-- The default type's line tells the format.
+pub told_first : (file : RegisterFile) (supplied : Supplied) → SuitsEdk2 file supplied → LinesTellFirst Edk2 1 (edk2_lines file)
+unfolding tells
+told_first file supplied suits =
+    let first = default_told file.default_type 3 (fits file (Some DefaultType) suits.is_file suits.has_words tt) in
+    inr (record { none = refl; alike = says_same refl }, inr (record { none = refl; alike = says_same refl }, inl first))

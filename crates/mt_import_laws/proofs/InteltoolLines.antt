@@ -1,22 +1,23 @@
 -- What a line of inteltool is read as.
-use Rattle.std.proofs.Common.{◌≡◌, ◌∙◌, ◌+◌, ◌*◌, ◌/◌, ◌%◌, ◌^◌, ◌<◌, ◌≤◌, nat_lt, ℕ, suc, true, false, List, [], ◌∷◌, ◌++◌, length, take, drop, position, Some, None, refl, ap, arith, lit≤, length-append, codes}
+use Rattle.std.proofs.Common.{◌≡◌, ◌∙◌, ◌+◌, ◌*◌, ◌/◌, ◌%◌, ◌^◌, ◌<◌, ◌≤◌, nat_lt, ℕ, suc, true, false, List, [], ◌∷◌, ◌++◌, length, take, drop, position, Some, None, refl, ap, arith, lit≤, append-nil, length-append, codes}
 use Rattle.std.specs.List.{list_all, position_or_len}
 use Rattle.std.proofs.lemmas.Bool.{and_parts}
 use Rattle.std.proofs.lemmas.Bool.Decides.{nat_tests}
 use Rattle.std.proofs.Math.Seq.{take-append_seam}
 use Rattle.hex.specs.Hex.{is_hex_digit, upper_digits}
 use Rattle.hex.proofs.HexLemmas.{IsDigits-upper_digits}
-use Rattle.mt_text.specs.Text.{words_of}
+use Rattle.mt_text.specs.Text.{is_word_byte, words_of}
 use Rattle.mt_text.specs.Words.{place_of}
 use Rattle.mt_text.specs.declared.place.Place.{Place}
 use Rattle.mt_text.proofs.Plain.{is_plain}
-use Rattle.mt_import.specs.declared.format.Format.TheVariants.{Inteltool}
+use Rattle.mt_import.specs.declared.format.Format.TheVariants.{Coreboot, Edk2, Inteltool, Linux, Xen}
 use Rattle.mt_import.specs.Inteltool.{halves_at, halves_value, inteltool_said, is_colon, of_halves, said_by_words}
 use Rattle.mt_import.specs.Pieces.{prefixed_register, shows_one, whole_number}
-use Rattle.mt_import.specs.Shown.{said_of, said_or_sizes}
+use Rattle.mt_import.specs.Shown.{format_told, is_telling, said_of, said_or_sizes, tells}
 use Rattle.mt_import_laws.specs.PrintedByInteltool.{eight_digits, halves_text, is_name_byte, register_line}
 use Rattle.mt_import_laws.proofs.PrintedDigits.{eight_all, eight_long, eight_read}
-use Rattle.mt_import_laws.proofs.LineWords.{AreWords, IsWord, all_append, digits_are_word, length_of_pieces, pieces_plain, placed, word_append, words_of_pieces}
+use Rattle.mt_import_laws.proofs.Tells.{coreboot_by, edk2_by, inteltool_by, linux_by, xen_by}
+use Rattle.mt_import_laws.proofs.LineWords.{AreWords, IsWord, all_append, digits_are_word, length_of_pieces, line_with, pieces_plain, placed, word_append, words_of_pieces}
 
 long : (value : ℕ) → length (eight_digits value) ≡ 8
 long value = eight_long upper_digits IsDigits-upper_digits value
@@ -89,6 +90,15 @@ halves_read value fits =
 name_byte : (byte : ℕ) → is_name_byte byte ≡ true → is_plain byte ≡ true
 name_byte byte is = grind (arith, nat_tests)
 
+name_letter : (byte : ℕ) → is_name_byte byte ≡ true → is_word_byte byte ≡ true
+name_letter byte is = grind (arith, nat_tests)
+
+name_word : (name : List ℕ) → list_all is_name_byte name ≡ true → list_all is_word_byte name ≡ true
+name_word [] all = refl
+name_word (byte ∷ name) all =
+    let parts = and_parts (is_name_byte byte) (list_all is_name_byte name) all in
+    rw (name_letter byte parts.0) (name_word name parts.1)
+
 name_plain : (name : List ℕ) → list_all is_name_byte name ≡ true → list_all is_plain name ≡ true
 name_plain [] all = refl
 name_plain (byte ∷ name) all =
@@ -156,3 +166,35 @@ module _ (register value : ℕ) (name : List ℕ) (few : length name ≤ 64) (na
       ∙ ap (λ r. shows_one None r (halves_value (halves_text value)) (place number)) (register_read register small)
       ∙ ap (λ v. shows_one None (Some register) v (place number)) (halves_read value fits) in
       rw short (ap (λ s. said_or_sizes s number (register_line register value name)) said)
+
+  -- ---- the line tells the format
+
+  abbrev all_others : List (ℕ × List ℕ)
+  all_others = (1, codes "0x" ++ eight_digits register) ∷ (1, codes "=") ∷ (1, halves_text value) ∷ (1, codes "(" ++ (name ++ codes ")")) ∷ []
+
+  all_is : register_line register value name ≡ line_with ((1, codes "MSR") ∷ all_others) []
+  all_is = rw (append-nil (name ++ codes ")")) refl
+
+  all_words : AreWords ((1, codes "MSR") ∷ all_others)
+  all_words =
+      let bytes = name_word name named in
+      let last = all_append is_word_byte name (codes ")") bytes refl in
+      let last_plain = all_append is_plain name (codes ")") (name_plain name named) refl in
+      (are_words.0, (are_words.1.0, (are_words.1.1.0, (are_words.1.1.1.0, (word_append (codes "(") (name ++ codes ")") (lit≤ tt, refl, refl) last last_plain, tt)))))
+
+  found : words_of (register_line register value name) ≡ placed 0 ((1, codes "MSR") ∷ all_others) []
+  found = ap words_of all_is ∙ words_of_pieces (1, codes "MSR") all_others [] all_words refl refl refl
+
+  pub told : (number : ℕ) → register < 0x1000 → value < 2 ^ 64 → format_told number (register_line register value name) ≡ Some Inteltool
+  told number small fits =
+      let line = register_line register value name in
+      let ws = placed 0 ((1, codes "MSR") ∷ all_others) [] in
+      let xen : tells Xen number line ≡ false = xen_by number line ws found in
+      let linux : tells Linux number line ≡ false = linux_by number line ws found in
+      let coreboot : tells Coreboot number line ≡ false = coreboot_by number line ws found in
+      let edk2 : tells Edk2 number line ≡ false = edk2_by number line ws found in
+      let own : tells Inteltool number line ≡ true =
+      inteltool_by number line ws found
+      ∙ ap (λ r. is_telling (shows_one None r (halves_value (halves_text value)) (place_of number (take 7 ws) 3))) (register_read register small)
+      ∙ ap (λ v. is_telling (shows_one None (Some register) v (place_of number (take 7 ws) 3))) (halves_read value fits) in
+      rw (short, xen, linux, coreboot, edk2, own) refl

@@ -1,16 +1,17 @@
 -- What inteltool prints reads back.
-use Rattle.std.proofs.Common.{◌≡◌, ◌^◌, ◌<◌, ℕ, true, List, None, refl, subst, inl, inr}
+use Rattle.std.proofs.Common.{◌≡◌, ◌^◌, ◌<◌, ℕ, true, List, None, refl, subst, inl, inr, lit<}
 use Rattle.std.specs.List.{AllByRecursion, list_all}
 use Rattle.mt_text.proofs.Plain.{is_plain}
 use Rattle.mt_regs.specs.RegisterFile.{RegisterFile}
 use Rattle.mt_import.specs.declared.format.Format.TheVariants.{Inteltool}
-use Rattle.mt_import.specs.Shown.{said_of}
+use Rattle.mt_import.specs.Shown.{said_of, tells}
 use Rattle.mt_import.specs.Supplied.{Supplied}
 use Rattle.mt_import_laws.specs.Origins.{IsAmong}
+use Rattle.mt_import_laws.specs.FirstLine.{LinesTellFirst, only_turns}
 use Rattle.mt_import_laws.specs.Printed.{Key, TableReadsBack, number_at, value_in}
 use Rattle.mt_import_laws.specs.PrintedByInteltool.{Names, SuitsInteltool, inteltool_lines, line_of}
 use Rattle.mt_import_laws.proofs.Among.{all_map}
-use Rattle.mt_import_laws.proofs.InteltoolLines.{line_plain, place, register_said}
+use Rattle.mt_import_laws.proofs.InteltoolLines.{line_plain, place, register_said, told}
 use Rattle.mt_import_laws.proofs.KeyLines.{ShowsAlone, all_keys, among_all, has_line, in_file, lines_true, low}
 use Rattle.mt_import_laws.proofs.Keys.{IsKey}
 use Rattle.mt_import_laws.proofs.PrintedBack.{HasLine, IsInFile, fits, key_in_file, table_back}
@@ -61,3 +62,11 @@ pub reads : (names : Names) (file : RegisterFile) (supplied : Supplied) → Suit
 reads names file supplied suits =
     table_back file Inteltool (inteltool_lines names file) supplied suits.is_file suits.has_words suits.agrees (inl suits.width)
     (record { each = table_true names file supplied suits; all = λ key inside. inl (table_has names file supplied suits key inside) }) (table_plain names file supplied suits)
+
+-- The first register's line tells the format.
+pub told_first : (names : Names) (file : RegisterFile) (supplied : Supplied) → SuitsInteltool names file supplied → LinesTellFirst Inteltool 1 (inteltool_lines names file)
+unfolding tells
+told_first names file supplied suits =
+    let named = suits.are_names None in
+    let first = told 0xfe file.capabilities (names None) named.0 named.1 3 (lit< tt) (fits file None suits.is_file suits.has_words tt) in
+    inr (record { none = refl; alike = only_turns refl refl }, inr (record { none = refl; alike = only_turns refl refl }, inl first))

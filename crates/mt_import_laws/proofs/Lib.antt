@@ -29,6 +29,7 @@ mod Back
 mod PrintedBack
 mod AutoReads
 mod KeyLines
+mod Tells
 mod InteltoolLines
 mod InteltoolTable
 mod CorebootLines

@@ -79,6 +79,12 @@ pub fn what_linux_prints_reads_back()
     ensures { (log : Log) (file : RegisterFile) (supplied : Supplied) → SuitsLinux log file supplied → TableReadsInOrder Linux (linux_lines log file) supplied file }
 {}
 
+/// The format of what inteltool and EDK2 print of a register file is told by its first line that tells one, so that `auto` takes it.
+pub fn auto_takes_what_is_printed()
+    ensures inteltool { (names : Names) (file : RegisterFile) (supplied : Supplied) → SuitsInteltool names file supplied → LinesTellFirst Inteltool 1 (inteltool_lines names file) }
+    ensures edk2 { (file : RegisterFile) (supplied : Supplied) → SuitsEdk2 file supplied → LinesTellFirst Edk2 1 (edk2_lines file) }
+{}
+
 /// What each program prints of an ordinary PC is an instance of `auto_takes_the_first_format`.
 pub fn worked_formats()
     ensures rdmsr { LinesTellFirst Rdmsr 1 (rdmsr_lines ordinary_pc) }

@@ -1,0 +1,36 @@
+-- Whether a line tells a format, by its words.
+use Rattle.std.proofs.Common.{◌≡◌, ℕ, true, List, drop, take, ap, codes}
+use Rattle.std.specs.Prelude.{if◌then◌else◌}
+use Rattle.mt_text.specs.Text.{words_of}
+use Rattle.mt_text.specs.Words.{text_of}
+use Rattle.mt_import.specs.declared.format.Format.TheVariants.{Coreboot, Edk2, Inteltool, Linux, Xen}
+use Rattle.mt_import.specs.declared.reading.Said.TheVariants.{Nothing}
+use Rattle.mt_import.specs.Coreboot.{level_words, said_from}
+use Rattle.mt_import.specs.Edk2.{said_by_words as edk2_words}
+use Rattle.mt_import.specs.Inteltool.{said_by_words as inteltool_words}
+use Rattle.mt_import.specs.Kernel.{kernel_said}
+use Rattle.mt_import.specs.LineWords.{behind_stamp, head_end}
+use Rattle.mt_import.specs.Linux.{linux_words_said}
+use Rattle.mt_import.specs.Pieces.{is_text}
+use Rattle.mt_import.specs.Shown.{is_telling, tells}
+
+module _ (number : ℕ) (line : List ℕ) (words : List (ℕ × List ℕ)) (are : words_of line ≡ words) where
+  pub xen_by : tells Xen number line ≡ is_telling (if is_text (codes "(XEN)") (text_of words 0) then kernel_said true number (drop (behind_stamp 1 words) words) else Nothing)
+  unfolding tells
+  xen_by = ap (λ ws. is_telling (if is_text (codes "(XEN)") (text_of ws 0) then kernel_said true number (drop (behind_stamp 1 ws) ws) else Nothing)) are
+
+  pub linux_by : tells Linux number line ≡ is_telling (linux_words_said number (drop (head_end words) words))
+  unfolding tells
+  linux_by = ap (λ ws. is_telling (linux_words_said number (drop (head_end ws) ws))) are
+
+  pub coreboot_by : tells Coreboot number line ≡ is_telling (said_from (level_words words) number words)
+  unfolding tells
+  coreboot_by = ap (λ ws. is_telling (said_from (level_words ws) number ws)) are
+
+  pub edk2_by : tells Edk2 number line ≡ is_telling (edk2_words number (take 7 words))
+  unfolding tells
+  edk2_by = ap (λ ws. is_telling (edk2_words number (take 7 ws))) are
+
+  pub inteltool_by : tells Inteltool number line ≡ is_telling (inteltool_words number (take 7 words))
+  unfolding tells
+  inteltool_by = ap (λ ws. is_telling (inteltool_words number (take 7 ws))) are
