@@ -30,6 +30,7 @@ use Rattle.mt_types.specs.declared.run.Run.{Run}
 use Rattle.mt_types.specs.Runs.{kind_at}
 use Rattle.mt_tidy.specs.declared.range.Range.{Range}
 use Rattle.mt_tidy.specs.Ranges.{holds_page, types_at}
+use Rattle.mt_tidy.specs.Sound.{Passes}
 use Rattle.mt_tidy.specs.Wanted.{IsBlock, IsRangeOf, IsWanted, Gives, is_free}
 use Rattle.mt_tidy.specs.declared.rules.Rules.{Rules}
 use Rattle.mt_tidy.specs.Cost.{rules_of}
@@ -120,14 +121,7 @@ pub kind_among : (f : RegisterFile) → f.width ≤ 52 → (ranges : List Range)
     → page_type (with_ranges f ranges) page ≡ page_type_among f (types_at ranges page) page
 kind_among f narrow ranges of page below = ap (λ ts. page_type_among f ts page) (types_are f narrow ranges of page below)
 
--- what the values of a pair pass where no register has a fault
-record Passes (f : RegisterFile) (pair : ℕ × ℕ) : Type 0 where
-  base_bits : (not (bits pair.0 8 4 == 0) || not (pair.0 / 2 ^ f.width == 0)) ≡ false
-  base_type : not (is_supported (has_write_combining f) (low_byte pair.0)) ≡ false
-  mask_bits : (not (pair.1 % 2 ^ 11 == 0) || not (pair.1 / 2 ^ f.width == 0)) ≡ false
-  mask_run : (is_bit_set pair.1 11 && not (is_run (f.width - 12) (page_field f.width pair.1))) ≡ false
-
-no_bits : (a b c : ℕ) → a ≡ 0 → b ≡ 0 → (not (a == 0) || not (b == 0)) ≡ false
+pub no_bits : (a b c : ℕ) → a ≡ 0 → b ≡ 0 → (not (a == 0) || not (b == 0)) ≡ false
 no_bits a b c first second = rw (first, second) refl
 
 pages_to_bytes : (width : ℕ) → 32 ≤ width → 2 ^ width ≡ 4096 * 2 ^ (width - 12)
@@ -157,7 +151,7 @@ range_passes f wide narrow r is =
     sound true b e = rw e refl
     sound false b e = refl
 
-zeros_no_fault : (f : RegisterFile) → Passes f (0, 0)
+pub zeros_no_fault : (f : RegisterFile) → Passes f (0, 0)
 zeros_no_fault f =
     let high : 0 / 2 ^ f.width ≡ 0 = div-eq_of_lt (pow_pos f.width) in
     record { base_bits = no_bits 0 (0 / 2 ^ f.width) 0 refl high; base_type = refl; mask_bits = no_bits 0 (0 / 2 ^ f.width) 0 refl high; mask_run = refl }
@@ -170,20 +164,20 @@ pair_passes P zeros pair [] all (suc count) (suc n) = pair_passes P zeros pair [
 pair_passes P zeros pair (r ∷ rs) all count zero = all.0
 pair_passes P zeros pair (r ∷ rs) all count (suc n) = pair_passes P zeros pair rs all.1 count n
 
-no_reason : (a b c : Bool) → a ≡ false → b ≡ false → c ≡ false → (if a then Some ReservedBit else if b then Some UnsupportedType else if c then Some BrokenMask else None) ≡ None
+pub no_reason : (a b c : Bool) → a ≡ false → b ≡ false → c ≡ false → (if a then Some ReservedBit else if b then Some UnsupportedType else if c then Some BrokenMask else None) ≡ None
 no_reason a b c x y z = rw (x, y, z) refl
 
-base_sound : (f : RegisterFile) (n : ℕ) → Passes f (pair_at f.pairs n) → reason_of f (PhysBase n) ≡ None
+pub base_sound : (f : RegisterFile) (n : ℕ) → Passes f (pair_at f.pairs n) → reason_of f (PhysBase n) ≡ None
 base_sound f n passes = no_reason (has_reserved_bit f (PhysBase n) (value_of f (PhysBase n))) (has_unsupported_type f (PhysBase n) (value_of f (PhysBase n))) false passes.base_bits passes.base_type refl
 
-mask_sound : (f : RegisterFile) (n : ℕ) → Passes f (pair_at f.pairs n) → reason_of f (PhysMask n) ≡ None
+pub mask_sound : (f : RegisterFile) (n : ℕ) → Passes f (pair_at f.pairs n) → reason_of f (PhysMask n) ≡ None
 mask_sound f n passes = no_reason (has_reserved_bit f (PhysMask n) (value_of f (PhysMask n))) false (has_broken_mask f (PhysMask n) (value_of f (PhysMask n))) passes.mask_bits refl passes.mask_run
 
-fault_free : (r : Register) (why : Option Reason) (rest : Option Fault) → why ≡ None → option_or (fault_at r why) rest ≡ rest
+pub fault_free : (r : Register) (why : Option Reason) (rest : Option Fault) → why ≡ None → option_or (fault_at r why) rest ≡ rest
 fault_free r why rest e = rw e refl
 
 -- sound pairs leave the first fault to the registers after them
-pairs_first : (f : RegisterFile) → ((n : ℕ) → Passes f (pair_at f.pairs n)) → (first count : ℕ) (others : List Register)
+pub pairs_first : (f : RegisterFile) → ((n : ℕ) → Passes f (pair_at f.pairs n)) → (first count : ℕ) (others : List Register)
     → first_of f (pair_registers first count ++ others) ≡ first_of f others
 pairs_first f sound first zero others = refl
 pairs_first f sound first (suc count) others =
@@ -199,7 +193,7 @@ back_none : (f : RegisterFile) (front others : List Register) → first_of f (fr
 back_none f [] others h = h
 back_none f (r ∷ rs) others h = back_none f rs others (right_none _ _ h)
 
-other_registers : RegisterFile → List Register
+unfoldable pub other_registers : RegisterFile → List Register
 other_registers f = fixed_part_of f ++ Pat ∷ DefaultType ∷ []
 
 others_same : (f : RegisterFile) (pairs : List (ℕ × ℕ)) → first_of (record f { pairs = pairs }) (other_registers f) ≡ first_of f (other_registers f)
@@ -233,7 +227,7 @@ checked_of f = by_register (register_fault f) refl
     by_register None is = λ accepted. is
     by_register (Some fault) is = λ accepted. let h : None ≡ Some fault = rw is at accepted in absurd (cc h)
 
-accepted_of : (f : RegisterFile) → register_fault f ≡ None → IsOverlap f None → IsAccepted f
+pub accepted_of : (f : RegisterFile) → register_fault f ≡ None → IsOverlap f None → IsAccepted f
 accepted_of f checked defined = rw checked defined
 
 module _ (f : RegisterFile) (wide : 32 ≤ f.width) (narrow : f.width ≤ 52) (accepted : IsAccepted f) (enabled : is_enabled f ≡ true)

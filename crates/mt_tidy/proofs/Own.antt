@@ -148,7 +148,7 @@ same_default (x ∷ xs) zero d e within = refl
 same_default (x ∷ xs) (suc k) d e within = same_default xs k d e (omega arith)
 
 module _ (f : RegisterFile) (good : IsRegisterFile f) (accepted : IsAccepted f) (enabled : is_enabled f ≡ true) where
-  Supported : MemType → Type 0
+  unfoldable pub Supported : MemType → Type 0
   Supported t = is_supported (has_write_combining f) (byte_of_type t) ≡ true
 
   checked : first_of f (writable f) ≡ None
@@ -205,7 +205,7 @@ module _ (f : RegisterFile) (good : IsRegisterFile f) (accepted : IsAccepted f) 
       (recursion_from_All (λ pair. Supported (pair_type pair)) f.pairs
       (λ k d within. subst (λ pair. Supported (pair_type pair)) (same_default f.pairs k (0, 0) d within) (pair_supported k within)))
 
-  page_supported : (page : ℕ) → page < page_count f → (t : MemType) × (page_type f page ≡ Kind t) × Supported t
+  pub page_supported : (page : ℕ) → page < page_count f → (t : MemType) × (page_type f page ≡ Kind t) × Supported t
   unfolding Supported
   page_supported page below = by_free (cases_Bool (is_free f page))
     where
@@ -233,11 +233,15 @@ own_runs f good accepted enabled runs are = record {
       (found.0, sym (are.kinds k d within (slice_index_or runs k d).first (omega arith, place.1)) ∙ found.1, found.2);
 }
 
--- lists that give a file's own runs are those that keep its types
-module _ (f : RegisterFile) (accepted : IsAccepted f) (enabled : is_enabled f ≡ true) (runs : List Run) (are : IsRunsOf f runs) where
-  own_kind : (page : ℕ) → page < page_count f → kind_at runs page ≡ page_type f page
-  own_kind page below = kind_is f 0 runs page are.map.chain (omega arith) (omega (arith, are.whole, below)) are.kinds
+-- the runs give the file's type to each page that isn't free
+abbrev pub KeepsKinds : RegisterFile → List Run → Type 0
+KeepsKinds f runs = (page : ℕ) → page < page_count f → is_free f page ≡ false → kind_at runs page ≡ page_type f page
 
+own_kinds : (f : RegisterFile) (runs : List Run) → IsRunsOf f runs → KeepsKinds f runs
+own_kinds f runs are page below nonfree = kind_is f 0 runs page are.map.chain (omega arith) (omega (arith, are.whole, below)) are.kinds
+
+-- lists that give such runs are those that keep the file's types
+module _ (f : RegisterFile) (accepted : IsAccepted f) (enabled : is_enabled f ≡ true) (runs : List Run) (own_kind : KeepsKinds f runs) where
   free_kind : (types : List MemType) (page : ℕ) → is_free f page ≡ true → page_type_among f types page ≡ Kind (fixed_type f page)
   free_kind types page free = rw (enabled, free) refl
 
@@ -246,7 +250,7 @@ module _ (f : RegisterFile) (accepted : IsAccepted f) (enabled : is_enabled f �
     ranges_of = gives.ranges_of;
     same_types = λ page below. elim (cases_Bool (is_free f page)) [
       | inl free ↦ free_kind (types_at ranges page) page free ∙ sym (free_kind (matching_types f page) page free)
-      | inr nonfree ↦ sym (gives.wanted_kinds page below nonfree) ∙ own_kind page below
+      | inr nonfree ↦ sym (gives.wanted_kinds page below nonfree) ∙ own_kind page below nonfree
     ];
     defined = no_undefined f accepted;
   }
@@ -254,7 +258,7 @@ module _ (f : RegisterFile) (accepted : IsAccepted f) (enabled : is_enabled f �
   gives_of : (ranges : List Range) → Keeps f ranges → Gives f runs ranges
   gives_of ranges keeps = record {
     ranges_of = keeps.ranges_of;
-    wanted_kinds = λ page below nonfree. own_kind page below ∙ sym (keeps.same_types page below);
+    wanted_kinds = λ page below nonfree. own_kind page below nonfree ∙ sym (keeps.same_types page below);
   }
 
   least_of : (chunk count : ℕ) → IsLeastFor f runs chunk count → IsLeast f chunk count
@@ -269,7 +273,7 @@ module _ (f : RegisterFile) (accepted : IsAccepted f) (enabled : is_enabled f �
     none_shorter = λ ranges gives allowed. least.none_shorter ranges (keeps_of ranges gives) allowed;
   }
 
-  tidy_of : (chunk spare : ℕ) (new : RegisterFile) (used : ℕ) → IsTidied f runs chunk spare new used → IsTidy f chunk spare new used
+  pub tidy_of : (chunk spare : ℕ) (new : RegisterFile) (used : ℕ) → IsTidied f runs chunk spare new used → IsTidy f chunk spare new used
   tidy_of chunk spare new used tidied = record {
     old_accepted = accepted;
     enabled = enabled;
@@ -287,11 +291,11 @@ module _ (f : RegisterFile) (accepted : IsAccepted f) (enabled : is_enabled f �
     accepted = tidied.accepted;
     same_types = λ page below. elim (cases_Bool (is_free f page)) [
       | inl free ↦ tidied.free page free
-      | inr nonfree ↦ tidied.kinds page below nonfree ∙ own_kind page below
+      | inr nonfree ↦ tidied.kinds page below nonfree ∙ own_kind page below nonfree
     ];
   }
 
-  more_of : (chunk spare needs has : ℕ) → IsTooFew f runs chunk spare needs has → NeedsMore f chunk spare needs has
+  pub more_of : (chunk spare needs has : ℕ) → IsTooFew f runs chunk spare needs has → NeedsMore f chunk spare needs has
   more_of chunk spare needs has few = record {
     accepted = accepted;
     enabled = enabled;
@@ -303,25 +307,25 @@ module _ (f : RegisterFile) (accepted : IsAccepted f) (enabled : is_enabled f �
 -- a file that gives the file's own runs keeps each page's type
 pub tidy_file : (f : RegisterFile) → IsAccepted f → is_enabled f ≡ true → (runs : List Run) → IsRunsOf f runs
     → (chunk spare : ℕ) (new : RegisterFile) (used : ℕ) → IsTidied f runs chunk spare new used → IsTidy f chunk spare new used
-tidy_file = tidy_of
+tidy_file f accepted enabled runs are = tidy_of f accepted enabled runs (own_kinds f runs are)
 
 pub keeps_is_gives : (f : RegisterFile) → IsAccepted f → is_enabled f ≡ true → (runs : List Run) → IsRunsOf f runs
     → (ranges : List Range) → Keeps f ranges ↔ Gives f runs ranges
-keeps_is_gives f accepted enabled runs are ranges = (gives_of f accepted enabled runs are ranges, keeps_of f accepted enabled runs are ranges)
+keeps_is_gives f accepted enabled runs are ranges = (gives_of f accepted enabled runs (own_kinds f runs are) ranges, keeps_of f accepted enabled runs (own_kinds f runs are) ranges)
 
 pub least_is_least_for : (f : RegisterFile) → IsAccepted f → is_enabled f ≡ true → (runs : List Run) → IsRunsOf f runs
     → (chunk count : ℕ) → IsLeast f chunk count ↔ IsLeastFor f runs chunk count
-least_is_least_for f accepted enabled runs are chunk count = (least_for_of f accepted enabled runs are chunk count, least_of f accepted enabled runs are chunk count)
+least_is_least_for f accepted enabled runs are chunk count = (least_for_of f accepted enabled runs (own_kinds f runs are) chunk count, least_of f accepted enabled runs (own_kinds f runs are) chunk count)
 
 pub needs_more : (f : RegisterFile) → IsAccepted f → is_enabled f ≡ true → (runs : List Run) → IsRunsOf f runs
     → (chunk spare needs has : ℕ) → IsTooFew f runs chunk spare needs has → NeedsMore f chunk spare needs has
-needs_more = more_of
+needs_more f accepted enabled runs are = more_of f accepted enabled runs (own_kinds f runs are)
 
 pub least_number : (f : RegisterFile) (chunk : ℕ) → IsRegisterFile f → IsAccepted f → is_enabled f ≡ true → (count : ℕ) × IsLeast f chunk count
 least_number f chunk good accepted enabled =
     let runs = a_type_map f good in
     let cost = cost_is_least f runs.0 chunk enabled (own_runs f good accepted enabled runs.0 runs.1) in
-    (cost.0, least_of f accepted enabled runs.0 runs.1 chunk cost.0 cost.2)
+    (cost.0, least_of f accepted enabled runs.0 (own_kinds f runs.0 runs.1) chunk cost.0 cost.2)
 
 pub one_least : (f : RegisterFile) (chunk a b : ℕ) → IsLeast f chunk a → IsLeast f chunk b → a ≡ b
 one_least f chunk a b first second =

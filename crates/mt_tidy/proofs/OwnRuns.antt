@@ -1,62 +1,33 @@
--- The runs of a file, from the parts of its table.
-use Rattle.std.proofs.Common.{◌≡◌, ◌≢◌, ◌∙◌, ap, refl, sym, arith, false, ℕ, zero, suc, ◌+◌, ◌-◌, ◌<◌, ◌≤◌, List, [], ◌∷◌, length, map, inl, inr}
+-- A file's own runs can be wanted.
+use Rattle.std.proofs.Common.{◌≡◌, ◌∙◌, ℕ, ◌-◌, ◌^◌, ◌<◌, ◌≤◌, Bool, true, false, List, None, refl, sym, ap, subst, ◌⊎◌, inl, inr, arith}
+use Rattle.std.specs.Prelude.{max, if◌then◌else◌}
 use Rattle.std.specs.List.{All, slice_index_or}
-use Rattle.std.proofs.lemmas.Bool.{cases_Bool}
-use Rattle.std.proofs.lemmas.List.{length-map}
-use Rattle.mt_kinds.specs.declared.mem_type.MemType.{MemType}
+use Rattle.std.proofs.lemmas.Bool.{cases_Bool, ltb-false}
+use Rattle.std.proofs.Math.Pow.{pow_mono}
 use Rattle.mt_kinds.specs.declared.mem_type.MemType.TheVariants.{UC}
-use Rattle.mt_regs.specs.declared.page_type.PageType.{PageType}
 use Rattle.mt_regs.specs.declared.page_type.PageType.TheVariants.{Kind, Undefined}
-use Rattle.mt_regs.specs.Faults.{IsAccepted}
-use Rattle.mt_regs.specs.PageTypes.{defined_type, page_type}
-use Rattle.mt_regs.specs.RegisterFile.{IsRegisterFile, RegisterFile, is_enabled}
-use Rattle.mt_tidy.specs.OwnParts.{ArePartsOf}
-use Rattle.mt_tidy.specs.Wanted.{IsWanted}
-use Rattle.mt_trie.specs.Wishes.{IsDefined}
+use Rattle.mt_regs.specs.Faults.{IsAccepted, register_fault}
+use Rattle.mt_regs.specs.PageTypes.{fixed_type, page_type}
+use Rattle.mt_regs.specs.RegisterFile.{IsRegisterFile, RegisterFile, is_enabled, is_fixed_enabled, page_count}
 use Rattle.mt_types.specs.declared.run.Run.{Run}
-use Rattle.mt_types.specs.Runs.{IsRunsOf, run_end}
-use Rattle.mt_types.specs.Tables.{part_of}
-use Rattle.mt_types.proofs.Chains.{last_of_chain, next_of_chain, within_chain}
-use Rattle.mt_tidy.proofs.Own.{own_runs}
+use Rattle.mt_types.specs.Runs.{IsRunsOf, kind_at}
+use Rattle.mt_types.proofs.Chains.{kind_of_run, within_chain}
+use Rattle.mt_types.proofs.Once.{some_run}
+use Rattle.mt_trie.specs.Wishes.{IsDefined, is_free_page}
+use Rattle.mt_tidy.specs.Mapped.{IsMapFrom, first_ranged}
+use Rattle.mt_tidy.specs.Wanted.{IsWanted, is_free}
+use Rattle.mt_tidy.proofs.Fitted.{accepted_of}
+use Rattle.mt_tidy.proofs.Own.{Supported, own_runs, page_supported}
 
-part_at_place : (runs : List Run) (i : ℕ) (d : ℕ × MemType) (e : Run) → i < length runs → slice_index_or (map part_of runs) i d ≡ part_of (slice_index_or runs i e)
-part_at_place [] i d e within = absurd (omega arith)
-part_at_place (r ∷ rs) zero d e within = refl
-part_at_place (r ∷ rs) (suc i) d e within = part_at_place rs i d e (omega arith)
+-- a map from page 0 on is the file's type map
+pub runs_of_map : (f : RegisterFile) (runs : List Run) → IsMapFrom f 0 runs → IsRunsOf f runs
+runs_of_map f runs is = record {
+  map = is.map;
+  whole = is.whole;
+  kinds = λ k d within page has. let same : page ≡ max 0 page = omega arith in ap (page_type f) same ∙ is.kinds k d within page has;
+}
 
-abbrev pub run_with : ℕ → ℕ → PageType → Run
-run_with first count kind = record { first = first; count = count; kind = kind }
-
-module _ (runs : List Run) (parts : List (ℕ × MemType)) (covered : ℕ) (are : ArePartsOf runs parts covered) where
-  pub as_many : length parts ≡ length runs
-  as_many = ap length are.parts_are ∙ length-map runs part_of
-
-  pub part_is_at : (i : ℕ) (p : ℕ × MemType) (e : Run) → i < length parts → ((d : ℕ × MemType) → p ≡ slice_index_or parts i d) → p ≡ part_of (slice_index_or runs i e)
-  part_is_at i p e within is =
-      is p ∙ ap (λ ps. slice_index_or ps i p) are.parts_are ∙ part_at_place runs i p e (omega (arith, as_many, within))
-
-  pub ends_at_next : (i : ℕ) (first : ℕ) (e : Run) → i + 1 < length parts → first ≡ (slice_index_or runs (i + 1) e).first → first ≡ run_end (slice_index_or runs i e)
-  ends_at_next i first e within is =
-      let next : i + 1 ≡ suc i = omega arith in
-      is ∙ ap (λ n. (slice_index_or runs n e).first) next ∙ next_of_chain 0 runs i e are.chain (omega (arith, as_many, within))
-
-  pub ends_at_last : (i : ℕ) (e : Run) → i < length parts → length parts ≤ i + 1 → covered ≡ run_end (slice_index_or runs i e)
-  ends_at_last i e within last = sym (last_of_chain 0 runs i e are.chain (omega (arith, as_many, within, last)) ∙ are.end)
-
-  kind_is : (kind : PageType) → kind ≢ Undefined → Kind (defined_type kind) ≡ kind
-  kind_is (Kind t) some = refl
-  kind_is Undefined some = absurd (some refl)
-
-  run_by : (r : Run) (first count : ℕ) (kind : PageType) → first ≡ r.first → count ≡ r.count → kind ≡ r.kind → run_with first count kind ≡ r
-  run_by r first count kind a b c =
-      ap (λ n. run_with n count kind) a ∙ ap (λ n. run_with r.first n kind) b ∙ ap (λ t. run_with r.first r.count t) c
-
-  pub run_is_at : (i : ℕ) (p : ℕ × MemType) (end : ℕ) (e : Run) → i < length parts → p ≡ part_of (slice_index_or runs i e) → end ≡ run_end (slice_index_or runs i e)
-      → run_with p.0 (end - p.0) (Kind p.1) ≡ slice_index_or runs i e
-  run_is_at i p end e within is at = run_by (slice_index_or runs i e) p.0 (end - p.0) (Kind p.1) (ap (λ q. q.0) is)
-      (omega (arith, at, ap (λ q. q.0) is)) (ap (λ q. Kind q.1) is ∙ kind_is _ (are.defined i e (omega (arith, as_many, within))))
-
--- a file's own runs can be wanted, its ranges on or off: pages of a file whose ranges are off have UC
+-- its ranges may be on or off: pages of a file whose ranges are off have UC
 pub runs_wanted : (f : RegisterFile) → IsRegisterFile f → IsAccepted f → (runs : List Run) → IsRunsOf f runs → IsWanted f runs
 runs_wanted f good accepted runs are = elim (cases_Bool (is_enabled f)) [
   | inl on ↦ own_runs f good accepted on runs are
@@ -73,9 +44,60 @@ runs_wanted f good accepted runs are = elim (cases_Bool (is_enabled f)) [
     off_page : (page : ℕ) → is_enabled f ≡ false → page_type f page ≡ Kind UC
     off_page page off = rw off refl
 
--- wanted runs have types
-pub wanted_defined : (f : RegisterFile) (runs : List Run) → IsWanted f runs → All IsDefined runs
-wanted_defined f runs good k d within = let found = good.supported k d within in not_undefined _ found.0 found.1
+-- a page that isn't free is at or above the first such page
+above_first : (fixed : Bool) (page : ℕ) → is_free_page fixed page ≡ false → (if fixed then 0x100 else 0) ≤ page
+above_first true page nonfree = ltb-false page 256 nonfree
+above_first false page nonfree = omega arith
+
+pub first_below : (f : RegisterFile) → IsRegisterFile f → first_ranged f < page_count f
+first_below f kept = by_fixed (is_fixed_enabled f)
   where
-    not_undefined : (kind : PageType) (t : MemType) → kind ≡ Kind t → kind ≡ Undefined → ⊥
-    not_undefined kind t e g = cc
+    many : 2 ^ 20 ≤ page_count f
+    many = let wide : 20 ≤ f.width - 12 = omega (arith, kept.wide) in pow_mono wide
+
+    by_fixed : (fixed : Bool) → (if fixed then 0x100 else 0) < page_count f
+    by_fixed true = omega (arith, many)
+    by_fixed false = omega (arith, many)
+
+-- ---- the map from the first page on that isn't free
+
+pub map_at : (f : RegisterFile) (from : ℕ) (runs : List Run) → from ≡ first_ranged f → IsMapFrom f from runs → IsMapFrom f (first_ranged f) runs
+map_at f from runs at is = subst (λ n. IsMapFrom f n runs) at is
+
+module _ (f : RegisterFile) (runs : List Run) (is : IsMapFrom f (first_ranged f) runs) where
+  kind_from : (page : ℕ) → page < page_count f → kind_at runs page ≡ page_type f (max (first_ranged f) page)
+  kind_from page below =
+      let nothing : Run = record { first = 0; count = 0; kind = Undefined } in
+      let at = some_run runs page nothing is.map (omega (arith, is.whole, below)) in
+      sym (kind_of_run 0 runs at.0 page nothing is.map.chain at.1 at.2) ∙ sym (is.kinds at.0 nothing at.1 page at.2)
+
+  pub keeps_kinds : (page : ℕ) → page < page_count f → is_free f page ≡ false → kind_at runs page ≡ page_type f page
+  keeps_kinds page below nonfree =
+      let low = above_first (is_fixed_enabled f) page nonfree in
+      let same : max (first_ranged f) page ≡ page = omega (arith, low) in
+      kind_from page below ∙ ap (page_type f) same
+
+  -- if each run has a type, the file is accepted
+  pub accepted_by : is_enabled f ≡ true → register_fault f ≡ None → All IsDefined runs → IsAccepted f
+  accepted_by enabled checked defined = accepted_of f checked (λ page below undefined. by_free page below undefined (cases_Bool (is_free f page)))
+    where
+      by_free : (page : ℕ) → page < page_count f → page_type f page ≡ Undefined → (is_free f page ≡ true) ⊎ (is_free f page ≡ false) → ⊥
+      by_free page below undefined (inl free) =
+          let fixed : Kind (fixed_type f page) ≡ Undefined = rw (enabled, free) at undefined in
+          absurd (cc fixed)
+      by_free page below undefined (inr nonfree) =
+          let nothing : Run = record { first = 0; count = 0; kind = Undefined } in
+          let at = some_run runs page nothing is.map (omega (arith, is.whole, below)) in
+          defined at.0 nothing at.1 (kind_of_run 0 runs at.0 page nothing is.map.chain at.1 at.2 ∙ keeps_kinds page below nonfree ∙ undefined)
+
+  pub map_wanted : IsRegisterFile f → IsAccepted f → is_enabled f ≡ true → IsWanted f runs
+  unfolding Supported
+  map_wanted good accepted enabled = record {
+    chain = is.map.chain;
+    whole = is.whole;
+    supported = λ k d within.
+        let place = within_chain 0 runs k d is.map.chain within in
+        let first : ℕ = (slice_index_or runs k d).first in
+        let found = page_supported f good accepted enabled (max (first_ranged f) first) (omega (arith, place.1, place.2, is.whole, first_below f good)) in
+        (found.0, sym (is.kinds k d within first (omega arith, place.1)) ∙ found.1, found.2);
+  }

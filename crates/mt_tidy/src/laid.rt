@@ -1,24 +1,22 @@
-ghost use Rattle.std.specs.Prelude.{◌≡◌, ◌++◌, ◌≤◌, ◌<◌, ◌^◌, [], None, Some, false, length, if◌then◌else◌};
+ghost use Rattle.std.specs.Prelude.{◌≡◌, ◌++◌, ◌+◌, ◌-◌, ◌≤◌, ◌<◌, ◌^◌, ℕ, None, Option, Some, length, if◌then◌else◌, slice_get};
 ghost use Rattle.std.specs.List.{All};
 ghost use Rattle.mt_ranges.specs.Blocks.{block_end};
-ghost use Rattle.mt_tidy.specs.AllCosts.{IsBelow, cost_in};
-ghost use Rattle.mt_tidy.specs.Cost.{cost, divided, leaves_type, only_cost, task_by, wish};
+ghost use Rattle.mt_tidy.specs.Choosing.{HasChoices, IsChoice, divided_count, halves_cost};
+ghost use Rattle.mt_tidy.specs.Cost.{Task, cost, divided, leaves_type, only_cost, task_by, wish};
 ghost use Rattle.mt_tidy.specs.Fits.{Begun, Laid, ranges_on};
-ghost use Rattle.mt_tidy.specs.Halved.{BegunOver, HoldsHalves};
 ghost use Rattle.mt_tidy.specs.LeastList.{MayBeUsed};
-ghost use Rattle.mt_tidy.specs.Remembered.{Remembers};
 ghost use Rattle.mt_tidy.specs.Room.{HasRoom};
 ghost use Rattle.mt_trie.specs.Wishes.{IsDefined};
 ghost use Rattle.mt_trie.specs.declared.context.Context.{Context};
 ghost use Rattle.mt_trie.specs.declared.wish.Wish.TheVariants.{Mixed};
 ghost use Rattle.mt_types.specs.Runs.{IsTypeMap, pages_end};
 
-use crate::block_costs::{first_half, leaves_type, next_block, with_type};
-use crate::costs::Costs;
+use crate::block_costs::{first_half, leaves_type, next_block, range_at, with_type};
+use crate::costs::Choice;
 use crate::lent::wish_of;
 use crate::range::Range;
 use crate::rules::{Rules, Search};
-use crate::whole_costs::{best_at, find_halves};
+use crate::whole_costs::{find_divided, find_halves};
 use crate::work_area::CostTable;
 use arrayvec::ArrayVec;
 use mt_kinds::MemType;
@@ -36,20 +34,54 @@ fn push_range(out: &mut ArrayVec<Range, 32>, b: &Block, kind: MemType)
     });
 }
 
-// Adds the range that is chosen for a divided block, and answers what is then left for the halves.
-fn begin_at(
-    rules: &Rules,
-    b: &Block,
-    halves: &Costs,
-    x: Context,
-    out: &mut ArrayVec<Range, 32>,
-) -> Context
-    requires below { (y : Context) → IsBelow (2 ^ 60) (cost_in halves.now y) }
-    requires room { HasRoom (divided (task_by rules.now []) b.now.log (cost_in halves.now) x) out.old.items }
-    ensures begun { Begun (task_by rules.now []) b.now.first b.now.log (cost_in halves.now) x out.old.items out.new.items result }
-    ensures room { HasRoom (cost_in halves.now result) out.new.items }
+// Finds the choice of a divided block for which the table has no room.
+#[inline(never)] // so that its callers take little stack
+fn find_again(search: &Search, b: &Block, table: &mut CostTable) -> Choice
+    requires map { IsTypeMap search.now.wanted }
+    requires defined { All IsDefined search.now.wanted }
+    requires covered { block_end b.now ≤ pages_end 0 search.now.wanted }
+    requires mixed { wish (task_by search.now.rules search.now.wanted) b.now.log b.now.first ≡ Mixed }
+    requires count { table.old.count + 2 ^ b.now.log ≤ 2 ^ 41 + 1 }
+    requires full { length table.old.choices ≤ table.old.count }
+    ensures choice { IsChoice (task_by search.now.rules search.now.wanted) b.now.log
+        (halves_cost (task_by search.now.rules search.now.wanted) (b.now.log - 1) b.now.first) result }
+    ensures choices { (i : ℕ) → slice_get table.new.choices i ≡ slice_get table.old.choices i }
+    ensures count { table.new.count ≡ table.old.count }
 {
-    match best_at(rules, b.log, halves, x).range {
+    let count = table.count;
+    find_halves(search, b, table);
+    table.count = count;
+    find_divided(&search.rules, b, table)
+}
+
+// The choice of the divided block that the search came to next.
+fn next_choice(search: &Search, b: &Block, table: &mut CostTable) -> Choice
+    requires map { IsTypeMap search.now.wanted }
+    requires defined { All IsDefined search.now.wanted }
+    requires covered { block_end b.now ≤ pages_end 0 search.now.wanted }
+    requires mixed { wish (task_by search.now.rules search.now.wanted) b.now.log b.now.first ≡ Mixed }
+    requires count { table.old.count + 2 ^ b.now.log ≤ 2 ^ 41 }
+    requires choices { HasChoices (task_by search.now.rules search.now.wanted) b.now.log b.now.first table.old.count table.old.choices }
+    ensures choice { IsChoice (task_by search.now.rules search.now.wanted) b.now.log
+        (halves_cost (task_by search.now.rules search.now.wanted) (b.now.log - 1) b.now.first) result }
+    ensures choices { (i : ℕ) → slice_get table.new.choices i ≡ slice_get table.old.choices i }
+    ensures count { table.new.count ≡ table.old.count + 1 }
+{
+    let place = table.count;
+    table.count += 1;
+    match table.kept(place) {
+        Some(choice) => choice,
+        None => find_again(search, b, table),
+    }
+}
+
+// Adds the range of a choice for a divided block, and answers what is then left for the halves.
+fn begin_with(choice: Choice, b: &Block, x: Context, out: &mut ArrayVec<Range, 32>) -> Context
+    requires room { (k : Task) × (h : Context → Option ℕ) × IsChoice k b.now.log h choice × HasRoom (divided k b.now.log h x) out.old.items }
+    ensures begun { (k : Task) (h : Context → Option ℕ) → IsChoice k b.now.log h choice → Begun k b.now.first b.now.log h x out.old.items out.new.items result }
+    ensures room { (k : Task) (h : Context → Option ℕ) → IsChoice k b.now.log h choice → HasRoom (divided k b.now.log h x) out.old.items → HasRoom (h result) out.new.items }
+{
+    match range_at(choice, x) {
         None => x,
         Some(t) => {
             push_range(out, b, t);
@@ -72,15 +104,17 @@ fn begin_over(
     requires defined { All IsDefined search.now.wanted }
     requires covered { block_end b.now ≤ pages_end 0 search.now.wanted }
     requires mixed { wish (task_by search.now.rules search.now.wanted) b.now.log b.now.first ≡ Mixed }
-    requires slots { All (Remembers (task_by search.now.rules search.now.wanted)) table.old.slots }
+    requires count { table.old.count + 2 ^ b.now.log ≤ 2 ^ 41 }
+    requires choices { HasChoices (task_by search.now.rules search.now.wanted) b.now.log b.now.first table.old.count table.old.choices }
     requires room { HasRoom (cost (task_by search.now.rules search.now.wanted) b.now.log b.now.first x) out.old.items }
-    ensures begun { BegunOver search.now.rules b.now.log b.now.first x table.new out.old.items out.new.items result }
-    ensures halves { HoldsHalves (task_by search.now.rules search.now.wanted) b.now.log b.now.first table.new }
-    ensures slots { All (Remembers (task_by search.now.rules search.now.wanted)) table.new.slots }
+    ensures begun { Begun (task_by search.now.rules search.now.wanted) b.now.first b.now.log
+        (halves_cost (task_by search.now.rules search.now.wanted) (b.now.log - 1) b.now.first) x out.old.items out.new.items result }
+    ensures room { HasRoom (halves_cost (task_by search.now.rules search.now.wanted) (b.now.log - 1) b.now.first result) out.new.items }
+    ensures choices { (i : ℕ) → slice_get table.new.choices i ≡ slice_get table.old.choices i }
+    ensures count { table.new.count ≡ table.old.count + 1 }
 {
-    find_halves(search, b, table);
-    let halves = table.halves(b.log - 1);
-    begin_at(&search.rules, b, &halves, x, out)
+    let choice = next_choice(search, b, table);
+    begin_with(choice, b, x, out)
 }
 
 // Adds the range of a block whose pages want one type, but for where the context leaves it.
@@ -93,7 +127,8 @@ fn put_whole(rules: &Rules, b: &Block, x: Context, t: MemType, out: &mut ArrayVe
     }
 }
 
-/// Adds a list that fits the block and is as short as its cost.
+/// Adds a list that fits the block and is as short as its cost. The search came to the block's divided ones in the same
+/// order.
 pub fn lay_in(
     search: &Search,
     b: &Block,
@@ -104,12 +139,14 @@ pub fn lay_in(
     requires map { IsTypeMap search.now.wanted }
     requires usable { All (MayBeUsed search.now.rules) search.now.wanted }
     requires covered { block_end b.now ≤ pages_end 0 search.now.wanted }
-    requires slots { All (Remembers (task_by search.now.rules search.now.wanted)) table.old.slots }
+    requires count { table.old.count + 2 ^ b.now.log ≤ 2 ^ 41 }
+    requires choices { HasChoices (task_by search.now.rules search.now.wanted) b.now.log b.now.first table.old.count table.old.choices }
     requires room { HasRoom (cost (task_by search.now.rules search.now.wanted) b.now.log b.now.first x) out.old.items }
     ensures laid { Laid (task_by search.now.rules search.now.wanted) b.now.log b.now.first x out.old.items out.new.items }
-    ensures slots { All (Remembers (task_by search.now.rules search.now.wanted)) table.new.slots }
+    ensures choices { (i : ℕ) → slice_get table.new.choices i ≡ slice_get table.old.choices i }
+    ensures count { table.new.count ≡ table.old.count + divided_count (task_by search.now.rules search.now.wanted) b.now.log b.now.first }
 {
-    match wish_of(&search.wanted, &search.rules, b) {
+    match wish_of(&search.wanted, &search.rules, b, &mut table.near) {
         Wish::Any => {}
         Wish::Only(t) => put_whole(&search.rules, b, x, t, out),
         Wish::Mixed => {

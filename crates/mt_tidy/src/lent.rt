@@ -12,24 +12,33 @@ use crate::rules::Rules;
 use mt_ranges::Block;
 use mt_trie::Wish;
 
-// The place of the run that has a page.
-fn index_of(list: &PackedRuns, page: u64) -> usize
+// A guess, where the run there doesn't begin past a page, or the place of the first run.
+fn begin_at(list: &PackedRuns, guess: usize, page: u64) -> usize
+    requires chain { IsChain 0 list.now }
+    requires covered { page < pages_end 0 list.now }
+    ensures within { result < length list.now }
+    ensures low { (d : Run) → (slice_index_or list.now result d).first ≤ page }
+{
+    if guess < list.count() && list.run_at(guess).first <= page {
+        guess
+    } else {
+        0
+    }
+}
+
+// The place of the run that has a page, which is looked for from a guess on.
+fn place_of(list: &PackedRuns, guess: usize, page: u64) -> usize
     requires chain { IsChain 0 list.now }
     requires covered { page < pages_end 0 list.now }
     ensures within { result < length list.now }
     ensures page { (d : Run) → HasPage (slice_index_or list.now result d) page }
 {
-    let mut low = 0;
-    let mut high = list.count();
-    while high - low > 1 {
-        let middle = low + (high - low) / 2;
-        if list.run_at(middle).first <= page {
-            low = middle;
-        } else {
-            high = middle;
-        }
+    let count = list.count();
+    let mut place = begin_at(list, guess, page);
+    while place + 1 < count && list.run_at(place + 1).first <= page {
+        place += 1;
     }
-    low
+    place
 }
 
 // The first page of a block that may not be free.
@@ -43,9 +52,10 @@ fn first_page(rules: &Rules, b: &Block) -> u64
     }
 }
 
-/// What the pages of a block want.
+/// What the pages of a block want. `near` is a guess where its first page is among the runs, and is left for the block
+/// behind it; no answer depends on it.
 #[inline(never)] // so that its callers, which call themselves, take little stack
-pub fn wish_of(wanted: &PackedRuns, rules: &Rules, b: &Block) -> Wish
+pub fn wish_of(wanted: &PackedRuns, rules: &Rules, b: &Block, near: &mut usize) -> Wish
     requires map { IsTypeMap wanted.now }
     requires defined { All IsDefined wanted.now }
     requires covered { block_end b.now ≤ pages_end 0 wanted.now }
@@ -56,7 +66,9 @@ pub fn wish_of(wanted: &PackedRuns, rules: &Rules, b: &Block) -> Wish
     if end <= start {
         return Wish::Any;
     }
-    let run = wanted.run_at(index_of(wanted, start));
+    let place = place_of(wanted, *near, start);
+    *near = place;
+    let run = wanted.run_at(place);
     if run.first + run.count < end {
         Wish::Mixed
     } else {

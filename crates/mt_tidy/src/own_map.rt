@@ -1,50 +1,75 @@
-ghost use Rattle.std.specs.Prelude.{◌≡◌, ◌<◌, ◌≤◌, ℕ, List, length, slice_index_or, take};
-ghost use Rattle.mt_kinds.specs.declared.mem_type.MemType.{MemType};
-ghost use Rattle.mt_regs.specs.Faults.{IsAccepted};
-ghost use Rattle.mt_tidy.specs.OwnParts.{ArePartsOf};
-ghost use Rattle.mt_tidy.specs.Packed.{runs_of};
+ghost use Rattle.std.specs.Prelude.{◌≡◌, ◌≤◌, ◌<◌, ◌-◌, ◌↔◌, IsTrue, None, length, take};
+ghost use Rattle.std.specs.List.{All};
+ghost use Rattle.mt_regs.specs.Faults.{IsAccepted, register_fault};
+ghost use Rattle.mt_regs.specs.RegisterFile.{page_count};
+ghost use Rattle.mt_tidy.specs.Mapped.{IsMapFrom, first_ranged};
+ghost use Rattle.mt_tidy.specs.Packed.{run_of, runs_of};
 ghost use Rattle.mt_tidy.specs.Wanted.{IsWanted};
-ghost use Rattle.mt_types.specs.declared.run.Run.{Run};
-ghost use Rattle.mt_types.specs.Runs.{IsRunsOf, run_end};
+ghost use Rattle.mt_trie.specs.Wishes.{IsDefined};
+ghost use Rattle.mt_types.specs.Runs.{IsRunsOf};
 
-use crate::packed::PackedRun;
-use mt_kinds::MemType;
+use crate::packed::{PackedRun, PackedRuns};
 use mt_regs::{PageType, RegFile};
-use mt_types::{KindTable, Run};
+use mt_types::Run;
 
-fn part_at(parts: &[(u64, MemType)], i: usize) -> (u64, MemType)
-    requires { i < length parts.now }
-    ensures { (d : ℕ × MemType) → result ≡ slice_index_or parts.now i d }
+// The run of the pages from one up to another.
+fn run_between(first: u64, end: u64, kind: PageType) -> PackedRun
+    requires { first < end }
+    ensures { run_of result ≡ record { first = first; count = end - first; kind = kind } }
 {
-    parts[i]
-}
-
-// The page at which the run at a place ends: the first of the next part, or that behind all.
-fn end_of(parts: &[(u64, MemType)], covered: u64, i: usize) -> u64
-    requires { i < length parts.now }
-    ensures { (runs : List Run) (d : Run) → ArePartsOf runs parts.now covered → result ≡ run_end (slice_index_or runs i d) }
-{
-    if i + 1 < parts.len() {
-        let (first, _) = part_at(parts, i + 1);
-        first
-    } else {
-        covered
-    }
-}
-
-// The run at a place.
-fn run_at(parts: &[(u64, MemType)], covered: u64, i: usize) -> Run
-    requires within { i < length parts.now }
-    requires parts { (runs : List Run) × ArePartsOf runs parts.now covered }
-    ensures { (runs : List Run) (d : Run) → ArePartsOf runs parts.now covered → result ≡ slice_index_or runs i d }
-{
-    let (first, kind) = part_at(parts, i);
-    let end = end_of(parts, covered, i);
-    Run {
+    PackedRun::of(Run {
         first,
         count: end - first,
-        kind: PageType::Kind(kind),
+        kind,
+    })
+}
+
+/// The first page whose type no fixed-range register gives.
+pub fn first_ranged(f: &RegFile) -> u64
+    ensures { result ≡ first_ranged f.now }
+{
+    if f.is_fixed_enabled() { 0x100 } else { 0 }
+}
+
+/// Writes the type map to the first places of an array, with the type of page `from` in place of those of the pages below
+/// it, and answers how many runs it has.
+pub fn map_from(f: &RegFile, from: u64, runs: &mut [PackedRun]) -> usize
+    requires checked { register_fault f.now ≡ None }
+    requires from { from < page_count f.now }
+    requires room { 153 ≤ length runs.old }
+    ensures few { result ≤ length runs.new }
+    ensures map { IsMapFrom f.now from (runs_of (take result runs.new)) }
+{
+    f.is_register_file(); // a fact for the proof
+    let pages = f.pages();
+    let mut count = 0;
+    let mut first = 0;
+    let mut kind = f.page_type(from);
+    let mut end = f.next_edge(from);
+    while end < pages {
+        let next = f.page_type(end);
+        if !next.is(kind) {
+            runs[count] = run_between(first, end, kind);
+            count += 1;
+            first = end;
+            kind = next;
+        }
+        end = f.next_edge(end);
     }
+    runs[count] = run_between(first, end, kind);
+    count + 1
+}
+
+/// Whether each run has a type.
+pub fn are_defined(runs: &PackedRuns) -> bool
+    ensures { IsTrue result ↔ All IsDefined runs.now }
+{
+    for i in 0..runs.count() {
+        if runs.run_at(i).kind.is_undefined() {
+            return false;
+        }
+    }
+    true
 }
 
 /// Writes the type map of an accepted file, which ranges can give it, to the first places of an array, and answers how
@@ -57,10 +82,5 @@ pub fn own_runs_in(f: &RegFile, runs: &mut [PackedRun]) -> usize
     ensures wanted { IsWanted f.now (runs_of (take result runs.new)) }
 {
     f.is_register_file(); // a fact for the proof
-    let table = KindTable::of(f);
-    let parts = table.parts.as_slice();
-    for i in 0..parts.len() {
-        runs[i] = PackedRun::of(run_at(parts, table.covered, i));
-    }
-    parts.len()
+    map_from(f, 0, runs)
 }

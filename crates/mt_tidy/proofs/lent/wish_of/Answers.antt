@@ -9,7 +9,7 @@ use Rattle.mt_tidy.proofs.lent.wish_of.Goals as goal
 
 pub overflow_add-run : goal.overflow_add-run
 overflow_add-run c =
-    let inner = within_chain 0 c.args.wanted.now c.index_of.result c.run_at-run.result c.requires.map.chain c.index_of.ensures.within in
+    let inner = within_chain 0 c.args.wanted.now c.place_of-place.result c.run_at-run.result c.requires.map.chain c.place_of-place.ensures.within in
     omega (arith, inner.2, c.requires.map.bound, ap run_end (c.run_at-run.ensures c.run_at-run.result))
 
 pub returns-then-end-start : goal.returns-then-end-start
@@ -19,15 +19,15 @@ returns-then-end-start c =
 pub returns-then-run-end : goal.returns-then-run-end
 returns-then-run-end c =
     let at = c.run_at-run.ensures c.run_at-run.result in
-    wish_mixed c.args.rules.now c.args.wanted.now c.args.b.now c.index_of.result c.run_at-run.result c.requires.map c.requires.defined c.index_of.ensures.within
-    (subst (HasPage (slice_index_or c.args.wanted.now c.index_of.result c.run_at-run.result)) c.first_page-start.ensures (c.index_of.ensures.page c.run_at-run.result)) c.requires.covered
+    wish_mixed c.args.rules.now c.args.wanted.now c.args.b.now c.place_of-place.result c.run_at-run.result c.requires.map c.requires.defined c.place_of-place.ensures.within
+    (subst (HasPage (slice_index_or c.args.wanted.now c.place_of-place.result c.run_at-run.result)) c.first_page-start.ensures (c.place_of-place.ensures.page c.run_at-run.result)) c.requires.covered
     (omega (arith, ap run_end at, c.if-run-end.true, c.end-end.ensures))
 
 pub returns-else-run-end : goal.returns-else-run-end
 returns-else-run-end c =
     let at = c.run_at-run.ensures c.run_at-run.result in
-    wish_only c.args.rules.now c.args.wanted.now c.args.b.now c.index_of.result c.run_at-run.result c.requires.map.chain c.requires.defined c.index_of.ensures.within
-    (subst (HasPage (slice_index_or c.args.wanted.now c.index_of.result c.run_at-run.result)) c.first_page-start.ensures (c.index_of.ensures.page c.run_at-run.result))
+    wish_only c.args.rules.now c.args.wanted.now c.args.b.now c.place_of-place.result c.run_at-run.result c.requires.map.chain c.requires.defined c.place_of-place.ensures.within
+    (subst (HasPage (slice_index_or c.args.wanted.now c.place_of-place.result c.run_at-run.result)) c.first_page-start.ensures (c.place_of-place.ensures.page c.run_at-run.result))
     (omega (arith, c.if-end-start.false, c.end-end.ensures, c.first_page-start.ensures))
     (omega (arith, ap run_end at, c.if-run-end.false, c.end-end.ensures))
     ∙ ap (λ r. Only (defined_type r.kind)) (sym at) ∙ ap Only (sym c.defined.ensures)
