@@ -8,8 +8,7 @@ use std::thread::{Promise, PromisedHandle, Scope, Threads};
 
 mod memory;
 
-pub(crate) use memory::open;
-pub use memory::room;
+pub(crate) use memory::{open, room};
 
 /// A gate behind a reference.
 #[derive(Drop)]
@@ -80,14 +79,29 @@ impl<F> Unstarted<F> {
     }
 }
 
-/// A thread that a crew with a gate of type G has started. Only this module can make one or take one apart. It isn't `Drop`:
-/// whoever has one joins the thread or hands it on.
+/// A thread that a crew with a gate of type G has started. Only this module and `crew/memory.rt` can make one or take
+/// one apart. It isn't `Drop`: whoever has one joins the thread or hands it on.
 pub struct Started<T, P: Promise<T>, G> {
     handle: PromisedHandle<T, P>,
     gate: PhantomData<G>,
     /// What the thread's result keeps.
     pub promise: Snapshot<P>,
     pub ghost same: { handle.promise ≡ promise.value },
+}
+
+/// That `Crew::tell` was called, of a crew with a gate of type G. Only this module and `crew/memory.rt` can make one or take one
+/// apart. It is neither `Clone` nor `Drop`.
+pub struct Heard<G> {
+    /// The processor's number.
+    pub number: u32,
+    gate: PhantomData<G>,
+}
+
+impl<G> Heard<G> {
+    /// Spends it, before the wait that it allows.
+    pub fn spend(self) {
+        let Heard { number: _, gate: _ } = self;
+    }
 }
 
 /// A gate, with the calls that start and join threads and tell of arrivals. Any function can make one with a gate of its own:
@@ -104,8 +118,14 @@ impl<G: Gate> Crew<G> {
     }
 
     /// Tells its gate that processor k has arrived. No clause says it.
-    pub fn tell(&self, k: u32) {
+    pub fn tell(&self, k: u32) -> Heard<G>
+        ensures { result.number ≡ k }
+    {
         self.gate.arrived(k);
+        Heard {
+            number: k,
+            gate: PhantomData,
+        }
     }
 
     /// Asks its gate about processor k, and starts the thread that is promised if the gate lets it. No clause says that the gate is

@@ -13,7 +13,7 @@ mod view;
 
 pub use broadcast::call_and_take;
 pub use caller::{Caller, attend};
-pub use crew::{Coordinator, Crew, Lent, OfProcessor, Refusal, Started, Unstarted, room};
+pub use crew::{Coordinator, Crew, Heard, Lent, OfProcessor, Refusal, Started, Unstarted};
 pub use gather::disband;
 pub use station::{Attendee, Outcome, Pass, Root, Station};
 pub use threads::{update, update_with};

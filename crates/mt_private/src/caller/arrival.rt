@@ -8,26 +8,12 @@ use crate::view::YardTurn;
 use crate::visiting::YardPass;
 use mt_core::Core;
 use mt_ports::Gate;
-use std::marker::PhantomData;
+use mt_rendezvous::Heard;
 
 // That a gate is to be told of an arrival. Only this file can make one or take one apart: `of` makes it, for a pass that has
 // added to the first count, and `tell` takes it apart. It is neither `Clone` nor `Drop`.
 pub(super) struct Arrival {
     number: u32,
-}
-
-// That a gate of type G was told of an arrival. Only this file can make one or take one apart: `tell` makes it. It is neither
-// `Clone` nor `Drop`, and `YardPass::wait_first` spends one of its pass's number.
-pub(super) struct Heard<G> {
-    number: u32,
-    gate: PhantomData<G>,
-}
-
-impl<G> Heard<G> {
-    // Spends it, before the wait that it allows.
-    pub(super) fn spend(self) {
-        let Heard { number: _, gate: _ } = self;
-    }
 }
 
 impl Arrival {
@@ -43,16 +29,12 @@ impl Arrival {
         }
     }
 
-    // Tells the caller's gate.
+    // Has the caller's crew tell its gate.
     pub(super) fn tell<R, G: Gate>(self, caller: &Caller<R, G>) -> Heard<G>
         ensures { result.number ≡ self.number }
     {
         let Arrival { number } = self;
-        caller.crew.tell(number);
-        Heard {
-            number,
-            gate: PhantomData,
-        }
+        caller.crew.tell(number)
     }
 }
 

@@ -4,14 +4,13 @@ ghost use Rattle.std.specs.Prelude.{◌≡◌, [], ◌∷◌, false, IsTrue};
 ghost use Rattle.mt_machine.specs.System.{System};
 ghost use Rattle.mt_machine.specs.Update.{updated};
 
-use super::arrival::Heard;
 use crate::caller::Caller;
 use crate::host::{CANCEL, Host, Yard};
 use crate::view::YardTurn;
 use crate::visiting::YardPass;
 use mt_core::Core;
 use mt_ports::Gate;
-use mt_rendezvous::Started;
+use mt_rendezvous::{Heard, Started};
 use std::sync::Wait;
 use std::thread::{Promise, Scope, Threads};
 use std::{hint, thread};

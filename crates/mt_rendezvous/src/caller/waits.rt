@@ -4,9 +4,8 @@ ghost use Rattle.std.specs.Prelude.{◌≡◌};
 ghost use Rattle.mt_machine.specs.declared.event.Event.TheVariants.{Release};
 ghost use Rattle.mt_rendezvous.specs.Plays.{Took};
 
-use super::arrival::Heard;
 use crate::caller::Caller;
-use crate::crew::Started;
+use crate::crew::{Heard, Started};
 use crate::station::{CANCEL, Pass, Root, Station};
 use crate::view::Turn;
 use mt_cpu::Cpu;
