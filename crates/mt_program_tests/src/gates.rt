@@ -1,7 +1,7 @@
 //! Updates on threads under gates that refuse a start, count what they are asked and told and see on which threads, or see
 //! that threads meet.
 use crate::runs::{Call, Ports, repeated, run_under};
-use crate::texts::{FOUR_GIGABYTES, PAIR, TRIO, UPDATE, UPDATED};
+use crate::texts::{FOUR_GIGABYTES, JOINED, PAIR, TRIO, UNLIKE, UPDATE, UPDATED};
 use mt_gates::{AllBut, InOrder, Meets};
 use mt_ports::{Gate, Status};
 use std::process::Abort;
@@ -53,10 +53,13 @@ impl<'a> Run<'a> {
     }
 }
 
-// One script and one list of requests, each by the top call and by its own, and how many updates they make.
-fn updates() -> [(Run<'static>, u64); 4] {
+// One script and one list of requests, each by the top call and by its own, and two more scripts; and how many updates they make.
+fn updates() -> [(Run<'static>, u64); 6] {
+    let replay = Call::Tool(&["replay"]);
     [
-        (Run::of(Call::Tool(&["replay"]), UPDATE, UPDATED), 1),
+        (Run::of(replay, JOINED, b"accepted\njoined 1\ncomplete 2\n"), 2),
+        (Run::of(replay, UNLIKE, b"accepted\ncomplete 1\n"), 1),
+        (Run::of(replay, UPDATE, UPDATED), 1),
         (Run::of(Call::Replay, UPDATE, UPDATED), 1),
         (Run::of(Call::Tool(&["proc", "2"]), REQUESTS, TOLD), 3),
         (Run::of(Call::Proc(2), REQUESTS, TOLD), 3),
