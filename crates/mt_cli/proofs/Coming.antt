@@ -1,5 +1,5 @@
 -- A script without a line that brings a processor up wants no memory behind the first line of its transcript.
-use Rattle.std.proofs.Common.{◌≡◌, ◌∙◌, refl, sym, ℕ, ◌+◌, Bool, true, false, List, [], ◌∷◌, Option, None, Some, Result, Ok, Err, inl, inr}
+use Rattle.std.proofs.Common.{◌≡◌, ◌∙◌, ap, refl, sym, ℕ, ◌+◌, Bool, true, false, List, [], ◌∷◌, Option, None, Some, Result, Ok, Err, inl, inr}
 use Rattle.std.specs.Prelude.{◌⊎◌}
 use Rattle.std.specs.List.{All}
 use Rattle.std.proofs.lemmas.List.Elements.{All-head, All-tail}
@@ -17,10 +17,10 @@ use Rattle.mt_script.specs.declared.command.Command.{Command}
 use Rattle.mt_script.specs.declared.command.Command.TheVariants as command
 use Rattle.mt_script.specs.declared.fault.ScriptFault.{ScriptFault}
 use Rattle.mt_script.proofs.Coming.{newcomer_begins}
-use Rattle.mt_replay.specs.Newcomers.{early_text, is_newcomer, newcomer_by, newcomers_from, newcomers_in, newcomers_of_dump}
+use Rattle.mt_replay.specs.Newcomers.{early, early_text, is_newcomer, newcomer_by, newcomers_from, newcomers_in, newcomers_of_dump}
 use Rattle.mt_replay.specs.ReplayState.{ReplayState, first_state, state_after}
-use Rattle.mt_replay.specs.Transcript.{in_head}
-use Rattle.mt_replay.proofs.Newcomers.{head_brings, newcomers_after}
+use Rattle.mt_replay.specs.Transcript.{in_head, transcript}
+use Rattle.mt_replay.proofs.Newcomers.{early_of_text, head_brings, newcomers_after}
 
 newcomer_is : (c : Command) → is_newcomer c ≡ true → (c ≡ command.Up) ⊎ (c ≡ command.Join)
 newcomer_is command.Up is = inl refl
@@ -58,4 +58,4 @@ none_from number (line ∷ lines) now before quiet =
     by (offends o) later = refl
 
 pub early_without : (text : List ℕ) → IsWithoutNewcomers text → early_text text ≡ accepted_line
-early_without text quiet = rw (none_from 1 (lines_of text) at_start [] quiet) refl
+early_without text quiet = sym (early_of_text text) ∙ ap (λ comes. early comes [] (transcript text).text) (none_from 1 (lines_of text) at_start [] quiet)

@@ -8,6 +8,7 @@ use Rattle.mt_ports.specs.declared.status.Status.TheVariants.{Done, Refused, Usa
 use Rattle.mt_dump.specs.Dumps.{Dump as Shows}
 use Rattle.mt_dump.specs.Dump.{Shown}
 use Rattle.mt_dump.specs.Reader.{dump_offence}
+use Rattle.mt_dump.proofs.Ends.{read_exactly, read_offence}
 use Rattle.mt_dump.specs.declared.fault.DumpFault.{DumpFault}
 use Rattle.mt_output.specs.Ports.{change, held}
 use Rattle.mt_stream.specs.Runs.{Runs, TellsAll, TellsKnown}
@@ -104,7 +105,7 @@ written_leaves words bytes text status result left before old new output read to
 pub answers_leave : (words : List (List ℕ)) (bytes : List ℕ) (dump : Shows) (command : DumpCommand) (result : Status) (left : Option (List ℕ)) (before : List ℕ) (old new : Option (List ℕ))
     → command_of words ≡ Some (Serial (Dump command)) → Shown bytes dump → left ≡ Some [] → old ≡ Some before → Answers (Answer dump command) old new result → Leaves words (held bytes left) (took before new) result
 answers_leave words bytes dump command result left before old new says shows read told (writes text status answer wrote) =
-    written_leaves words bytes text status result left before old new (answered command dump text status says shows answer) (left_by words bytes left (Some (Serial (Dump command))) says read) told wrote
+    written_leaves words bytes text status result left before old new (answered command dump text status says ((read_exactly bytes dump).1 shows) answer) (left_by words bytes left (Some (Serial (Dump command))) says read) told wrote
 answers_leave words bytes dump command result left before old new says shows read told (no_memory is same) = rw is (inl (same ∙ told))
 
 -- what a failed read, or too long an input, leaves of the sink by the command
@@ -119,7 +120,7 @@ too_much words command bytes before after says is = subst (λ (o : Option Comman
 -- a command on a dump
 pub input_leaves : (words : List (List ℕ)) (bytes : List ℕ) (command : DumpCommand) (result : Status) (left : Option (List ℕ)) (before : List ℕ) (old new : Option (List ℕ))
     → command_of words ≡ Some (Serial (Dump command)) → old ≡ Some before → AnswersInput command (held bytes left) (change old new) result → Leaves words (held bytes left) (took before new) result
-input_leaves words bytes command result left before old new says told (bad_input fault is read wrote) = written_leaves words bytes _ BadText result left before old new (bad_text command fault says is) (left_by words bytes left (Some (Serial (Dump command))) says read) told wrote
+input_leaves words bytes command result left before old new says told (bad_input fault is read wrote) = written_leaves words bytes _ BadText result left before old new (bad_text command fault says ((read_offence bytes fault).1 is)) (left_by words bytes left (Some (Serial (Dump command))) says read) told wrote
 input_leaves words bytes command result left before old new says told (good_input dump is read answers) = answers_leave words bytes dump command result left before old new says is read told answers
 input_leaves words bytes command result left before old new says told (no_input same (inl failed)) = rw failed (read_failed words (Serial (Dump command)) bytes left before new says (same ∙ told))
 input_leaves words bytes command result left before old new says told (no_input same (inr long)) = rw long.0 (too_much words (Serial (Dump command)) bytes before new says (same ∙ told))
@@ -240,7 +241,7 @@ answered_reads words bytes left status (inr (inr (inr (inr is)))) told = rw is (
 pub answers_read : (words : List (List ℕ)) (bytes : List ℕ) (dump : Shows) (command : DumpCommand) (result : Status) (left old new : Option (List ℕ))
     → command_of words ≡ Some (Serial (Dump command)) → Shown bytes dump → left ≡ Some [] → Answers (Answer dump command) old new result → Reads words (held bytes left) result
 answers_read words bytes dump command result left old new says shows read (writes text status answer (inl (is, takes))) =
-    rw is (answered_reads words bytes left status (final dump command text status answer) (record { text = text; output = answered command dump text status says shows answer; read = left_by words bytes left (Some (Serial (Dump command))) says read }))
+    rw is (answered_reads words bytes left status (final dump command text status answer) (record { text = text; output = answered command dump text status says ((read_exactly bytes dump).1 shows) answer; read = left_by words bytes left (Some (Serial (Dump command))) says read }))
 answers_read words bytes dump command result left old new says shows read (writes text status answer (inr (is, cut))) = rw is tt
 answers_read words bytes dump command result left old new says shows read (no_memory is same) = rw is tt
 
@@ -248,7 +249,7 @@ answers_read words bytes dump command result left old new says shows read (no_me
 pub offence_reads : (words : List (List ℕ)) (bytes : List ℕ) (command : DumpCommand) (fault : DumpFault) (written : List ℕ) (result : Status) (left old new : Option (List ℕ))
     → command_of words ≡ Some (Serial (Dump command)) → dump_offence bytes ≡ Some fault → left ≡ Some [] → Writes written BadText old new result → Reads words (held bytes left) result
 offence_reads words bytes command fault written result left old new says is read (inl (done, takes)) =
-    rw done (record { text = _; output = bad_text command fault says is; read = left_by words bytes left (Some (Serial (Dump command))) says read })
+    rw done (record { text = _; output = bad_text command fault says ((read_offence bytes fault).1 is); read = left_by words bytes left (Some (Serial (Dump command))) says read })
 offence_reads words bytes command fault written result left old new says is read (inr (failed, cut)) = rw failed tt
 
 -- the status of a command on a dump

@@ -1,12 +1,11 @@
 -- What the program writes for a command line and an input, and the status that it ends with (own).
 --     Output words bytes text status      what the program writes for these words and these bytes
-use Rattle.std.specs.Prelude.{ℕ, ◌≡◌, List, ◌++◌, codes, decimal, Some, None}
+use Rattle.std.specs.Prelude.{ℕ, ◌≡◌, List, ◌++◌, codes, decimal, Some, None, Ok, Err}
 use Rattle.mt_ports.specs.declared.status.Status.{Status}
 use Rattle.mt_ports.specs.declared.status.Status.TheVariants.{Done, Usage, BadText}
 use Rattle.mt_dump.specs.Canon.{value_text}
 use Rattle.mt_dump.specs.Dumps.{Dump as Shows}
-use Rattle.mt_dump.specs.Dump.{Shown}
-use Rattle.mt_dump.specs.Reader.{dump_offence}
+use Rattle.mt_dump.specs.Reader.{read_text}
 use Rattle.mt_dump.specs.declared.fault.DumpFault.{DumpFault}
 use Rattle.mt_replay.specs.declared.summing.Totals.{Totals}
 use Rattle.mt_replay.specs.Summary.{summary}
@@ -38,8 +37,8 @@ big_text n = summary_text (summary (make_text n))
 -- The text and the status for a command line and an input.
 pub data Output (words : List (List ℕ)) (bytes : List ℕ) : List ℕ → Status → Type 0 where
   usage : command_of words ≡ None → Output words bytes usage_line Usage
-  bad_text : (command : DumpCommand) (fault : DumpFault) → command_of words ≡ Some (Serial (Dump command)) → dump_offence bytes ≡ Some fault → Output words bytes (bad_text_line fault) BadText
-  answered : (command : DumpCommand) (dump : Shows) (text : List ℕ) (status : Status) → command_of words ≡ Some (Serial (Dump command)) → Shown bytes dump
+  bad_text : (command : DumpCommand) (fault : DumpFault) → command_of words ≡ Some (Serial (Dump command)) → read_text bytes ≡ Err fault → Output words bytes (bad_text_line fault) BadText
+  answered : (command : DumpCommand) (dump : Shows) (text : List ℕ) (status : Status) → command_of words ≡ Some (Serial (Dump command)) → read_text bytes ≡ Ok dump
       → Answer dump command text status → Output words bytes text status
   printed : (command : SerialCommand) (text : List ℕ) → command_of words ≡ Some (Serial command) → own_text command ≡ Some text → Output words bytes text Done
   summed : (n : ℕ) → command_of words ≡ Some (Threaded (Big n)) → Output words bytes (big_text n) Done

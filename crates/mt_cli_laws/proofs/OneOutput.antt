@@ -14,7 +14,7 @@ use Rattle.mt_dump.specs.Dumps.{Dump as Shows, dump_of, first_file}
 use Rattle.mt_dump.specs.Dump.{Shown}
 use Rattle.mt_dump.specs.Reader.{dump_offence}
 use Rattle.mt_dump.specs.declared.fault.DumpFault.{DumpFault}
-use Rattle.mt_dump.proofs.Ends.{one_dump, shown_no_offence}
+use Rattle.mt_dump.proofs.Ends.{one_dump, read_exactly, read_offence, shown_no_offence}
 use Rattle.mt_proc.specs.Proc.{proc_transcript}
 use Rattle.mt_replay.specs.Transcript.{transcript}
 use Rattle.mt_tidy.specs.Keeps.{IsLeast}
@@ -279,8 +279,8 @@ own_as words bytes command text status says own = subst (λ (o : Option Command)
 pub output_apart : (words : List (List ℕ)) (bytes text : List ℕ) (status : Status) → Output words bytes text status → OutputOwn bytes (command_of words) text status
 output_apart words bytes _ _ (usage none_is) = own_as words bytes None usage_line Usage none_is (record { is_text = refl; is_status = refl })
 output_apart words bytes _ _ (bad_text command fault says is) =
-    own_as words bytes (Some (Serial (Dump command))) (bad_text_line fault) BadText says (inl (record { fault = fault; offence = is; is_text = refl; is_status = refl }))
-output_apart words bytes text status (answered command dump _ _ says shows answer) = own_as words bytes (Some (Serial (Dump command))) text status says (inr (record { dump = dump; shows = shows; answer = answer }))
+    own_as words bytes (Some (Serial (Dump command))) (bad_text_line fault) BadText says (inl (record { fault = fault; offence = (read_offence bytes fault).0 is; is_text = refl; is_status = refl }))
+output_apart words bytes text status (answered command dump _ _ says shows answer) = own_as words bytes (Some (Serial (Dump command))) text status says (inr (record { dump = dump; shows = (read_exactly bytes dump).0 shows; answer = answer }))
 output_apart words bytes text _ (printed command _ says is) = own_as words bytes (Some (Serial command)) text Done says (own_of_serial bytes command text is)
 output_apart words bytes _ _ (summed n says) = own_as words bytes (Some (Threaded (Big n))) (big_text n) Done says (record { is_text = refl; is_status = refl })
 output_apart words bytes _ _ (measured cpus n accesses says) =

@@ -7,7 +7,7 @@ use Rattle.mt_regs.specs.Faults.{IsAccepted}
 use Rattle.mt_regs.specs.Agreement.{first_refusal}
 use Rattle.mt_types.proofs.SomeMap.{a_type_map}
 use Rattle.mt_dump.specs.Dumps.{Dump as Shows, IsDump, first_file}
-use Rattle.mt_dump.proofs.Ends.{shown_dump, shown_or_offence}
+use Rattle.mt_dump.proofs.Ends.{read_exactly, read_offence, shown_dump, shown_or_offence}
 use Rattle.mt_answers.proofs.FirstFiles.{first_is_accepted, first_is_file}
 use Rattle.mt_types_laws.proofs.SomeTidy.{tidy_or_more}
 use Rattle.mt_types_laws.proofs.SomeRounding.{rounded_or_more}
@@ -92,8 +92,8 @@ some_output words bytes = by_command (command_of words) refl
   where
     of_dump_output : (command : DumpCommand) → command_of words ≡ Some (Serial (Dump command)) → (text : List ℕ) × (status : Status) × Output words bytes text status
     of_dump_output command says = elim (shown_or_offence bytes) [
-      | inl (dump, shows) ↦ let (text, status, answer) = some_answer dump (shown_dump bytes dump shows) command in (text, status, answered command dump text status says shows answer)
-      | inr (fault, is) ↦ (_, _, bad_text command fault says is)
+      | inl (dump, shows) ↦ let (text, status, answer) = some_answer dump (shown_dump bytes dump shows) command in (text, status, answered command dump text status says ((read_exactly bytes dump).1 shows) answer)
+      | inr (fault, is) ↦ (_, _, bad_text command fault says ((read_offence bytes fault).1 is))
     ]
 
     by_command : (o : Option Command) → command_of words ≡ o → (text : List ℕ) × (status : Status) × Output words bytes text status

@@ -26,9 +26,7 @@ with_goal now goal None = record { file = goal; count = now.count + 1 }
 
 abbrev pub with_change : Served → Applied → Served
 with_change now (Goal goal n) = with_goal now goal (first_fault goal)
-with_change now BadRange = now
-with_change now NoneFree = now
-with_change now NotUsed = now
+with_change now other = now
 
 abbrev pub asked : Served → Request → Served
 asked now request = with_change now (applied now.file request)

@@ -14,7 +14,7 @@ use Rattle.mt_stream.specs.Told.{Told, told_step}
 use Rattle.mt_proc.specs.declared.running.ProcRun.{ProcRun}
 use Rattle.mt_proc.specs.declared.running.Run.{Run}
 use Rattle.mt_proc.specs.declared.running.Run.TheVariants as run
-use Rattle.mt_proc.specs.Proc.{Answer, Point, from_point, in_dump, in_requests, proc_end, situation_of}
+use Rattle.mt_proc.specs.Proc.{Answer, Point, from_point, in_dump, in_requests, proc_end, proc_told, situation_of}
 use Rattle.mt_proc.specs.Serving.{Serves, served}
 
 -- the run stands at this point
@@ -88,4 +88,4 @@ proc_running =
 
 -- For want of memory nothing was written.
 abbrev pub IsProc : {S K : Type 0} → ℕ → SourceRun S → SinkRun K → Status → Type 0
-IsProc cpus source sink status = IsRunOfLines (path_from cpus (in_dump [])) (AsksBy (from_point cpus) (AsksAt cpus)) source sink status
+IsProc cpus source sink status = IsRunOfLines (proc_told cpus) (λ bytes. []) (AsksBy (from_point cpus) (AsksAt cpus)) source sink status

@@ -33,7 +33,7 @@ use Rattle.mt_script.specs.declared.fault.Offence.{Offence}
 use Rattle.mt_script.specs.declared.fault.Offence.TheVariants as offence
 use Rattle.mt_script.proofs.Keeping.{accepted_is, start_is}
 use Rattle.mt_replay.specs.Heads.{HeadEnd, end_after, head_end, head_of, has_offence, shows_dump, stays_open}
-use Rattle.mt_replay.specs.Statuses.{ShowsAfter, ShowsAt, ShowsDump, ShowsIn, head_line}
+use Rattle.mt_replay.specs.Statuses.{ShowsAfter, ShowsAt, ShowsDump, ShowsIn, head_line, shown_by}
 use Rattle.mt_replay.proofs.Keeping.States.{command_known}
 
 -- only the dump's end gives a situation its dump
@@ -127,16 +127,33 @@ Comes end number lines first Showing (stays_open now before) = (end_fault now.st
 Comes end number lines first Showing (has_offence o) = (first ≡ Some o) × ((d : Dump) → Showing d → ⊥)
 Comes end number lines first Showing (shows_dump now dump next rest) = IsDumped end number lines first Showing now dump next rest
 
+-- where as much is shown
+same_comes : (end : Place) (number : ℕ) (lines : List (List ℕ)) (first : Option Offence) (P Q : Dump → Type 0) → ((d : Dump) → Q d ↔ P d) → (e : HeadEnd) → Comes end number lines first P e → Comes end number lines first Q e
+same_comes end number lines first P Q same (stays_open now before) h = (h.0, h.1, λ d q. h.2 d ((same d).0 q))
+same_comes end number lines first P Q same (has_offence o) h = (h.0, λ d q. h.1 d ((same d).0 q))
+same_comes end number lines first P Q same (shows_dump now dump next rest) h = record {
+  shows = (same dump).1 h.shows;
+  alone = λ other q. h.alone other ((same other).0 q);
+  good = h.good;
+  each = h.each;
+  is = h.is;
+  in_dump = h.in_dump;
+  follows = h.follows;
+  above = h.above;
+  behind = h.behind;
+  count = h.count;
+}
+
 -- with one line above
-above_line : (end : Place) (number : ℕ) (line : List ℕ) (lines : List (List ℕ)) (first : Option Offence) (P Q : Dump → Type 0) → ((d : Dump) → Q d ↔ P d) → (e : HeadEnd)
-    → Comes end (number + 1) lines first P e → Comes end number (line ∷ lines) first Q e
-above_line end number line lines first P Q same (stays_open now before) h = (h.0, h.1, λ d q. h.2 d ((same d).0 q))
-above_line end number line lines first P Q same (has_offence o) h = (h.0, λ d q. h.1 d ((same d).0 q))
-above_line end number line lines first P Q same (shows_dump now dump next rest) h =
+above_line : (end : Place) (number : ℕ) (line : List ℕ) (lines : List (List ℕ)) (first : Option Offence) (P : Dump → Type 0) → (e : HeadEnd)
+    → Comes end (number + 1) lines first P e → Comes end number (line ∷ lines) first P e
+above_line end number line lines first P (stays_open now before) h = h
+above_line end number line lines first P (has_offence o) h = h
+above_line end number line lines first P (shows_dump now dump next rest) h =
     let count = h.count in
     record {
-      shows = (same dump).1 h.shows;
-      alone = λ other q. h.alone other ((same other).0 q);
+      shows = h.shows;
+      alone = h.alone;
       good = h.good;
       each = h.each;
       is = h.is;
@@ -169,8 +186,10 @@ module _ (end : Place) (number : ℕ) (line : List ℕ) (lines : List (List ℕ)
   by_step : (Showing : Dump → Type 0) (step : HeadStep) → LeadsTo now Showing (λ d. ShowsIn d (number + 1) lines) step
       → Comes end number (line ∷ lines) (offence_after now (offence_in end (number + 1) lines) step) Showing (end_after (number + 1) lines now (head_end (number + 1) lines) step)
   by_step Showing (goes_on next after) h =
-      above_line end number line lines (offence_in end (number + 1) lines next after) (λ d. ShowsIn d (number + 1) lines next after) Showing h.3 (head_end (number + 1) lines next after)
-      (later next after h.0 h.1 (h.2 ∙ fresh))
+      let end_of_rest = head_end (number + 1) lines next after in
+      let first = offence_in end (number + 1) lines next after in
+      let Later : Dump → Type 0 = λ d. ShowsIn d (number + 1) lines next after in
+      same_comes end number (line ∷ lines) first Later Showing h.3 end_of_rest (above_line end number line lines first Later end_of_rest (later next after h.0 h.1 (h.2 ∙ fresh)))
   by_step Showing (shows dump) h = record {
     shows = h.1;
     alone = h.2;
@@ -191,5 +210,20 @@ all_come end number (line ∷ lines) now before is clean fresh =
     by_step end number line lines (all_come end (number + 1) lines) now before is fresh (λ d. ShowsIn d number (line ∷ lines) now before) (head_step now before number line)
     (line_leads number line (λ d. ShowsIn d (number + 1) lines) now before is clean)
 
-pub comes : (text : List ℕ) → Comes (end_of text) 1 (lines_of text) (script_offence text) (λ d. ShowsDump text d) (head_of text)
-comes text = all_come (end_of text) 1 (lines_of text) at_start [] start_is tt refl
+module _ (text : List ℕ) where
+  abbrev InTurn : Dump → Type 0
+  InTurn d = ShowsIn d 1 (lines_of text) at_start []
+
+  come_in_turn : Comes (end_of text) 1 (lines_of text) (script_offence text) InTurn (head_of text)
+  come_in_turn = all_come (end_of text) 1 (lines_of text) at_start [] start_is tt refl
+
+  pub in_turn : (dump : Dump) → ShowsDump text dump ↔ InTurn dump
+  in_turn dump = by (head_of text) come_in_turn
+    where
+      by : (e : HeadEnd) → Comes (end_of text) 1 (lines_of text) (script_offence text) InTurn e → (shown_by e ≡ Some dump) ↔ InTurn dump
+      by (stays_open now before) h = (λ is. absurd (cc is), λ shown. absurd (h.2 dump shown))
+      by (has_offence o) h = (λ is. absurd (cc is), λ shown. absurd (h.1 dump shown))
+      by (shows_dump now found next rest) h = (λ is. let same : found ≡ dump = cc is in subst InTurn same h.shows, λ shown. ap Some (sym (h.alone dump shown)))
+
+  pub comes : Comes (end_of text) 1 (lines_of text) (script_offence text) (λ d. ShowsDump text d) (head_of text)
+  comes = same_comes (end_of text) 1 (lines_of text) (script_offence text) InTurn (λ d. ShowsDump text d) in_turn (head_of text) come_in_turn

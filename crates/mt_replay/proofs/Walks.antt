@@ -1,5 +1,5 @@
 -- What a line and those behind it lead to, from a point of a run.
-use Rattle.std.proofs.Common.{◌≡◌, ◌∙◌, ap, refl, arith, ℕ, ◌+◌, ◌<◌, nat_lt, true, List, [], length, Option, None, Some, Bool, ◌∷◌, false}
+use Rattle.std.proofs.Common.{◌≡◌, ◌∙◌, ap, refl, arith, ℕ, ◌+◌, ◌<◌, nat_lt, true, List, [], length, Option, None, Bool, ◌∷◌, false}
 use Rattle.std.proofs.lemmas.Bool.Decides.{nat_tests}
 use Rattle.mt_text.specs.declared.place.Place.{Place}
 use Rattle.mt_ports.specs.declared.status.Status.TheVariants.{Done}
@@ -9,7 +9,7 @@ use Rattle.mt_dump.specs.declared.fault.DumpReason.TheVariants as dump_reason
 use Rattle.mt_script.specs.Situation.{Situation}
 use Rattle.mt_script.specs.Stages.{is_past_dump}
 use Rattle.mt_script.specs.Numbers.{fault_at}
-use Rattle.mt_script.specs.Commands.{command_of, end_fault, in_stage}
+use Rattle.mt_script.specs.Commands.{command_of, in_stage}
 use Rattle.mt_script.specs.Head.{HeadStep, goes_on, head_step, offends, shows, step_of_answer}
 use Rattle.mt_script.specs.declared.command.Stage.{Stage}
 use Rattle.mt_script.specs.declared.command.Stage.TheVariants.{NeedCpus, NeedDump, InDump, Rams, Commands, InUpdate, InBegin}
@@ -19,7 +19,7 @@ use Rattle.mt_script.specs.declared.fault.Offence.TheVariants.{Script, Dump}
 use Rattle.mt_replay.specs.Heads.{end_after, head_end}
 use Rattle.mt_replay.specs.ReplayState.{ReplayState}
 use Rattle.mt_replay.specs.Running.{from_line}
-use Rattle.mt_replay.specs.Transcript.{Head, Point, body_lines, from_point, head_lines, in_body, in_head, known_in, told_at_end, told_by, told_command, told_dump, told_in, told_lines, told_offence}
+use Rattle.mt_replay.specs.Transcript.{Point, body_lines, from_point, head_lines, in_body, in_head, told_by, told_command, told_dump, told_last, told_lines, told_offence}
 use Rattle.mt_stream.specs.Laws.{IsLongTold}
 use Rattle.mt_replay.specs.Newcomers.{newcomer_by, newcomers_from, newcomers_in}
 use Rattle.mt_replay.proofs.Newcomers.{head_brings}
@@ -28,37 +28,26 @@ use Rattle.mt_stream.specs.Told.{Told, told}
 -- ---- the head
 
 -- what is told from a step on
-abbrev pub told_after : Situation → Head → (ReplayState → Told) → HeadStep → Told
+abbrev pub told_after : Situation → (Situation → List Reading → Told) → (ReplayState → Told) → HeadStep → Told
 told_after now head rest (goes_on next after) = head next after
 told_after now head rest (shows dump) = told_dump now dump rest (first_refusal dump.files)
 told_after now head rest (offends o) = told_offence o
 
 -- a line of the head, by its step
 module _ (now : Situation) (before : List Reading) (number : ℕ) (line : List ℕ) where
-  of_text : (end : Place) (lines : List (List ℕ)) (step : HeadStep)
-      → told_by (λ last. told_at_end (end_fault last.stage end)) (told_in end) (end_after (number + 1) lines now (head_end (number + 1) lines) step)
-      ≡ told_after now (head_lines (Some end) (number + 1) lines) (body_lines (Some end) (number + 1) lines) step
-  of_text end lines (goes_on next after) = refl
-  of_text end lines (shows dump) = refl
-  of_text end lines (offends o) = refl
-
-  of_known : (lines : List (List ℕ)) (step : HeadStep)
-      → told_by (λ last. told [] Done) known_in (end_after (number + 1) lines now (head_end (number + 1) lines) step) ≡ told_after now (head_lines None (number + 1) lines) (body_lines None (number + 1) lines) step
-  of_known lines (goes_on next after) = refl
-  of_known lines (shows dump) = refl
-  of_known lines (offends o) = refl
+  of_step : (end : Option Place) (lines : List (List ℕ)) (step : HeadStep)
+      → told_by (told_last end) (body_lines end) (end_after (number + 1) lines now (head_end (number + 1) lines) step) ≡ told_after now (head_lines end (number + 1) lines) (body_lines end (number + 1) lines) step
+  of_step end lines (goes_on next after) = refl
+  of_step end lines (shows dump) = refl
+  of_step end lines (offends o) = refl
 
   pub head_leads : (step : HeadStep) → head_step now before number line ≡ step → (end : Option Place) (lines : List (List ℕ))
       → from_line number line (in_head now before) end lines ≡ told_after now (head_lines end (number + 1) lines) (body_lines end (number + 1) lines) step
-  head_leads step is (Some end) lines =
-      of_text end lines (head_step now before number line) ∙ ap (told_after now (head_lines (Some end) (number + 1) lines) (body_lines (Some end) (number + 1) lines)) is
-  head_leads step is None lines =
-      of_known lines (head_step now before number line) ∙ ap (told_after now (head_lines None (number + 1) lines) (body_lines None (number + 1) lines)) is
+  head_leads step is end lines = of_step end lines (head_step now before number line) ∙ ap (told_after now (head_lines end (number + 1) lines) (body_lines end (number + 1) lines)) is
 
 pub from_body : (s : ReplayState) (number : ℕ) (line : List ℕ) (end : Option Place) (lines : List (List ℕ))
     → from_line number line (in_body s) end lines ≡ told_command s (body_lines end (number + 1) lines) (command_of s.now number line)
-from_body s number line (Some end) lines = refl
-from_body s number line None lines = refl
+from_body s number line end lines = refl
 
 -- ---- a line too long
 

@@ -1,19 +1,20 @@
 -- Which lines of a script bring a processor up (own): of its commands only these want memory.
+--     has_newcomers text      whether a step of the text does
 --     newcomers_from number lines point      whether one of these lines does, the first of which has this number, up to the first offence
---     has_newcomers text      whether one of a whole text does
 use Rattle.std.specs.Prelude.{ℕ, ◌+◌, ◌||◌, Bool, true, false, List, [], ◌∷◌, ◌++◌, if◌then◌else◌, Option, Some, None, Result, Ok, Err}
-use Rattle.mt_text.specs.Text.{lines_of}
+use Rattle.std.specs.List.{list_any}
 use Rattle.mt_output.specs.Lines.{accepted_line}
 use Rattle.mt_regs.specs.declared.fault.Fault.{Fault}
 use Rattle.mt_regs.specs.Agreement.{first_refusal}
 use Rattle.mt_dump.specs.Dumps.{Dump}
-use Rattle.mt_script.specs.Situation.{Situation, at_start}
+use Rattle.mt_script.specs.Situation.{Situation}
 use Rattle.mt_script.specs.Commands.{command_of}
 use Rattle.mt_script.specs.declared.command.Command.{Command}
 use Rattle.mt_script.specs.declared.command.Command.TheVariants as command
 use Rattle.mt_script.specs.declared.fault.ScriptFault.{ScriptFault}
-use Rattle.mt_replay.specs.Heads.{HeadEnd, head_end, has_offence, shows_dump, stays_open}
+use Rattle.mt_replay.specs.Heads.{HeadEnd, head_end, shows_dump}
 use Rattle.mt_replay.specs.ReplayState.{ReplayState, first_state, state_after}
+use Rattle.mt_replay.specs.Steps.{course}
 use Rattle.mt_replay.specs.Transcript.{Point, in_body, in_head, transcript}
 
 abbrev pub is_newcomer : Command → Bool
@@ -38,18 +39,17 @@ newcomers_of_dump now dump rest (Some refusal) = false
 newcomers_of_dump now dump rest None = rest (first_state now dump)
 
 abbrev pub newcomers_by : HeadEnd → Bool
-newcomers_by (stays_open now before) = false
-newcomers_by (has_offence o) = false
 newcomers_by (shows_dump now dump number lines) = newcomers_of_dump now dump (newcomers_in number lines) (first_refusal dump.files)
+newcomers_by other = false
 
 abbrev pub newcomers_from : ℕ → List (List ℕ) → Point → Bool
 newcomers_from number lines (in_head now before) = newcomers_by (head_end number lines now before)
 newcomers_from number lines (in_body s) = newcomers_in number lines s
 
-abbrev pub has_newcomers : List ℕ → Bool
-has_newcomers text = newcomers_from 1 (lines_of text) (in_head at_start [])
-
 -- ---- what may have been written where memory is refused
+
+abbrev pub has_newcomers : List ℕ → Bool
+has_newcomers text = list_any (λ step. is_newcomer step.command) (course text)
 
 -- behind this text, before that
 abbrev pub early : Bool → List ℕ → List ℕ → List ℕ

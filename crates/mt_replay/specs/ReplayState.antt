@@ -9,7 +9,7 @@ use Rattle.mt_regs.specs.RegisterFile.{RegisterFile}
 use Rattle.mt_regs.specs.Registers.{value_at, written}
 use Rattle.mt_tlb.specs.declared.mapping.Mapping.{Mapping}
 use Rattle.mt_machine.specs.declared.go.Go.{Go}
-use Rattle.mt_machine.specs.declared.go.Go.TheVariants.{Pending, Given, Cancelled}
+use Rattle.mt_machine.specs.declared.go.Go.TheVariants.{Pending}
 use Rattle.mt_machine.specs.declared.op.Op.{Op}
 use Rattle.mt_machine.specs.declared.op.Op.TheVariants as op
 use Rattle.mt_machine.specs.declared.control.Control.{Control}
@@ -100,9 +100,7 @@ is_update other = false
 -- the coordinator has said nothing yet
 abbrev pub is_undecided : Option Go → Bool
 is_undecided (Some Pending) = true
-is_undecided (Some Given) = false
-is_undecided (Some Cancelled) = false
-is_undecided None = false
+is_undecided other = false
 
 -- an event of the coordinator, where it has said nothing yet
 abbrev pub after_word : MachineEvent → Machine → Machine
@@ -161,8 +159,6 @@ after_retire m = if may_go m then without_last m else m
 -- ---- what a command asks for
 
 abbrev pub task_of : Command → Task
-task_of (command.Cpus n) = task.Act act.Nothing
-task_of command.Dump = task.Act act.Nothing
 task_of (command.Ram base lines) = task.Window base lines
 task_of (command.Selfsnoop k) = task.Act (act.Selfsnoop k)
 task_of (command.Load k address) = task.Act (act.Ask k (ask.Access (op.Load address)))
@@ -184,10 +180,9 @@ task_of command.Join = task.Join
 task_of command.Retire = task.Act act.Retire
 task_of (command.Word address) = task.Act (act.Word address)
 task_of (command.Msr k number) = task.Act (act.Ask k (ask.Register number))
-task_of command.Blank = task.Act act.Nothing
-task_of command.DumpLine = task.Act act.Nothing
 task_of (command.Register number value) = task.Act (act.Section (section.Register number value))
 task_of command.End = task.Act (act.Section section.End)
+task_of other = task.Act act.Nothing
 
 -- ---- what is done, and what it writes
 

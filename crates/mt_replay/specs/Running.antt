@@ -139,4 +139,4 @@ replay_running = running StandsAt end_of_run (λ now. AsksBy from_point AsksAt) 
 
 -- For want of memory at most the line `accepted` was written, unless a line `up` or `join` is read.
 abbrev pub IsReplay : {S K : Type 0} → SourceRun S → SinkRun K → Status → Type 0
-IsReplay source sink status = IsRunOfLines (path_from false [] (in_head at_start [])) (AsksBy from_point AsksAt) source sink status
+IsReplay source sink status = IsRunOfLines replay_told early_text (AsksBy from_point AsksAt) source sink status

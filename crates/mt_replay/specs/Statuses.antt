@@ -1,6 +1,6 @@
 -- The dump of a script, and the status of its transcript with its first and last line (own).
 --     ShowsDump text dump      the text's dump is read whole, no offence stands up to and with its end, and its lines show this
-use Rattle.std.specs.Prelude.{ℕ, ◌≡◌, ◌≢◌, ◌⊎◌, ◌↔◌, ◌+◌, Bool, true, false, List, [], ◌∷◌, ◌++◌, Some, None, Ok}
+use Rattle.std.specs.Prelude.{ℕ, ◌≡◌, ◌≢◌, ◌⊎◌, ◌↔◌, ◌+◌, Bool, true, false, List, [], ◌∷◌, ◌++◌, Option, Some, None, Ok}
 use Rattle.std.specs.List.{All}
 use Rattle.mt_text.specs.Text.{lines_of}
 use Rattle.mt_ports.specs.declared.status.Status.TheVariants.{Done, Refused, BadText}
@@ -21,10 +21,21 @@ use Rattle.mt_script.specs.Script.{script_offence}
 use Rattle.mt_script.specs.declared.command.Command.{Command}
 use Rattle.mt_script.specs.declared.fault.Offence.{Offence}
 use Rattle.mt_output.specs.Lines.{accepted_line, dump_refused_line, offence_line}
+use Rattle.mt_replay.specs.Heads.{HeadEnd, head_of, shows_dump}
 use Rattle.mt_replay.specs.Transcript.{told_offence, transcript}
 use Rattle.mt_stream.specs.Told.{told}
 
 -- ---- the dump of a text
+
+-- the dump that the lines up to its end show
+abbrev pub shown_by : HeadEnd → Option Dump
+shown_by (shows_dump now dump number lines) = Some dump
+shown_by other = None
+
+abbrev pub ShowsDump : List ℕ → Dump → Type 0
+ShowsDump text dump = shown_by (head_of text) ≡ Some dump
+
+-- ---- the same line by line
 
 -- A line up to the dump's end: what stands set up, the dump's lines before it, and what it says as a line of the dump.
 pub record HeadLine : Type 0 where
@@ -51,8 +62,11 @@ ShowsIn dump number [] now before = ⊥
 ShowsIn dump number (line ∷ lines) now before =
     (c : Command) × (command_of now number line ≡ Ok c) × ShowsAfter dump (head_line now before (said_of number line)) (ShowsIn dump (number + 1) lines) c (is_in_dump now.stage)
 
-abbrev pub ShowsDump : List ℕ → Dump → Type 0
-ShowsDump text dump = ShowsIn dump 1 (lines_of text) at_start []
+-- a text shows a dump if and only if its lines do so in turn
+abbrev pub DumpsAreShownInTurn : Type 0
+DumpsAreShownInTurn = (text : List ℕ) (dump : Dump) → ShowsDump text dump ↔ ShowsIn dump 1 (lines_of text) at_start []
+
+-- ---- which dumps are shown
 
 -- the dump isn't read to its end, whatever it might show
 abbrev pub ShowsNoDump : List ℕ → Type 0

@@ -12,7 +12,7 @@ use Rattle.mt_script.specs.Situation.{Situation}
 use Rattle.mt_script.specs.Commands.{command_of}
 use Rattle.mt_script.specs.declared.command.Command.{Command}
 use Rattle.mt_script.specs.declared.fault.ScriptFault.{ScriptFault}
-use Rattle.mt_replay.specs.Heads.{HeadEnd, head_end, head_of, has_offence, shows_dump, stays_open}
+use Rattle.mt_replay.specs.Heads.{HeadEnd, head_end, head_of, shows_dump}
 use Rattle.mt_replay.specs.ReplayState.{ReplayState, command_text, first_state, state_after}
 
 -- ---- steps
@@ -52,9 +52,8 @@ begins_with now dump number lines (Some refusal) = None
 begins_with now dump number lines None = Some (record { number = number; lines = lines; state = first_state now dump })
 
 abbrev pub begins_by : HeadEnd → Option Beginning
-begins_by (stays_open now before) = None
-begins_by (has_offence o) = None
 begins_by (shows_dump now dump number lines) = begins_with now dump number lines (first_refusal dump.files)
+begins_by other = None
 
 -- by the situation and the dump's lines so far, of which the last stands first
 abbrev pub Beginnings : Type 0

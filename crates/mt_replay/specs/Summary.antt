@@ -1,14 +1,14 @@
 -- Three numbers of a script's transcript, and the sum of memory at its end (own).
 --     is_complete line, value_in line      whether a line says `complete E`, and V where it says `value V T`
---     lines_in text, updates_in text, values_in text      of a text: how many lines it has, how many of them say so, and the sum of their values
+--     updates_in text      how many lines of a text say so
 --     last_state text      the last state of a script; none where no dump was accepted
 --     summary text      the numbers of a script's transcript
-use Rattle.std.specs.Prelude.{ℕ, ◌-◌, ◌%◌, ◌^◌, nat_eq, min, Bool, List, codes, drop, length, take, sum, sum_by, count_by, if◌then◌else◌, Option, Some, None, Result, Ok, Err}
+use Rattle.std.specs.Prelude.{ℕ, ◌-◌, ◌%◌, ◌^◌, nat_eq, min, Bool, List, codes, drop, length, take, sum, sum_by, count_by, if◌then◌else◌, Option, Some, None}
 use Rattle.std.specs.Cmp.Lexicographic.{pointwise}
 use Rattle.std.specs.Option.{option_map}
+use Rattle.std.specs.Result.{result_unwrap_or}
 use Rattle.mt_text.specs.Text.{lines_of}
 use Rattle.mt_text.specs.Number.{hex_number}
-use Rattle.mt_text.specs.declared.fault.NumberFault.{NumberFault}
 use Rattle.mt_replay.specs.Steps.{Beginning, beginning, last_of, steps_in}
 use Rattle.mt_replay.specs.ReplayState.{ReplayState}
 use Rattle.mt_replay.specs.Transcript.{transcript}
@@ -23,25 +23,14 @@ begins_with text line = pointwise nat_eq (take (length text) line) text
 abbrev pub is_complete : List ℕ → Bool
 is_complete line = begins_with (codes "complete ") line
 
--- the number of hexadecimal digits; that of anything else is 0
-abbrev pub number_or_zero : Result ℕ NumberFault → ℕ
-number_or_zero (Ok number) = number
-number_or_zero (Err fault) = 0
-
 -- V of a line `value V T`, by its sixteen digits; 0 of any other line
 abbrev pub value_in : List ℕ → ℕ
-value_in line = if begins_with (codes "value ") line then number_or_zero (hex_number (take 16 (drop 6 line))) else 0
+value_in line = if begins_with (codes "value ") line then result_unwrap_or (hex_number (take 16 (drop 6 line))) 0 else 0
 
 -- ---- texts
 
-abbrev pub lines_in : List ℕ → ℕ
-lines_in text = length (lines_of text)
-
 abbrev pub updates_in : List ℕ → ℕ
 updates_in text = count_by is_complete (lines_of text)
-
-abbrev pub values_in : List ℕ → ℕ
-values_in text = sum_by value_in (lines_of text)
 
 -- ---- the last state
 
@@ -61,9 +50,9 @@ memory_sum (Some s) = sum s.machine.system.memory.words
 -- of a transcript and a last state
 abbrev pub totals : List ℕ → Option ReplayState → Totals
 totals text last = record {
-  lines = min (lines_in text) (2 ^ 64 - 1);
+  lines = min (length (lines_of text)) (2 ^ 64 - 1);
   updates = updates_in text;
-  values = values_in text % 2 ^ 64;
+  values = sum_by value_in (lines_of text) % 2 ^ 64;
   memory = memory_sum last % 2 ^ 64;
 }
 

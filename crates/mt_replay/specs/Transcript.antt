@@ -35,16 +35,17 @@ abbrev pub told_command : ReplayState → (ReplayState → Told) → Result Comm
 told_command s rest (Err fault) = told_offence (offence.Script fault)
 told_command s rest (Ok c) = behind (command_text s c) (rest (state_after s c))
 
--- of lines after the dump, the first of which has this number, where the text ends at this place
-abbrev pub told_in : Place → ℕ → List (List ℕ) → ReplayState → Told
-told_in end number [] s = told_at_end (end_fault s.now.stage end)
-told_in end number (line ∷ lines) s = told_command s (told_in end (number + 1) lines) (command_of s.now number line)
+-- where the lines of a text end at a place, or those of a front, behind which others may come: of these nothing is told
+abbrev pub told_last : Option Place → Situation → Told
+told_last (Some end) now = told_at_end (end_fault now.stage end)
+told_last None now = told [] Done
+
+-- of lines after the dump, the first of which has this number
+abbrev pub body_lines : Option Place → ℕ → List (List ℕ) → ReplayState → Told
+body_lines end number [] s = told_last end s.now
+body_lines end number (line ∷ lines) s = told_command s (body_lines end (number + 1) lines) (command_of s.now number line)
 
 -- ---- up to the dump's end
-
--- what the lines behind the dump lead to, the first of which has this number
-abbrev pub Body : Type 0
-Body = ℕ → List (List ℕ) → ReplayState → Told
 
 -- the dump's end has no offence, and one of its files may have a fault
 abbrev pub told_dump : Situation → Dump → (ReplayState → Told) → Option (ℕ × Fault) → Told
@@ -52,27 +53,14 @@ told_dump now dump rest (Some refusal) = told (dump_refused_line dump.version re
 told_dump now dump rest None = behind accepted_line (rest (first_state now dump))
 
 -- by what the lines come to; where they end before the dump does this is told of the situation
-abbrev pub told_by : (Situation → Told) → Body → HeadEnd → Told
+abbrev pub told_by : (Situation → Told) → (ℕ → List (List ℕ) → ReplayState → Told) → HeadEnd → Told
 told_by at_last body (stays_open now before) = at_last now
 told_by at_last body (has_offence o) = told_offence o
 told_by at_last body (shows_dump now dump number lines) = told_dump now dump (body number lines) (first_refusal dump.files)
 
--- what the lines that come up to the dump's end lead to, by the situation and the dump's lines so far, of which the last stands first
-abbrev pub Head : Type 0
-Head = Situation → List Reading → Told
-
--- of lines up to the dump's end, and all that follow
-abbrev pub told_from : Body → Place → ℕ → List (List ℕ) → Head
-told_from body end number lines now before = told_by (λ last. told_at_end (end_fault last.stage end)) body (head_end number lines now before)
-
--- ---- of a front, behind which other lines may come: nothing is told where its lines end
-
-abbrev pub known_in : ℕ → List (List ℕ) → ReplayState → Told
-known_in number [] s = told [] Done
-known_in number (line ∷ lines) s = told_command s (known_in (number + 1) lines) (command_of s.now number line)
-
-abbrev pub known_from : ℕ → List (List ℕ) → Head
-known_from number lines now before = told_by (λ last. told [] Done) known_in (head_end number lines now before)
+-- of lines up to the dump's end, and all that follow, by the situation and the dump's lines so far, of which the last stands first
+abbrev pub head_lines : Option Place → ℕ → List (List ℕ) → Situation → List Reading → Told
+head_lines end number lines now before = told_by (told_last end) (body_lines end) (head_end number lines now before)
 
 -- ---- from any line on
 
@@ -80,15 +68,6 @@ known_from number lines now before = told_by (λ last. told [] Done) known_in (h
 pub data Point : Type 0 where
   in_head : Situation → List Reading → Point
   in_body : ReplayState → Point
-
--- all lines of a text that ends at a place, or those of a front: up to the dump's end, and behind it
-abbrev pub head_lines : Option Place → ℕ → List (List ℕ) → Head
-head_lines (Some end) number lines = told_from (told_in end) end number lines
-head_lines None number lines = known_from number lines
-
-abbrev pub body_lines : Option Place → ℕ → List (List ℕ) → ReplayState → Told
-body_lines (Some end) number lines = told_in end number lines
-body_lines None number lines = known_in number lines
 
 abbrev pub told_lines : Option Place → ℕ → List (List ℕ) → Point → Told
 told_lines end number lines (in_head now before) = head_lines end number lines now before

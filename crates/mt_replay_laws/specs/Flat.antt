@@ -1,7 +1,7 @@
 -- The flat machine, without caches, beside a script: what it is given of each command, and the transcript with its values.
 use Rattle.std.specs.Prelude.{◌≡◌, ℕ, ◌+◌, List, [], ◌∷◌, if◌then◌else◌, Result, Ok, Err}
 use Rattle.std.specs.Option.{option_map_or}
-use Rattle.mt_text.specs.Text.{lines_of, end_of}
+use Rattle.mt_text.specs.Text.{end_of}
 use Rattle.mt_text.specs.declared.place.Place.{Place}
 use Rattle.mt_regs.specs.RegisterFile.{RegisterFile}
 use Rattle.mt_machine.specs.declared.op.Op.{Op}
@@ -16,7 +16,6 @@ use Rattle.mt_machine.specs.ComingAndGoing.{last_number, with_newcomer}
 use Rattle.mt_machine.specs.Update.{physical_of}
 use Rattle.mt_flat.specs.Flat.{Flat, empty_all, flat_answer, flat_start}
 use Rattle.mt_flat.specs.Seen.{flat_after, flat_takes}
-use Rattle.mt_script.specs.Situation.{at_start}
 use Rattle.mt_script.specs.Commands.{command_of, end_fault}
 use Rattle.mt_script.specs.declared.command.Command.{Command}
 use Rattle.mt_script.specs.declared.command.Command.TheVariants as command
@@ -24,7 +23,8 @@ use Rattle.mt_script.specs.declared.fault.ScriptFault.{ScriptFault}
 use Rattle.mt_script.specs.declared.fault.Offence.TheVariants as offence
 use Rattle.mt_replay.specs.Texts.{absent_line, done_line}
 use Rattle.mt_replay.specs.ReplayState.{ReplayState, call_fault, each_processor, is_absent, is_update, mapping, may_come, may_go, present_text, state_after}
-use Rattle.mt_replay.specs.Transcript.{told_at_end, told_from, told_offence, transcript}
+use Rattle.mt_replay.specs.Heads.{head_of}
+use Rattle.mt_replay.specs.Transcript.{told_at_end, told_by, told_last, told_offence, transcript}
 use Rattle.mt_stream.specs.Told.{Told, behind}
 
 -- ---- what the flat machine is given
@@ -92,7 +92,7 @@ flat_told_in end number (line ∷ lines) s f = flat_told_command s f (flat_told_
 
 -- the flat machine is at its start where the machine is
 abbrev pub flat_transcript : List ℕ → Told
-flat_transcript text = told_from (λ number lines s. flat_told_in (end_of text) number lines s flat_start) (end_of text) 1 (lines_of text) at_start []
+flat_transcript text = told_by (told_last (Some (end_of text))) (λ number lines s. flat_told_in (end_of text) number lines s flat_start) (head_of text)
 
 -- caches are never seen: each value in a transcript is the flat machine's
 abbrev pub ScriptsHideCaches : Type 0

@@ -13,7 +13,8 @@ ghost use Rattle.mt_script.specs.declared.command.Stage.TheVariants as stage;
 ghost use Rattle.mt_stream.specs.Told.{told};
 ghost use Rattle.mt_replay_laws.specs.Flat.{flat_done, flat_told_in};
 ghost use Rattle.mt_replay_laws.specs.Headline.{ComesUp, HasNewcomer, IsCall, IsCalled, IsRefused, Joins, NoneOf, SectionOf, UpdateOf, stored_in};
-ghost use Rattle.mt_replay_laws.specs.Through.{EachIn, HoldsThrough};
+ghost use Rattle.mt_replay.specs.Steps.{steps_in};
+ghost use Rattle.mt_replay_laws.specs.Through.{HoldsAlong, HoldsThrough};
 ghost use Rattle.mt_replay_laws.specs.Movers.{Stays};
 ghost use Rattle.mt_replay.specs.Newcomers.{early_text};
 ghost use Rattle.mt_replay_laws.specs.Settling.{AreHeld, AreWithoutCall, EndsIdle, IsAdmittedAfter, IsSettledAfter, stored_by_all};
@@ -94,9 +95,9 @@ pub fn worked_without_call()
 
 /// What holds of each state that lines lead to, and what doesn't of the first or the last.
 pub fn worked_each_state()
-    ensures each { EachIn (λ s. s.now.stage ≡ stage.Commands) 1 (codes "fence 0" ∷ codes "go" ∷ []) painted }
-    ensures not_of_the_first { EachIn (λ s. s.now.stage ≡ stage.InBegin) 1 (codes "begin" ∷ []) painted → ⊥ }
-    ensures not_of_the_last { EachIn (λ s. s.now.stage ≡ stage.Commands) 1 (codes "fence 0" ∷ codes "begin" ∷ []) painted → ⊥ }
+    ensures each { HoldsAlong (λ s. s.now.stage ≡ stage.Commands) painted (steps_in 1 (codes "fence 0" ∷ codes "go" ∷ []) painted) }
+    ensures not_of_the_first { HoldsAlong (λ s. s.now.stage ≡ stage.InBegin) painted (steps_in 1 (codes "begin" ∷ []) painted) → ⊥ }
+    ensures not_of_the_last { HoldsAlong (λ s. s.now.stage ≡ stage.Commands) painted (steps_in 1 (codes "fence 0" ∷ codes "begin" ∷ []) painted) → ⊥ }
 {}
 
 /// The words that commands store, and words that aren't held.

@@ -1,10 +1,16 @@
 ghost use Rattle.mt_replay_laws.specs.Settling.{AbsentProcessorsDoNothing, AbsentWhereNoProcessor, AcceptedCallsAreUnderWay, AcceptedWhereIdle, CallsUnderWayChangeNothing, CompleteUpdatesSettle, JoinsSettle, RefusedCallsChangeNothing, ReleasedStatesSettle, ReleasedWordsAreHeld, UpdatedWordsAreHeld};
-ghost use Rattle.mt_replay.specs.Statuses.{AcceptedFirst, AcceptedUnlessRefused, BadTextEndsWithOffence, BadTextWhereOffence, DoneWhereNoOffence, OffenceAlone, OneDumpShown, OneOfThreeStatuses, RefusedAlone, RefusedWhereFileIsRefused};
+ghost use Rattle.mt_replay.specs.Statuses.{AcceptedFirst, AcceptedUnlessRefused, BadTextEndsWithOffence, BadTextWhereOffence, DoneWhereNoOffence, DumpsAreShownInTurn, OffenceAlone, OneDumpShown, OneOfThreeStatuses, RefusedAlone, RefusedWhereFileIsRefused};
 ghost use Rattle.mt_replay_laws.specs.Through.{StatesHaveTheShownDump};
 
 /// A text shows no two dumps.
 pub fn a_text_shows_one_dump()
     ensures { OneDumpShown }
+{}
+
+/// A text shows a dump if and only if each line up to the dump's end is accepted in its turn, and the dump's
+/// lines show it, with a file for each processor or in version 1 one for all.
+pub fn dumps_are_shown_in_turn()
+    ensures { DumpsAreShownInTurn }
 {}
 
 /// Each state that a text comes to has the dump that the text shows.

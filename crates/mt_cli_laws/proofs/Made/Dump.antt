@@ -10,13 +10,8 @@ use Rattle.mt_regs.specs.RegisterFile.{RegisterFile}
 use Rattle.mt_regs.specs.Faults.{IsAccepted}
 use Rattle.mt_regs.specs.PageTypes.{page_type}
 use Rattle.mt_dump.specs.Dumps.{Dump, dump_of}
-use Rattle.mt_dump.specs.Line.{Reading, said_of}
-use Rattle.mt_dump.specs.Reader.{IsClean}
-use Rattle.mt_dump.proofs.OneLine.{is_sane}
-use Rattle.mt_dump.proofs.Stands.{clean_shown}
 use Rattle.mt_script.specs.Situation.{Situation}
 use Rattle.mt_script.specs.declared.command.Stage.TheVariants.{Commands}
-use Rattle.mt_script.specs.declared.command.Command.TheVariants as command
 use Rattle.mt_replay.specs.Statuses.{ShowsDump}
 use Rattle.mt_answers.specs.Generator.{head_text}
 
@@ -51,13 +46,5 @@ file_accepted = λ page within. defined page
 pub made_accepted : All IsAccepted made_dump.files
 made_accepted = All-cons IsAccepted made_file [] file_accepted (All-nil IsAccepted)
 
--- the lines of the dump, the last first, have no offence
-abbrev made_readings : List Reading
-made_readings = said_of 7 (codes "2ff 800") ∷ said_of 6 (codes "201 f00000800") ∷ said_of 5 (codes "200 6") ∷ said_of 4 (codes "0fe 508") ∷ said_of 3 (codes "maxphyaddr 36") ∷ []
-
-made_clean : IsClean made_readings
-made_clean =
-    (is_sane 7 (codes "2ff 800"), refl, (is_sane 6 (codes "201 f00000800"), refl, (is_sane 5 (codes "200 6"), refl, (is_sane 4 (codes "0fe 508"), refl, (is_sane 3 (codes "maxphyaddr 36"), refl, tt)))))
-
 pub made_shown : (rest : List ℕ) → ShowsDump (head_text ++ rest) made_dump
-made_shown rest = (command.Cpus 16, refl, (command.Dump, refl, (command.DumpLine, refl, (refl, (command.DumpLine, refl, (refl, (command.DumpLine, refl, (refl, (command.DumpLine, refl, (refl, (command.DumpLine, refl, (refl, (command.End, refl, (clean_shown made_readings made_dump made_clean refl, refl))))))))))))))
+made_shown rest = refl

@@ -29,7 +29,7 @@ use Rattle.mt_replay.specs.Heads.{HeadEnd, head_of, has_offence, shows_dump, sta
 use Rattle.mt_replay.specs.Kept.{IsReplayState}
 use Rattle.mt_replay.specs.ReplayState.{ReplayState, command_text, first_state, state_after}
 use Rattle.mt_replay.specs.Statuses.{AcceptedFirst, AcceptedUnlessRefused, BadTextEndsWithOffence, BadTextWhereOffence, DoneWhereNoOffence, EndsWith, HasRefusedFile, OffenceAlone, OneDumpShown, OneOfThreeStatuses, RefusedAlone, RefusedWhereFileIsRefused, ShowsDump, ShowsNoDump}
-use Rattle.mt_replay.specs.Transcript.{told_at_end, told_by, told_command, told_dump, told_in, told_offence, transcript}
+use Rattle.mt_replay.specs.Transcript.{body_lines, told_at_end, told_by, told_command, told_dump, told_offence, transcript}
 use Rattle.mt_stream.specs.Told.{Told, behind, told}
 use Rattle.mt_replay.proofs.FirstRefusal.{all_accepted, none_refused, refusal_found, refused_first}
 use Rattle.mt_replay.proofs.Keeping.First.{first_kept}
@@ -51,21 +51,21 @@ ends_at_end : (fault : Option ScriptFault) → Ends (told_at_end fault) (option_
 ends_at_end None = refl
 ends_at_end (Some fault) = (refl, ([], refl))
 
-ends_in : (end : Place) (number : ℕ) (lines : List (List ℕ)) (s : ReplayState) → IsReplayState s → Ends (told_in end number lines s) (offence_in end number lines s.now [])
+ends_in : (end : Place) (number : ℕ) (lines : List (List ℕ)) (s : ReplayState) → IsReplayState s → Ends (body_lines (Some end) number lines s) (offence_in end number lines s.now [])
 ends_in end number [] = λ s h. ends_at_end (end_fault s.now.stage end)
 ends_in end number (line ∷ lines) = one (ends_in end (number + 1) lines)
   where
-    one : ((s : ReplayState) → IsReplayState s → Ends (told_in end (number + 1) lines s) (offence_in end (number + 1) lines s.now [])) → (s : ReplayState) → IsReplayState s
-        → Ends (told_in end number (line ∷ lines) s) (offence_in end number (line ∷ lines) s.now [])
+    one : ((s : ReplayState) → IsReplayState s → Ends (body_lines (Some end) (number + 1) lines s) (offence_in end (number + 1) lines s.now [])) → (s : ReplayState) → IsReplayState s
+        → Ends (body_lines (Some end) number (line ∷ lines) s) (offence_in end number (line ∷ lines) s.now [])
     one later s h = by (command_of s.now number line) refl
       where
         on : (c : Command) → IsReplayState (state_after s c) → (dump : Bool) → is_in_dump s.now.stage ≡ dump
-            → Ends (behind (command_text s c) (told_in end (number + 1) lines (state_after s c))) (offence_after s.now (offence_in end (number + 1) lines) (step_of_command s.now [] number line c dump))
+            → Ends (behind (command_text s c) (body_lines (Some end) (number + 1) lines (state_after s c))) (offence_after s.now (offence_in end (number + 1) lines) (step_of_command s.now [] number line c dump))
         on c kept true dump = absurd (let past = sym (not_past_in_dump s.now.stage dump) ∙ h.past in cc past)
-        on c kept false dump = ends_behind (command_text s c) (told_in end (number + 1) lines (state_after s c)) (offence_in end (number + 1) lines (state_after s c).now []) (later (state_after s c) kept)
+        on c kept false dump = ends_behind (command_text s c) (body_lines (Some end) (number + 1) lines (state_after s c)) (offence_in end (number + 1) lines (state_after s c).now []) (later (state_after s c) kept)
 
         by : (answer : Result Command ScriptFault) → command_of s.now number line ≡ answer
-            → Ends (told_command s (told_in end (number + 1) lines) answer) (offence_after s.now (offence_in end (number + 1) lines) (step_of_answer s.now [] number line answer))
+            → Ends (told_command s (body_lines (Some end) (number + 1) lines) answer) (offence_after s.now (offence_in end (number + 1) lines) (step_of_answer s.now [] number line answer))
         by (Err fault) asked = (refl, ([], refl))
         by (Ok c) asked = on c (state_kept s c h (command_known s.now number line c asked)) (is_in_dump s.now.stage) refl
 
@@ -104,10 +104,10 @@ data Outcome (text : List ℕ) : Type 0 where
 
 module _ (text : List ℕ) where
   abbrev tells : HeadEnd → Told
-  tells e = told_by (λ last. told_at_end (end_fault last.stage (end_of text))) (told_in (end_of text)) e
+  tells e = told_by (λ last. told_at_end (end_fault last.stage (end_of text))) (body_lines (Some (end_of text))) e
 
   of_dump : (now : Situation) (dump : Dump) (number : ℕ) (lines : List (List ℕ)) → IsDumped (end_of text) 1 (lines_of text) (script_offence text) (ShowsDump text) now dump number lines
-      → (refusal : Option (ℕ × Fault)) → first_refusal dump.files ≡ refusal → transcript text ≡ told_dump now dump (told_in (end_of text) number lines) refusal → Outcome text
+      → (refusal : Option (ℕ × Fault)) → first_refusal dump.files ≡ refusal → transcript text ≡ told_dump now dump (body_lines (Some (end_of text)) number lines) refusal → Outcome text
   of_dump now dump number lines h (Some refusal) has is = of_refused (record { dump = dump; refusal = refusal; shows = h.shows; alone = h.alone; has = has; is = is })
   of_dump now dump number lines h None has is =
       of_accepted (record {
@@ -115,9 +115,9 @@ module _ (text : List ℕ) where
         shows = h.shows;
         alone = h.alone;
         has = has;
-        rest = told_in (end_of text) number lines (first_state now dump);
+        rest = body_lines (Some (end_of text)) number lines (first_state now dump);
         is = is;
-        ends = subst (Ends (told_in (end_of text) number lines (first_state now dump))) (sym h.follows)
+        ends = subst (Ends (body_lines (Some (end_of text)) number lines (first_state now dump))) (sym h.follows)
             (ends_in (end_of text) number lines (first_state now dump) (first_kept now dump h.is h.in_dump h.good h.each (all_accepted dump.files has)));
       })
 

@@ -2,6 +2,7 @@
 use Rattle.std.proofs.Common.{◌≡◌, ◌∙◌, ap, sym, refl, inl, inr, arith, ℕ, suc, ◌+◌, ◌-◌, ◌%◌, ◌^◌, ◌≤◌, ◌<◌, min, cond, Bool, true, false, List, [], ◌∷◌, ◌++◌, drop, length, take, append_assoc, Result}
 use Rattle.std.specs.Prelude.{◌⊎◌, Option, count_by, nat_le, sum_by}
 use Rattle.std.specs.List.{onto_first}
+use Rattle.std.specs.Result.{result_unwrap_or}
 use Rattle.std.proofs.lemmas.Bool.{cases_Bool}
 use Rattle.std.proofs.lemmas.Bool.Decides.{nat_tests}
 use Rattle.std.proofs.lemmas.List.{take_all}
@@ -11,7 +12,7 @@ use Rattle.mt_text.specs.Number.{hex_number}
 use Rattle.mt_text.specs.declared.fault.NumberFault.{NumberFault}
 use Rattle.mt_output.specs.Lines.{line}
 use Rattle.mt_replay.specs.ReplayState.{ReplayState}
-use Rattle.mt_replay.specs.Summary.{is_complete, lines_in, memory_sum, number_or_zero, totals, updates_in, value_in, values_in}
+use Rattle.mt_replay.specs.Summary.{is_complete, memory_sum, totals, updates_in, value_in}
 use Rattle.mt_replay.specs.Summing.{no_totals, with_line, with_lines, with_memory, with_text}
 use Rattle.mt_replay.specs.declared.summing.Totals.{Totals}
 
@@ -111,13 +112,13 @@ pub totals_are : (text : List ℕ) (last : Option ReplayState) (t : Totals) → 
 totals_are text last t few is =
     let all = is ∙ counted (lines_of text) no_totals (omega arith) (omega arith) (omega arith) in
     ap (λ (x : Totals). with_memory x last) all
-    ∙ alike (min (0 + lines_in text) (2 ^ 64 - 1)) ((0 + updates_in text) % 2 ^ 64) ((0 + values_in text) % 2 ^ 64) (memory_sum last % 2 ^ 64)
-    (min (lines_in text) (2 ^ 64 - 1)) (updates_in text) (values_in text % 2 ^ 64) (ap (λ n. min n (2 ^ 64 - 1)) (none_more (lines_in text))) (omega (arith, few)) (ap (λ n. n % 2 ^ 64) (none_more (values_in text)))
+    ∙ alike (min (0 + length (lines_of text)) (2 ^ 64 - 1)) ((0 + updates_in text) % 2 ^ 64) ((0 + sum_by value_in (lines_of text)) % 2 ^ 64) (memory_sum last % 2 ^ 64)
+    (min (length (lines_of text)) (2 ^ 64 - 1)) (updates_in text) (sum_by value_in (lines_of text) % 2 ^ 64) (ap (λ n. min n (2 ^ 64 - 1)) (none_more (length (lines_of text)))) (omega (arith, few)) (ap (λ n. n % 2 ^ 64) (none_more (sum_by value_in (lines_of text))))
 
 -- ---- the value of a line
 
 abbrev value_behind : Bool → List ℕ → ℕ
-value_behind hit text = cond hit (number_or_zero (hex_number (take 16 (drop 6 text)))) 0
+value_behind hit text = cond hit (result_unwrap_or (hex_number (take 16 (drop 6 text))) 0) 0
 
 sixteen : (digits : List ℕ) (count : ℕ) → count ≡ min (length digits) 16 → take count digits ≡ take 16 digits
 sixteen digits count is = by (cases_Bool (nat_le 16 (length digits)))
@@ -127,6 +128,6 @@ sixteen digits count is = by (cases_Bool (nat_le 16 (length digits)))
     by (inr few) = take_all count digits (grind (arith, nat_tests, is, few)) ∙ sym (take_all 16 digits (grind (arith, nat_tests, few)))
 
 pub value_found : (text digits : List ℕ) (hit : Bool) (count : ℕ) (found : Result ℕ NumberFault) → hit ≡ true → digits ≡ drop 6 text → count ≡ min (length digits) 16 → found ≡ hex_number (take count digits)
-    → number_or_zero found ≡ value_behind hit text
+    → result_unwrap_or found 0 ≡ value_behind hit text
 value_found text digits hit count found is same few read =
-    ap number_or_zero (read ∙ ap hex_number (sixteen digits count few ∙ ap (take 16) same)) ∙ sym (ap (λ b. value_behind b text) is)
+    ap (λ found. result_unwrap_or found 0) (read ∙ ap hex_number (sixteen digits count few ∙ ap (take 16) same)) ∙ sym (ap (λ b. value_behind b text) is)

@@ -1,6 +1,7 @@
 -- What holds through a text holds where each step of its course begins and ends.
 use Rattle.std.proofs.Common.{◌≡◌, ◌∙◌, ap, sym, refl, subst, inl, inr, ℕ, ◌+◌, Bool, true, false, List, [], ◌∷◌, ◌++◌, Option, None, Some, Result, Ok, Err}
-use Rattle.std.specs.Prelude.{◌==◌, if◌then◌else◌}
+use Rattle.std.specs.Prelude.{◌==◌, IfSome, if◌then◌else◌}
+use Rattle.std.specs.List.{AllByRecursion}
 use Rattle.std.specs.Option.{option_map_or}
 use Rattle.mt_text.specs.Text.{end_of}
 use Rattle.mt_regs.specs.declared.fault.Fault.{Fault}
@@ -18,7 +19,7 @@ use Rattle.mt_replay_laws.specs.Headline.{StartsAsTheDumpShows, StatesAreOfTheCo
 use Rattle.mt_replay.specs.Steps.{Beginning, Step, beginning, begins_by, begins_with, course, left, steps_in, steps_of}
 use Rattle.mt_replay.specs.Heads.{HeadEnd, head_of, has_offence, shows_dump, stays_open}
 use Rattle.mt_replay.specs.Kept.{start_of}
-use Rattle.mt_replay_laws.specs.Through.{EachAfter, EachBy, EachIn, EachOfDump, HoldsThrough}
+use Rattle.mt_replay_laws.specs.Through.{HoldsAlong, HoldsThrough}
 use Rattle.mt_replay.specs.ReplayState.{ReplayState, state_after}
 use Rattle.mt_replay.specs.Statuses.{BeginsWith}
 use Rattle.mt_replay.specs.Transcript.{transcript}
@@ -28,35 +29,19 @@ use Rattle.mt_replay.proofs.Refusals.Outcomes.{accepted_first}
 use Rattle.mt_replay_laws.proofs.ShownDump.{states_have_the_shown_dump}
 
 module _ (P : ReplayState → Type 0) where
-  -- it holds from there on
-  abbrev From : Beginning → Type 0
-  From b = EachIn P b.number b.lines b.state
-
-  of_dump : (b : Beginning) (now : Situation) (dump : Dump) (number : ℕ) (lines : List (List ℕ)) (refusal : Option (ℕ × Fault)) → EachOfDump now dump (EachIn P number lines) refusal → begins_with now dump number lines refusal ≡ Some b → From b
-  of_dump b now dump number lines (Some refusal) h is = absurd (cc is)
-  of_dump b now dump number lines None h is = let same : _ ≡ b = cc is in subst From same h
-
-  carries : (b : Beginning) (e : HeadEnd) → EachBy P e → begins_by e ≡ Some b → From b
-  carries b (stays_open now before) h is = absurd (cc is)
-  carries b (has_offence o) h is = absurd (cc is)
-  carries b (shows_dump now dump number lines) h is = of_dump b now dump number lines (first_refusal dump.files) h is
-
   abbrev Around : Step → Type 0
   Around step = P step.before × P (left step)
 
-  first_of : (number : ℕ) (lines : List (List ℕ)) (s : ReplayState) → EachIn P number lines s → P s
-  first_of number [] s h = h
-  first_of number (line ∷ lines) s h = h.0
-
   abbrev EachStep : ℕ → List (List ℕ) → Type 0
-  EachStep number lines = (s : ReplayState) → EachIn P number lines s → (front rest : List Step) (step : Step) → steps_in number lines s ≡ front ++ step ∷ rest → Around step
+  EachStep number lines = (s : ReplayState) → HoldsAlong P s (steps_in number lines s) → (front rest : List Step) (step : Step) → steps_in number lines s ≡ front ++ step ∷ rest → Around step
 
   each_step : (number : ℕ) (lines : List (List ℕ)) → EachStep number lines
   each_step number [] s h [] rest step is = absurd (cc is)
   each_step number [] s h (other ∷ front) rest step is = absurd (cc is)
   each_step number (line ∷ lines) s h front rest step is = by (each_step (number + 1) lines) (command_of s.now number line) h.1 is
     where
-      by : EachStep (number + 1) lines → (answer : Result Command ScriptFault) → EachAfter P s answer (EachIn P (number + 1) lines) → steps_of s number (steps_in (number + 1) lines) answer ≡ front ++ step ∷ rest → Around step
+      by : EachStep (number + 1) lines → (answer : Result Command ScriptFault) → AllByRecursion (λ step. P (left step)) (steps_of s number (steps_in (number + 1) lines) answer)
+          → steps_of s number (steps_in (number + 1) lines) answer ≡ front ++ step ∷ rest → Around step
       by later (Err fault) after is = absurd (one front is)
         where
           one : (front : List Step) → [] ≡ front ++ step ∷ rest → ⊥
@@ -68,22 +53,23 @@ module _ (P : ReplayState → Type 0) where
           one [] e =
               let here : Step = record { number = number; command = c; before = s } in
               let same : here ≡ step = cc e in
-              subst Around same (h.0, first_of (number + 1) lines (state_after s c) after)
+              subst Around same (h.0, after.0)
           one (other ∷ front) e = let behind : steps_in (number + 1) lines (state_after s c) ≡ front ++ step ∷ rest = cc e in later (state_after s c) after front rest step behind
 
-  around : (text : List ℕ) (front rest : List Step) (step : Step) (o : Option Beginning) → beginning text ≡ o → HoldsThrough P text → option_map_or (λ b. steps_in b.number b.lines b.state) o [] ≡ front ++ step ∷ rest → Around step
-  around text front rest step None begins h is = absurd (one front is)
+  around : (front rest : List Step) (step : Step) (o : Option Beginning) → IfSome o (λ b. HoldsAlong P b.state (steps_in b.number b.lines b.state))
+      → option_map_or (λ b. steps_in b.number b.lines b.state) o [] ≡ front ++ step ∷ rest → Around step
+  around front rest step None h is = absurd (one front is)
     where
       one : (front : List Step) → [] ≡ front ++ step ∷ rest → ⊥
       one [] e = cc e
       one (other ∷ front) e = cc e
-  around text front rest step (Some b) begins h is = each_step b.number b.lines b.state (carries b (head_of text) h begins) front rest step is
+  around front rest step (Some b) h is = each_step b.number b.lines b.state h front rest step is
 
 pub around_step : (P : ReplayState → Type 0) (text : List ℕ) → HoldsThrough P text → (front rest : List Step) (step : Step) → course text ≡ front ++ step ∷ rest → P step.before × P (left step)
-around_step P text h front rest step is = around P text front rest step (beginning text) refl h is
+around_step P text h front rest step is = around P front rest step (beginning text) h is
 
 pub states_are_of_the_course : StatesAreOfTheCourse
-states_are_of_the_course text test h front rest step is = around (λ s. test s ≡ true) text front rest step (beginning text) refl h is
+states_are_of_the_course text test h front rest step is = around (λ s. test s ≡ true) front rest step (beginning text) h is
 
 -- ---- the first state
 
@@ -111,11 +97,9 @@ first_step : (b : Beginning) (step : Step) (rest : List Step) → steps_in b.num
 first_step b step rest is = (subst (GoesOn b.state) is (steps_go_on b.number b.lines b.state)).0
 
 pub starts_as_the_dump_shows : StartsAsTheDumpShows
-starts_as_the_dump_shows text dump shows accepted = one (beginning text) refl (whole text)
+starts_as_the_dump_shows text dump shows accepted = one (beginning text) (states_have_the_shown_dump text dump shows) (whole text)
   where
-    one : (o : Option Beginning) → beginning text ≡ o → Leads (end_of text) (script_offence text) (transcript text) o
+    one : (o : Option Beginning) → IfSome o (λ b. HoldsAlong (λ s. s.now.dump ≡ Some dump) b.state (steps_in b.number b.lines b.state)) → Leads (end_of text) (script_offence text) (transcript text) o
         → (b : Beginning) × (o ≡ Some b) × (b.state.machine ≡ start_of b.state.now dump) × ((step : Step) (rest : List Step) → option_map_or (λ b. steps_in b.number b.lines b.state) o [] ≡ step ∷ rest → step.before ≡ b.state)
-    one None none h = absurd (no_line text (accepted_first text dump shows accepted) h)
-    one (Some b) begins h =
-        let has = first_of (λ s. s.now.dump ≡ Some dump) b.number b.lines b.state (carries (λ s. s.now.dump ≡ Some dump) b (head_of text) (states_have_the_shown_dump text dump shows) begins) in
-        (b, refl, (h.is.fresh dump has h.windows).1 ∙ h.plain dump has, first_step b)
+    one None along h = absurd (no_line text (accepted_first text dump shows accepted) h)
+    one (Some b) along h = (b, refl, (h.is.fresh dump along.0 h.windows).1 ∙ h.plain dump along.0, first_step b)

@@ -30,7 +30,7 @@ use Rattle.mt_replay.specs.Kept.{IsReplayState, start_like, start_of}
 use Rattle.mt_replay.specs.ReplayState.{ReplayState, command_text, state_after}
 use Rattle.mt_replay.specs.Running.{ReplaysAs}
 use Rattle.mt_replay.specs.Statuses.{ShowsDump}
-use Rattle.mt_replay.specs.Transcript.{told_at_end, told_by, told_command, told_dump, told_in, told_offence, transcript}
+use Rattle.mt_replay.specs.Transcript.{body_lines, told_at_end, told_by, told_command, told_dump, told_offence, transcript}
 use Rattle.mt_stream.specs.Told.{Told, behind, told}
 use Rattle.mt_replay.proofs.FirstRefusal.{all_accepted}
 use Rattle.mt_replay.proofs.Heads.{Comes, IsDumped, comes}
@@ -79,17 +79,17 @@ ends_with None = refl
 ends_with (Some fault) = refl
 
 told_steps : (end : Place) (number : ℕ) (lines : List (List ℕ)) (s : ReplayState) → IsReplayState s
-    → told_in end number lines s ≡ behind (joined (steps_in number lines s)) (ending (offence_in end number lines s.now []))
+    → body_lines (Some end) number lines s ≡ behind (joined (steps_in number lines s)) (ending (offence_in end number lines s.now []))
 told_steps end number [] = λ s h. ends_with (end_fault s.now.stage end)
 told_steps end number (line ∷ lines) = one (told_steps end (number + 1) lines)
   where
-    one : ((s : ReplayState) → IsReplayState s → told_in end (number + 1) lines s ≡ behind (joined (steps_in (number + 1) lines s)) (ending (offence_in end (number + 1) lines s.now [])))
+    one : ((s : ReplayState) → IsReplayState s → body_lines (Some end) (number + 1) lines s ≡ behind (joined (steps_in (number + 1) lines s)) (ending (offence_in end (number + 1) lines s.now [])))
         → (s : ReplayState) → IsReplayState s
-        → told_in end number (line ∷ lines) s ≡ behind (joined (steps_in number (line ∷ lines) s)) (ending (offence_in end number (line ∷ lines) s.now []))
+        → body_lines (Some end) number (line ∷ lines) s ≡ behind (joined (steps_in number (line ∷ lines) s)) (ending (offence_in end number (line ∷ lines) s.now []))
     one later s h = by (command_of s.now number line) refl
       where
         on : (c : Command) → IsReplayState (state_after s c) → (dump : Bool) → is_in_dump s.now.stage ≡ dump
-            → behind (command_text s c) (told_in end (number + 1) lines (state_after s c))
+            → behind (command_text s c) (body_lines (Some end) (number + 1) lines (state_after s c))
             ≡ behind (command_text s c ++ joined (steps_in (number + 1) lines (state_after s c))) (ending (offence_after s.now (offence_in end (number + 1) lines) (step_of_command s.now [] number line c dump)))
         on c kept true dump = absurd (let past = sym (not_past_in_dump s.now.stage dump) ∙ h.past in cc past)
         on c kept false dump =
@@ -97,7 +97,7 @@ told_steps end number (line ∷ lines) = one (told_steps end (number + 1) lines)
             ∙ written_behind (command_text s c) (joined (steps_in (number + 1) lines (state_after s c))) (ending (offence_in end (number + 1) lines (state_after s c).now []))
 
         by : (answer : Result Command ScriptFault) → command_of s.now number line ≡ answer
-            → told_command s (told_in end (number + 1) lines) answer
+            → told_command s (body_lines (Some end) (number + 1) lines) answer
             ≡ behind (joined (steps_of s number (steps_in (number + 1) lines) answer)) (ending (offence_after s.now (offence_in end (number + 1) lines) (step_of_answer s.now [] number line answer)))
         by (Err fault) asked = refl
         by (Ok c) asked = on c (state_kept s c h (command_known s.now number line c asked)) (is_in_dump s.now.stage) refl
@@ -111,7 +111,7 @@ pub record Begins (end : Place) (first : Option Offence) (telling : Told) (b : B
   pub windows : takes_windows b.state.now.stage ≡ true
   pub plain : (d : Dump) → b.state.now.dump ≡ Some d → start_like b.state d ≡ start_of b.state.now d  -- no processor is self-snooping yet
   pub follows : first ≡ offence_in end b.number b.lines b.state.now []
-  pub tells : telling ≡ behind accepted_line (told_in end b.number b.lines b.state)
+  pub tells : telling ≡ behind accepted_line (body_lines (Some end) b.number b.lines b.state)
 
 abbrev pub IsOneLine : Told → Type 0
 IsOneLine t = ((o : Offence) × (t ≡ told_offence o)) ⊎ ((version : ℕ) × (k : ℕ) × (fault : Fault) × (t ≡ told (dump_refused_line version k fault) Refused))
@@ -128,7 +128,7 @@ module _ (text : List ℕ) where
   Leading telling o = Leads end (script_offence text) telling o
 
   dump_leads : (now : Situation) (dump : Dump) (number : ℕ) (lines : List (List ℕ)) → IsDumped end 1 (lines_of text) (script_offence text) (ShowsDump text) now dump number lines
-      → (refusal : Option (ℕ × Fault)) → first_refusal dump.files ≡ refusal → Leading (told_dump now dump (told_in end number lines) refusal) (begins_with now dump number lines refusal)
+      → (refusal : Option (ℕ × Fault)) → first_refusal dump.files ≡ refusal → Leading (told_dump now dump (body_lines (Some end) number lines) refusal) (begins_with now dump number lines refusal)
   dump_leads now dump number lines h (Some refusal) has = inr (dump.version, refusal.0, refusal.1, refl)
   dump_leads now dump number lines h None has = record {
     is = first_kept now dump h.is h.in_dump h.good h.each (all_accepted dump.files has);
@@ -139,7 +139,7 @@ module _ (text : List ℕ) where
     tells = refl;
   }
 
-  leads_by : (e : HeadEnd) → Comes end 1 (lines_of text) (script_offence text) (ShowsDump text) e → Leading (told_by (λ last. told_at_end (end_fault last.stage end)) (told_in end) e) (begins_by e)
+  leads_by : (e : HeadEnd) → Comes end 1 (lines_of text) (script_offence text) (ShowsDump text) e → Leading (told_by (λ last. told_at_end (end_fault last.stage end)) (body_lines (Some end)) e) (begins_by e)
   leads_by (stays_open now before) h = inl (Script (fault_at NoEnd end), ap told_at_end h.0)
   leads_by (has_offence o) h = inl (o, refl)
   leads_by (shows_dump now dump number lines) h = dump_leads now dump number lines h (first_refusal dump.files) refl

@@ -34,7 +34,7 @@ use Rattle.mt_replay.specs.Heads.{HeadEnd, head_of, has_offence, shows_dump, sta
 use Rattle.mt_replay.specs.Kept.{IsReplayState}
 use Rattle.mt_replay.specs.ReplayState.{ReplayState, command_text, first_state, is_absent, present_text, state_after}
 use Rattle.mt_replay.specs.Statuses.{ShowsDump}
-use Rattle.mt_replay.specs.Transcript.{Body, told_at_end, told_by, told_command, told_dump, told_in}
+use Rattle.mt_replay.specs.Transcript.{body_lines, told_at_end, told_by, told_command, told_dump}
 use Rattle.mt_stream.specs.Told.{Told, behind}
 use Rattle.mt_replay.proofs.FirstRefusal.{all_accepted}
 use Rattle.mt_replay.proofs.Heads.{Comes, IsDumped, comes}
@@ -67,15 +67,15 @@ text_same s f c h r = one (is_absent s.machine c)
 
 -- ---- the lines after the dump
 
-told_same : (end : Place) (number : ℕ) (lines : List (List ℕ)) (s : ReplayState) (f : Flat) → IsReplayState s → IsFlatOf s.machine.system f → flat_told_in end number lines s f ≡ told_in end number lines s
+told_same : (end : Place) (number : ℕ) (lines : List (List ℕ)) (s : ReplayState) (f : Flat) → IsReplayState s → IsFlatOf s.machine.system f → flat_told_in end number lines s f ≡ body_lines (Some end) number lines s
 told_same end number [] = λ s f h r. refl
 told_same end number (line ∷ lines) = one (told_same end (number + 1) lines)
   where
-    one : ((s : ReplayState) (f : Flat) → IsReplayState s → IsFlatOf s.machine.system f → flat_told_in end (number + 1) lines s f ≡ told_in end (number + 1) lines s)
-        → (s : ReplayState) (f : Flat) → IsReplayState s → IsFlatOf s.machine.system f → flat_told_in end number (line ∷ lines) s f ≡ told_in end number (line ∷ lines) s
+    one : ((s : ReplayState) (f : Flat) → IsReplayState s → IsFlatOf s.machine.system f → flat_told_in end (number + 1) lines s f ≡ body_lines (Some end) (number + 1) lines s)
+        → (s : ReplayState) (f : Flat) → IsReplayState s → IsFlatOf s.machine.system f → flat_told_in end number (line ∷ lines) s f ≡ body_lines (Some end) number (line ∷ lines) s
     one later s f h r = by (command_of s.now number line) refl
       where
-        by : (answer : Result Command ScriptFault) → command_of s.now number line ≡ answer → flat_told_command s f (flat_told_in end (number + 1) lines) answer ≡ told_command s (told_in end (number + 1) lines) answer
+        by : (answer : Result Command ScriptFault) → command_of s.now number line ≡ answer → flat_told_command s f (flat_told_in end (number + 1) lines) answer ≡ told_command s (body_lines (Some end) (number + 1) lines) answer
         by (Err fault) is = refl
         by (Ok c) is =
             let fits = command_known s.now number line c is in
@@ -88,21 +88,21 @@ module _ (text : List ℕ) where
   abbrev end : Place
   end = end_of text
 
-  abbrev flat_body : Body
+  abbrev flat_body : ℕ → List (List ℕ) → ReplayState → Told
   flat_body number lines s = flat_told_in end number lines s flat_start
 
   -- the flat machine is at its start where the machine is
   dump_same : (now : Situation) (dump : Dump) (number : ℕ) (lines : List (List ℕ)) → IsDumped end 1 (lines_of text) (script_offence text) (ShowsDump text) now dump number lines
-      → (refusal : Option (ℕ × Fault)) → first_refusal dump.files ≡ refusal → told_dump now dump (flat_body number lines) refusal ≡ told_dump now dump (told_in end number lines) refusal
+      → (refusal : Option (ℕ × Fault)) → first_refusal dump.files ≡ refusal → told_dump now dump (flat_body number lines) refusal ≡ told_dump now dump (body_lines (Some end) number lines) refusal
   dump_same now dump number lines h (Some refusal) has = refl
   dump_same now dump number lines h None has =
       ap (behind accepted_line)
       (told_same end number lines (first_state now dump) flat_start (first_kept now dump h.is h.in_dump h.good h.each (all_accepted dump.files has)) (bare_is_flat (files_for now.cpus dump)))
 
-  abbrev tells : Body → HeadEnd → Told
+  abbrev tells : (ℕ → List (List ℕ) → ReplayState → Told) → HeadEnd → Told
   tells body e = told_by (λ last. told_at_end (end_fault last.stage end)) body e
 
-  end_same : (e : HeadEnd) → Comes end 1 (lines_of text) (script_offence text) (ShowsDump text) e → tells flat_body e ≡ tells (told_in end) e
+  end_same : (e : HeadEnd) → Comes end 1 (lines_of text) (script_offence text) (ShowsDump text) e → tells flat_body e ≡ tells (body_lines (Some end)) e
   end_same (stays_open now before) h = refl
   end_same (has_offence o) h = refl
   end_same (shows_dump now dump number lines) h = dump_same now dump number lines h (first_refusal dump.files) refl

@@ -1,4 +1,4 @@
-use Rattle.std.proofs.Common.{refl, []}
+use Rattle.std.proofs.Common.{ℕ, List, refl, []}
 use Rattle.mt_output.specs.Ports.{sink_run, source_run}
 use Rattle.mt_stream.specs.Runs.{AsksBy}
 use Rattle.mt_stream.proofs.Whole.{ran, refused}
@@ -12,7 +12,7 @@ run_lines-requires-clause-laws g c = proc_laws
 
 pub returns-in_default : goal.returns-in_default
 returns-in_default g c =
-    refused (path_from c.args.cpus (in_dump [])) (AsksBy (from_point c.args.cpus) (AsksAt c.args.cpus))
+    refused (path_from c.args.cpus (in_dump [])) (λ (bytes : List ℕ). []) (AsksBy (from_point c.args.cpus) (AsksAt c.args.cpus))
     (source_run g.S.Source.left g.S.Source.faults g.S.Source.given c.args.source.now c.args.source.now)
     (sink_run g.K.Sink.taken g.K.Sink.faults c.args.sink.now c.args.sink.now) refl refl
 
@@ -20,8 +20,8 @@ pub returns : goal.returns
 returns g c =
     let start = path_from c.args.cpus (in_dump []) in
     let stands = (in_dump [], c.new-2.ensures, refl, refl, tt) in
-    ran start (AsksBy (from_point c.args.cpus) (AsksAt c.args.cpus))
+    ran start (λ (bytes : List ℕ). []) (AsksBy (from_point c.args.cpus) (AsksAt c.args.cpus))
     (source_run g.S.Source.left g.S.Source.faults g.S.Source.given c.args.source.now c.run_lines.new.source)
     (sink_run g.K.Sink.taken g.K.Sink.faults c.args.sink.now c.run_lines.new.sink)
-    c.run_lines.result c.run_status.result c.run_status.ensures.value (c.run_lines.ensures.bytes start stands) (c.run_lines.ensures.memory start stands)
+    (λ text. refl) c.run_lines.result c.run_status.result c.run_status.ensures.value (c.run_lines.ensures.bytes start stands) (c.run_lines.ensures.memory start stands)
     (c.run_status.ensures.read_fault _ _ c.run_lines.ensures.source) (c.run_status.ensures.write_fault _ _ c.run_lines.ensures.sink) c.run_lines.ensures.too_long c.run_status.ensures.others

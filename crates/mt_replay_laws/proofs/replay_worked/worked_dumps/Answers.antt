@@ -23,7 +23,7 @@ pub returns-clause-too_few_processors : goal.returns-clause-too_few_processors
 returns-clause-too_few_processors c = shows_none (codes "cpus 1\ndump\nversion 2\ncpu 0\n0fe 400\ncpu 1\nend\n") refl
 
 pub returns-clause-first_state : goal.returns-clause-first_state
-returns-clause-first_state c = refl
+returns-clause-first_state c = (refl, tt)
 
 pub returns-clause-not_of_the_first_state : goal.returns-clause-not_of_the_first_state
-returns-clause-not_of_the_first_state c = λ h. absurd (cc h)
+returns-clause-not_of_the_first_state c = λ h. absurd (cc h.0)

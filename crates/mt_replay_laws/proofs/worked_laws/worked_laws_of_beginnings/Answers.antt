@@ -11,7 +11,7 @@ use Rattle.mt_replay_laws.proofs.worked_laws.worked_laws_of_beginnings.Goals as 
 
 -- before each of its five commands, and behind the last
 none_under_way : HoldsThrough (λ s. is_idle s ≡ true) join_script
-none_under_way = (refl, (refl, (refl, (refl, (refl, refl)))))
+none_under_way = (refl, (refl, (refl, (refl, (refl, (refl, tt))))))
 
 pub returns-clause-first_step : goal.returns-clause-first_step
 returns-clause-first_step c = λ law accepted.
