@@ -24,8 +24,8 @@ use Rattle.mt_machine.specs.Machine.{flush_tlb, step, write_back_or_drop}
 use Rattle.mt_bus.specs.Parts.{answered, ruled}
 use Rattle.mt_judge.specs.declared.moves.Outcome.{Outcome}
 use Rattle.mt_judge.specs.declared.moves.Outcome.TheVariants.{Accessed, Nothing}
-use Rattle.mt_judge.specs.declared.step.Step.{Step}
-use Rattle.mt_judge.specs.declared.step.Step.TheVariants as list
+use Rattle.mt_judge.specs.declared.step.ProcedureStep.{ProcedureStep}
+use Rattle.mt_judge.specs.declared.step.ProcedureStep.TheVariants as list
 
 -- an index of a PAT entry
 abbrev pub HasIndex : Control → Type 0
@@ -61,7 +61,7 @@ reloading Flushed global = if global then None else Some FlushTlb
 reloading other global = None
 
 -- where so many registers are written
-abbrev pub event_of : Step → ℕ → Processor → Option Event
+abbrev pub event_of : ProcedureStep → ℕ → Processor → Option Event
 event_of list.Interrupt part p = Some Take
 event_of (list.ArriveAt barrier) part p = arrival p.phase
 event_of (list.WaitAt barrier count) part p = passage p.phase
@@ -116,7 +116,7 @@ flush_aside p = record (flush_tlb Flushed p) { phase = TlbFlushed }
 abbrev pub reload_aside : Processor → Processor
 reload_aside p = record p { phase = after_reload p.phase }
 
-abbrev pub aside : Step → ℕ → System → System
+abbrev pub aside : ProcedureStep → ℕ → System → System
 aside list.ClearPge k s = change flush_aside k s
 aside list.ReloadCr3 k s = change reload_aside k (controlled Cr3 k s)
 aside (list.Access op) k s = (accessed op k s).after
@@ -125,7 +125,7 @@ aside (list.Pge on) k s = controlled (Pge on) k s
 aside (list.Cd on) k s = controlled (Cd on) k s
 aside other k s = s
 
-abbrev pub answer_aside : Step → ℕ → System → Outcome
+abbrev pub answer_aside : ProcedureStep → ℕ → System → Outcome
 answer_aside (list.Access op) k s = Accessed (accessed op k s).answer
 answer_aside other k s = Nothing
 
@@ -136,8 +136,8 @@ memory_after other m = m
 
 -- ---- a step of processor k, which is this event or none
 
-abbrev pub after_step : RegisterFile → Option Event → Step → ℕ → System → System
+abbrev pub after_step : RegisterFile → Option Event → ProcedureStep → ℕ → System → System
 after_step goal event todo k s = option_map_or (λ e. step goal e k s) event (aside todo k s)
 
-abbrev pub answer_of_step : Option Event → Step → ℕ → System → Outcome
+abbrev pub answer_of_step : Option Event → ProcedureStep → ℕ → System → Outcome
 answer_of_step event todo k s = option_map_or (λ _. Nothing) event (answer_aside todo k s)

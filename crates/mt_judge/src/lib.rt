@@ -38,7 +38,7 @@ pub use moves::{Case, Move, Outcome, Procedure, State, advance};
 pub use program::program_status;
 pub use reader::read_input;
 pub use search::{Found, Node, Origin, Search, has_wrong_if_a_sense_holds};
-pub use step::{Place, Step};
+pub use step::{ListPlace, ProcedureStep};
 pub use worked::{
     worked_lost_words, worked_old_types, worked_orders, worked_stale_buffers, worked_stale_entries,
     worked_stale_lines, worked_two_types,

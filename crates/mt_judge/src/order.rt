@@ -7,23 +7,25 @@ ghost use Rattle.mt_judge.specs.Runs.{due_in, event_in, phase_in, place_of};
 
 use crate::due::due;
 use crate::moves::{Case, Move, State, event_in, phase_in, place_at};
-use crate::step::Step;
+use crate::step::ProcedureStep;
 use crate::wrong::is_running;
 use mt_machine::{Event, Phase};
 
 // Whether a step is the first flush of the caches.
-fn is_first_flush(phase: Phase, step: Step) -> bool
+fn is_first_flush(phase: Phase, step: ProcedureStep) -> bool
     ensures { result ≡ is_first_flush phase step }
 {
-    matches!((phase, step), (Phase::NoFill, Step::Wbinvd))
+    matches!((phase, step), (Phase::NoFill, ProcedureStep::Wbinvd))
 }
 
 // Whether a step is a flush of the TLB or a change of CD, in an update.
-fn is_astray(phase: Phase, step: Step) -> bool
+fn is_astray(phase: Phase, step: ProcedureStep) -> bool
     ensures { result ≡ is_astray phase step }
 {
     match step {
-        Step::ClearPge | Step::ReloadCr3 | Step::Cd(_) => !is_running(phase),
+        ProcedureStep::ClearPge | ProcedureStep::ReloadCr3 | ProcedureStep::Cd(_) => !is_running(
+            phase,
+        ),
         _ => false,
     }
 }
@@ -39,7 +41,7 @@ fn is_event_due(event: Option<Event>, due: Option<Event>, astray: bool) -> bool
 }
 
 // Whether a step is due, by the event that it is and the one that is due.
-fn is_in_order(phase: Phase, step: Step, event: Option<Event>, due: Option<Event>) -> bool
+fn is_in_order(phase: Phase, step: ProcedureStep, event: Option<Event>, due: Option<Event>) -> bool
     ensures { IsTrue result ↔ IsInOrder phase step event due }
 {
     is_first_flush(phase, step) || is_event_due(event, due, is_astray(phase, step))
@@ -57,7 +59,7 @@ impl Move {
 
 impl State {
     // Whether a step, which is the next one of a processor, is due.
-    fn is_step_due(&self, k: usize, step: Step) -> bool
+    fn is_step_due(&self, k: usize, step: ProcedureStep) -> bool
         requires processor { k < length self.now.processors }
         requires numbers { (p : Processor) → slice_get self.now.processors k ≡ Some p → list_all (λ l. nat_lt l.number (2 ^ 46)) p.lines ≡ true }
         ensures { IsTrue result ↔ IsStepDue self.now k step }

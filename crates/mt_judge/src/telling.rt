@@ -1,7 +1,7 @@
 use crate::due::{arrived, arrived_again, due_at};
 use crate::moves::{Case, Move, Outcome, State, phase_in};
 use crate::numbers::{push_decimal, push_hex};
-use crate::step::Step;
+use crate::step::ProcedureStep;
 use crate::wrong::{Fault, Wrong};
 use mt_kinds::{LINE_BYTES, MemType, PAGE_BYTES, WORD_BYTES};
 use mt_machine::{Done, Event, Op, Phase};
@@ -14,26 +14,26 @@ fn tell_wait(text: &mut String, barrier: u32, count: u32) -> Result<(), AllocErr
 }
 
 /// Writes the words of a step, as a procedure has them.
-fn tell_step(text: &mut String, step: Step) -> Result<(), AllocError> {
+fn tell_step(text: &mut String, step: ProcedureStep) -> Result<(), AllocError> {
     match step {
-        Step::Interrupt => text.push_str("take"),
-        Step::ArriveAt(barrier) => push_decimal(text, "arrive ", barrier as u64),
-        Step::WaitAt { barrier, count } => tell_wait(text, barrier, count),
-        Step::SetCd => text.push_str("set-cd"),
-        Step::Wbinvd => text.push_str("wbinvd"),
-        Step::Invd => text.push_str("invd"),
-        Step::ClearPge => text.push_str("clear-pge"),
-        Step::ReloadCr3 => text.push_str("reload-cr3"),
-        Step::ClearEnable => text.push_str("clear-e"),
-        Step::WriteRegisters => text.push_str("write"),
-        Step::WriteDefault => text.push_str("enable"),
-        Step::ClearCd => text.push_str("clear-cd"),
-        Step::ReturnPge => text.push_str("restore-pge"),
-        Step::GoOn => text.push_str("release"),
-        Step::Access(op) => tell_access(text, op),
-        Step::Invlpg(va) => push_hex(text, "invlpg ", va, 1),
-        Step::Pge(on) => text.push_str(if on { "pge on" } else { "pge off" }),
-        Step::Cd(on) => text.push_str(if on { "cd on" } else { "cd off" }),
+        ProcedureStep::Interrupt => text.push_str("take"),
+        ProcedureStep::ArriveAt(barrier) => push_decimal(text, "arrive ", barrier as u64),
+        ProcedureStep::WaitAt { barrier, count } => tell_wait(text, barrier, count),
+        ProcedureStep::SetCd => text.push_str("set-cd"),
+        ProcedureStep::Wbinvd => text.push_str("wbinvd"),
+        ProcedureStep::Invd => text.push_str("invd"),
+        ProcedureStep::ClearPge => text.push_str("clear-pge"),
+        ProcedureStep::ReloadCr3 => text.push_str("reload-cr3"),
+        ProcedureStep::ClearEnable => text.push_str("clear-e"),
+        ProcedureStep::WriteRegisters => text.push_str("write"),
+        ProcedureStep::WriteDefault => text.push_str("enable"),
+        ProcedureStep::ClearCd => text.push_str("clear-cd"),
+        ProcedureStep::ReturnPge => text.push_str("restore-pge"),
+        ProcedureStep::GoOn => text.push_str("release"),
+        ProcedureStep::Access(op) => tell_access(text, op),
+        ProcedureStep::Invlpg(va) => push_hex(text, "invlpg ", va, 1),
+        ProcedureStep::Pge(on) => text.push_str(if on { "pge on" } else { "pge off" }),
+        ProcedureStep::Cd(on) => text.push_str(if on { "cd on" } else { "cd off" }),
     }
 }
 
