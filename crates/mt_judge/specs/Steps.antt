@@ -1,6 +1,6 @@
 -- What a step of a list does: what the machine's event does, whether or not it is due (own). A step that is no event is an access, a control
 -- instruction, a count at a barrier, or a flush of the TLB by the other of the two ways that the procedure has.
-use Rattle.std.specs.Prelude.{◌≡◌, ℕ, ◌<◌, ◌+◌, ◌^◌, Bool, if◌then◌else◌, slice_get, Option, None, Some}
+use Rattle.std.specs.Prelude.{◌≡◌, ℕ, ◌<◌, ◌+◌, ◌^◌, Bool, if◌then◌else◌, List, slice_get, Option, None, Some}
 use Rattle.std.specs.Option.{option_map_or}
 use Rattle.mt_regs.specs.RegisterFile.{RegisterFile}
 use Rattle.mt_tlb.specs.declared.mapping.Mapping.{Mapping}
@@ -21,7 +21,7 @@ use Rattle.mt_machine.specs.System.{Processor, System, change}
 use Rattle.mt_machine.specs.Access.{Answered, access_at}
 use Rattle.mt_machine.specs.Control.{control_at}
 use Rattle.mt_machine.specs.Machine.{flush_tlb, step, write_back_or_drop}
-use Rattle.mt_bus.specs.Parts.{answered, ruled}
+use Rattle.mt_bus.specs.Parts.{answered, ruled, with_changed}
 use Rattle.mt_judge.specs.declared.moves.Outcome.{Outcome}
 use Rattle.mt_judge.specs.declared.moves.Outcome.TheVariants.{Accessed, Nothing}
 use Rattle.mt_judge.specs.declared.step.ProcedureStep.{ProcedureStep}
@@ -101,6 +101,13 @@ answer_to_map m p = if is_full_for m p.mappings then Full else Okay
 
 abbrev pub with_mapping : Mapping → Processor → Processor
 with_mapping m p = record p { mappings = set_mapping m p.mappings }
+
+abbrev pub after_map : Mapping → Processor → Processor
+after_map m p = if is_full_for m p.mappings then p else with_mapping m p
+
+-- that of processor k is set
+abbrev pub IsMapped : Mapping → ℕ → List Processor → List Processor → Type 0
+IsMapped m k old new = (p : Processor) → slice_get old k ≡ Some p → new ≡ (if is_full_for m p.mappings then old else with_changed (with_mapping m) k old)
 
 -- what an access of processor k returns, and the system after it, whatever the phase
 abbrev pub accessed : Op → ℕ → System → Answered
