@@ -24,9 +24,15 @@ is_astray phase list.ReloadCr3 = not (is_running phase)
 is_astray phase (list.Cd on) = not (is_running phase)
 is_astray phase other = false
 
+-- INVD, which the manual's procedure has nowhere: it has the caches flushed by WBINVD
+abbrev pub is_invd : ProcedureStep → Bool
+is_invd list.Invd = true
+is_invd other = false
+
 -- a step in a phase, which is this event or none, where the other event or none is due. What is no event may stand anywhere (own)
 abbrev pub IsInOrder : Phase → ProcedureStep → Option Event → Option Event → Type 0
-IsInOrder phase todo event due = (is_first_flush phase todo ≡ true) ⊎ MatchOption event (is_astray phase todo ≡ false) (λ e. due ≡ Some e)
+IsInOrder phase todo event due =
+    (is_first_flush phase todo ≡ true) ⊎ ((is_invd todo ≡ false) × MatchOption event (is_astray phase todo ≡ false) (λ e. due ≡ Some e))
 
 abbrev pub IsDue : Move → Type 0
 IsDue m = IsInOrder m.phase m.step m.event m.due

@@ -2,7 +2,7 @@ ghost use Rattle.std.specs.Prelude.{◌≡◌, ◌<◌, ◌^◌, ◌↔◌, IsFa
 ghost use Rattle.std.specs.List.{list_all};
 ghost use Rattle.mt_machine.specs.System.{Processor};
 ghost use Rattle.mt_machine.specs.Access.{is_running};
-ghost use Rattle.mt_judge.specs.Dues.{AreListsFinished, AreStepsDue, IsDue, IsDueAt, IsInOrder, IsStepDue, is_first_flush, is_astray, is_unfinished};
+ghost use Rattle.mt_judge.specs.Dues.{AreListsFinished, AreStepsDue, IsDue, IsDueAt, IsInOrder, IsStepDue, is_astray, is_first_flush, is_invd, is_unfinished};
 ghost use Rattle.mt_judge.specs.Runs.{due_in, event_in, phase_in, place_of};
 
 use crate::due::due;
@@ -40,11 +40,18 @@ fn is_event_due(event: Option<Event>, due: Option<Event>, astray: bool) -> bool
     }
 }
 
+fn is_invd(step: ProcedureStep) -> bool
+    ensures { result ≡ is_invd step }
+{
+    matches!(step, ProcedureStep::Invd)
+}
+
 // Whether a step is due, by the event that it is and the one that is due.
 fn is_in_order(phase: Phase, step: ProcedureStep, event: Option<Event>, due: Option<Event>) -> bool
     ensures { IsTrue result ↔ IsInOrder phase step event due }
 {
-    is_first_flush(phase, step) || is_event_due(event, due, is_astray(phase, step))
+    is_first_flush(phase, step)
+        || !is_invd(step) && is_event_due(event, due, is_astray(phase, step))
 }
 
 impl Move {

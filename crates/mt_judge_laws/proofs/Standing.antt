@@ -18,10 +18,14 @@ use Rattle.mt_machine.specs.System.{Processor, System}
 use Rattle.mt_machine.proofs.Rows.{due_row}
 use Rattle.mt_laws.proofs.Barrier.Ranks.{At, at_set, stage_at}
 use Rattle.mt_laws.proofs.Barrier.Stages.{Stage, stage_of, stages_of}
+use Rattle.mt_judge.specs.declared.moves.Outcome.{Outcome}
+use Rattle.mt_judge.specs.declared.moves.Outcome.TheVariants.{Nothing}
 use Rattle.mt_judge.specs.declared.step.ListPlace.{ListPlace}
 use Rattle.mt_judge.specs.declared.step.ProcedureStep.{ProcedureStep}
 use Rattle.mt_judge.specs.declared.step.ProcedureStep.TheVariants as list
-use Rattle.mt_judge.specs.Dues.{IsDue, is_astray}
+use Rattle.mt_judge.specs.declared.wrong.Fault.TheVariants.{LostWord}
+use Rattle.mt_judge.specs.WorkedWrongs.{dirty_line, mapped, with_line}
+use Rattle.mt_judge.specs.Dues.{IsDue, is_astray, is_invd}
 use Rattle.mt_judge.specs.Runs.{Case, State, after as state_after, arrived_at, counted, due_in, due_of, event_in, is_fit, is_open, list_of, may_go, move_of, moved, next_step, place_after, place_of, step_at, step_behind, system_of, phase_in}
 use Rattle.mt_judge.specs.Steps.{after_step, event_of, passage, answer_of_step, reloading}
 use Rattle.mt_judge.specs.Wrongs.{fault_of, fault_with}
@@ -48,6 +52,13 @@ pub set_same : {X : Type 0} → (xs : List X) (k : ℕ) (x y : X) → slice_get 
 set_same [] k x y at = absurd (cc)
 set_same (z ∷ xs) zero x y at = refl
 set_same (z ∷ xs) (suc k) x y at = set_same xs k x y at
+
+-- ---- a step without a fault
+
+-- a step that has no fault, whatever its processor holds, isn't INVD
+not_invd : (t : ProcedureStep) → ((k : ℕ) (outcome : Outcome) (q : Processor) → fault_with k t outcome q ≡ None) → is_invd t ≡ false
+not_invd list.Invd right = absurd (let lost : Some (LostWord 0 0x4000 0) ≡ None = right 0 Nothing (with_line dirty_line (mapped 0x806)) in cc)
+not_invd other right = refl
 
 -- ---- what holds
 
@@ -232,7 +243,7 @@ module _ (c : Case) (first : State) (start : IsStart (at_rest c first)) (few : l
   turned t = record {
     todo = todo;
     is = is;
-    due_is = inr (subst EventIsDue (sym (event_is (Some t.event) t.is)) (due_is ∙ t.due_is));
+    due_is = inr (not_invd todo t.right, subst EventIsDue (sym (event_is (Some t.event) t.is)) (due_is ∙ t.due_is));
     right = fault_is (t.right k (move_of c s k todo).outcome p);
     stands = subst (Stands c first) (sym (moved_is (Some t.event) t.is)) (stands_to t.event t.is t.due_is t.stays t.counts t.place);
   }
@@ -276,7 +287,7 @@ module _ (c : Case) (first : State) (start : IsStart (at_rest c first)) (few : l
       record {
         todo = todo;
         is = is;
-        due_is = inr (subst EventIsDue (sym (event_is None none)) (ap (is_astray (phase_in s.processors k)) w.is));
+        due_is = inr (ap is_invd w.is, subst EventIsDue (sym (event_is None none)) (ap (is_astray (phase_in s.processors k)) w.is));
         right = fault_is (ap (λ (t : ProcedureStep). fault_with k t (move_of c s k todo).outcome p) w.is);
         stands = subst (Stands c first) (sym (moved_is None none ∙ ap (λ (t : ProcedureStep). built c s k t place None) w.is)) stands;
       }
@@ -286,17 +297,18 @@ module _ (c : Case) (first : State) (start : IsStart (at_rest c first)) (few : l
   -- it is no event of an update, and the next step follows it
   pub record IsAside (t : ProcedureStep) : Type 0 where
     pub no_event : event_of t place.part p ≡ None
+    pub no_invd : is_invd t ≡ false
     pub no_flush : is_astray p.phase t ≡ false
     pub goes_on : place_after place t None (length (writable c.goal)) ≡ step_behind place
     pub counts_none : counted t s.arrived ≡ s.arrived
 
   asides : p.phase ≡ Running → (t : ProcedureStep) → IsInstruction t → IsAside t
-  asides runs (list.Access op) fits = record { no_event = refl; no_flush = refl; goes_on = refl; counts_none = refl }
+  asides runs (list.Access op) fits = record { no_event = refl; no_invd = refl; no_flush = refl; goes_on = refl; counts_none = refl }
   asides runs list.ReloadCr3 fits =
-      record { no_event = ap (λ (ph : Phase). reloading ph p.page_global) runs; no_flush = ap (λ (ph : Phase). not (is_running ph)) runs; goes_on = refl; counts_none = refl }
-  asides runs (list.Invlpg address) fits = record { no_event = refl; no_flush = refl; goes_on = refl; counts_none = refl }
-  asides runs (list.Pge on) fits = record { no_event = refl; no_flush = refl; goes_on = refl; counts_none = refl }
-  asides runs (list.Cd on) fits = record { no_event = refl; no_flush = ap (λ (ph : Phase). not (is_running ph)) runs; goes_on = refl; counts_none = refl }
+      record { no_event = ap (λ (ph : Phase). reloading ph p.page_global) runs; no_invd = refl; no_flush = ap (λ (ph : Phase). not (is_running ph)) runs; goes_on = refl; counts_none = refl }
+  asides runs (list.Invlpg address) fits = record { no_event = refl; no_invd = refl; no_flush = refl; goes_on = refl; counts_none = refl }
+  asides runs (list.Pge on) fits = record { no_event = refl; no_invd = refl; no_flush = refl; goes_on = refl; counts_none = refl }
+  asides runs (list.Cd on) fits = record { no_event = refl; no_invd = refl; no_flush = ap (λ (ph : Phase). not (is_running ph)) runs; goes_on = refl; counts_none = refl }
   asides runs other fits = absurd fits
 
   instructed : InstructsHere → Goes c first s k
@@ -309,7 +321,7 @@ module _ (c : Case) (first : State) (start : IsStart (at_rest c first)) (few : l
       record {
         todo = todo;
         is = is;
-        due_is = inr (subst EventIsDue (sym (event_is None a.no_event)) (ap (λ (x : Option Processor). is_astray (option_map_or (λ q. q.phase) x Running) todo) at ∙ a.no_flush));
+        due_is = inr (a.no_invd, subst EventIsDue (sym (event_is None a.no_event)) (ap (λ (x : Option Processor). is_astray (option_map_or (λ q. q.phase) x Running) todo) at ∙ a.no_flush));
         right = fault_is (ap (λ (x : Option Event). fault_with k todo (answer_of_step x todo k (system_of c s)) p) (event_is None a.no_event) ∙ i.right);
         stands = subst (Stands c first) (sym (moved_is None a.no_event ∙ built_is))
             (record {
