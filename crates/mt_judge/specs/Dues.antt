@@ -48,6 +48,10 @@ IsDueAt c s k = IfSome (next_move c s k) IsDue
 abbrev pub AreStepsDue : Case → State → Type 0
 AreStepsDue c s = (k : ℕ) → k < length s.processors → IsDueAt c s k
 
+-- a processor's next step isn't due
+abbrev pub HasUndueStep : Case → State → Type 0
+HasUndueStep c s = (k : ℕ) × (IsDueAt c s k → ⊥)
+
 -- ---- a list that ends early
 
 -- the list of processor k has ended, and the processor is in an update
@@ -56,6 +60,10 @@ is_unfinished c s k = is_none (step_at c s k) && not (is_running (phase_in s.pro
 
 abbrev pub AreListsFinished : Case → State → Type 0
 AreListsFinished c s = (k : ℕ) → k < length s.processors → is_unfinished c s k ≡ false
+
+-- a list has ended early
+abbrev pub HasUnfinished : Case → State → Type 0
+HasUnfinished c s = (k : ℕ) × (k < length s.processors) × (is_unfinished c s k ≡ true)
 
 -- ---- every interleaving
 

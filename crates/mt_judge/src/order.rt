@@ -2,7 +2,7 @@ ghost use Rattle.std.specs.Prelude.{◌≡◌, ◌<◌, ◌^◌, ◌↔◌, IsFa
 ghost use Rattle.std.specs.List.{list_all};
 ghost use Rattle.mt_machine.specs.System.{Processor};
 ghost use Rattle.mt_machine.specs.Access.{is_running};
-ghost use Rattle.mt_judge.specs.Dues.{AreListsFinished, AreStepsDue, IsDue, IsDueAt, IsInOrder, IsStepDue, is_astray, is_first_flush, is_invd, is_unfinished};
+ghost use Rattle.mt_judge.specs.Dues.{AreListsFinished, AreStepsDue, HasUndueStep, HasUnfinished, IsDue, IsDueAt, IsInOrder, IsStepDue, is_astray, is_first_flush, is_invd, is_unfinished};
 ghost use Rattle.mt_judge.specs.Runs.{due_in, event_in, phase_in, place_of};
 
 use crate::due::due;
@@ -107,14 +107,16 @@ impl State {
 
     // 1 if the next step of a processor isn't due, else 0.
     fn undue_at(&self, case: &Case, k: usize) -> u64
-        ensures { result ≡ 0 → IsDueAt case.now self.now k }
+        ensures due { result ≡ 0 → IsDueAt case.now self.now k }
+        ensures undue { 0 < result → IsDueAt case.now self.now k → ⊥ }
     {
         if self.is_due(case, k) { 0 } else { 1 }
     }
 
     /// The number of processors whose next step isn't due.
     pub fn undue_count(&self, case: &Case) -> u64
-        ensures { result ≡ 0 → AreStepsDue case.now self.now }
+        ensures due { result ≡ 0 → AreStepsDue case.now self.now }
+        ensures undue { 0 < result → HasUndueStep case.now self.now }
     {
         let mut count = 0u64;
         for k in 0..self.cpus.len() {
@@ -132,7 +134,8 @@ impl State {
 
     /// Whether the list of a processor has ended in the midst of an update.
     pub fn has_unfinished(&self, case: &Case) -> bool
-        ensures { IsFalse result → AreListsFinished case.now self.now }
+        ensures finished { IsFalse result → AreListsFinished case.now self.now }
+        ensures unfinished { IsTrue result → HasUnfinished case.now self.now }
     {
         for k in 0..self.cpus.len() {
             if self.is_unfinished(case, k) {
@@ -145,10 +148,7 @@ impl State {
 
 /// The sum of two numbers, or 2^64 - 1 if it is greater.
 pub(crate) fn sum(a: u64, b: u64) -> u64
-    ensures { result ≡ 0 → (a ≡ 0) × (b ≡ 0) }
+    ensures { (result ≡ 0) ↔ ((a ≡ 0) × (b ≡ 0)) }
 {
-    match a.checked_add(b) {
-        Some(sum) => sum,
-        None => u64::MAX,
-    }
+    a.saturating_add(b)
 }

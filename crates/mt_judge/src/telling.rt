@@ -96,8 +96,8 @@ fn tell_event(text: &mut String, goal: &RegFile, event: Option<Event>) -> Result
     }
 }
 
-/// Writes the line of a step that was done.
-pub(crate) fn tell_move(text: &mut String, goal: &RegFile, m: &Move) -> Result<(), AllocError> {
+// Writes the line of a step that was done.
+fn tell_move(text: &mut String, goal: &RegFile, m: &Move) -> Result<(), AllocError> {
     push_decimal(text, "", m.cpu as u64)?;
     text.push_str(" ")?;
     tell_step(text, m.step)?;
@@ -164,8 +164,8 @@ fn tell_due(
     }
 }
 
-/// Writes why the manual's procedure hasn't the step due, by the state before it.
-pub(crate) fn tell_undue(text: &mut String, before: &State, m: &Move) -> Result<(), AllocError> {
+// Writes why the manual's procedure hasn't the step due, by the state before it.
+fn tell_undue(text: &mut String, before: &State, m: &Move) -> Result<(), AllocError> {
     text.push_str("  not due: ")?;
     tell_due(text, before, m.due, m.phase)
 }
@@ -201,8 +201,8 @@ fn tell_two_types(
     push_decimal(text, " and ", other as u64)
 }
 
-/// Writes the line of a state's wrong.
-pub(crate) fn tell_wrong(text: &mut String, wrong: &Wrong) -> Result<(), AllocError> {
+// Writes the line of a state's wrong.
+fn tell_wrong(text: &mut String, wrong: &Wrong) -> Result<(), AllocError> {
     match *wrong {
         Wrong::StaleLine { cpu, line } => tell_at(
             text,
@@ -227,8 +227,22 @@ pub(crate) fn tell_wrong(text: &mut String, wrong: &Wrong) -> Result<(), AllocEr
     text.push_str("\n")
 }
 
-/// Writes the line of a step's fault.
-pub(crate) fn tell_fault(text: &mut String, fault: &Fault) -> Result<(), AllocError> {
+/// Writes what is wrong in a state and isn't known.
+pub(crate) fn tell_new(
+    text: &mut String,
+    wrongs: &[Wrong],
+    known: &[Wrong],
+) -> Result<(), AllocError> {
+    for wrong in wrongs {
+        if !known.contains(wrong) {
+            tell_wrong(text, wrong)?;
+        }
+    }
+    Ok(())
+}
+
+// Writes the line of a step's fault.
+fn tell_fault(text: &mut String, fault: &Fault) -> Result<(), AllocError> {
     match *fault {
         Fault::OldType {
             cpu,
@@ -265,5 +279,33 @@ pub(crate) fn tell_pause(
             text.push_str("\n")
         }
         None => text.push_str(" has ended\n"),
+    }
+}
+
+/// Writes which processors can't go on, though their lists haven't ended.
+pub(crate) fn tell_pauses(text: &mut String, case: &Case, state: &State) -> Result<(), AllocError> {
+    for k in 0..state.count() {
+        if case.step_at(state, k).is_some() {
+            tell_pause(text, case, state, k)?;
+        }
+    }
+    Ok(())
+}
+
+/// Writes a step that was done, whether it wasn't due, and its fault.
+pub(crate) fn tell_whole_step(
+    text: &mut String,
+    case: &Case,
+    before: &State,
+    m: &Move,
+    fault: &Option<Fault>,
+) -> Result<(), AllocError> {
+    tell_move(text, &case.goal, m)?;
+    if !m.is_due() {
+        tell_undue(text, before, m)?;
+    }
+    match fault {
+        Some(fault) => tell_fault(text, fault),
+        None => Ok(()),
     }
 }
