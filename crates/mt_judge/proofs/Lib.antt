@@ -1,9 +1,15 @@
 mod Alike
+mod Buckets
+mod Courses
+mod Depths
 mod Emptying
+mod Firsts
 mod Fits
 mod Gathered
 mod Keeping
+mod Nodes
 mod Others
 mod Places
+mod RunLists
 mod Searching
 mod Translations

@@ -1,6 +1,6 @@
 -- What a step of a list does: what the machine's event does, whether or not it is due (own). A step that is no event is an access, a control
 -- instruction, a count at a barrier, or a flush of the TLB by the other of the two ways that the procedure has.
-use Rattle.std.specs.Prelude.{◌≡◌, ℕ, ◌<◌, ◌+◌, ◌^◌, Bool, if◌then◌else◌, slice_get, Option, None, Some}
+use Rattle.std.specs.Prelude.{◌≡◌, ℕ, ◌<◌, ◌+◌, ◌^◌, Bool, if◌then◌else◌, List, slice_get, Option, None, Some}
 use Rattle.std.specs.Option.{option_map_or}
 use Rattle.mt_regs.specs.RegisterFile.{RegisterFile}
 use Rattle.mt_tlb.specs.declared.mapping.Mapping.{Mapping}
@@ -21,11 +21,11 @@ use Rattle.mt_machine.specs.System.{Processor, System, change}
 use Rattle.mt_machine.specs.Access.{Answered, access_at}
 use Rattle.mt_machine.specs.Control.{control_at}
 use Rattle.mt_machine.specs.Machine.{flush_tlb, step, write_back_or_drop}
-use Rattle.mt_bus.specs.Parts.{answered, ruled}
+use Rattle.mt_bus.specs.Parts.{answered, ruled, with_changed}
 use Rattle.mt_judge.specs.declared.moves.Outcome.{Outcome}
 use Rattle.mt_judge.specs.declared.moves.Outcome.TheVariants.{Accessed, Nothing}
-use Rattle.mt_judge.specs.declared.step.Step.{Step}
-use Rattle.mt_judge.specs.declared.step.Step.TheVariants as list
+use Rattle.mt_judge.specs.declared.step.ProcedureStep.{ProcedureStep}
+use Rattle.mt_judge.specs.declared.step.ProcedureStep.TheVariants as list
 
 -- an index of a PAT entry
 abbrev pub HasIndex : Control → Type 0
@@ -61,7 +61,7 @@ reloading Flushed global = if global then None else Some FlushTlb
 reloading other global = None
 
 -- where so many registers are written
-abbrev pub event_of : Step → ℕ → Processor → Option Event
+abbrev pub event_of : ProcedureStep → ℕ → Processor → Option Event
 event_of list.Interrupt part p = Some Take
 event_of (list.ArriveAt barrier) part p = arrival p.phase
 event_of (list.WaitAt barrier count) part p = passage p.phase
@@ -102,6 +102,13 @@ answer_to_map m p = if is_full_for m p.mappings then Full else Okay
 abbrev pub with_mapping : Mapping → Processor → Processor
 with_mapping m p = record p { mappings = set_mapping m p.mappings }
 
+abbrev pub after_map : Mapping → Processor → Processor
+after_map m p = if is_full_for m p.mappings then p else with_mapping m p
+
+-- that of processor k is set
+abbrev pub IsMapped : Mapping → ℕ → List Processor → List Processor → Type 0
+IsMapped m k old new = (p : Processor) → slice_get old k ≡ Some p → new ≡ (if is_full_for m p.mappings then old else with_changed (with_mapping m) k old)
+
 -- what an access of processor k returns, and the system after it, whatever the phase
 abbrev pub accessed : Op → ℕ → System → Answered
 accessed op k s = option_map_or (λ p. access_at s k p op) (slice_get s.processors k) (answered Busy s)
@@ -116,7 +123,7 @@ flush_aside p = record (flush_tlb Flushed p) { phase = TlbFlushed }
 abbrev pub reload_aside : Processor → Processor
 reload_aside p = record p { phase = after_reload p.phase }
 
-abbrev pub aside : Step → ℕ → System → System
+abbrev pub aside : ProcedureStep → ℕ → System → System
 aside list.ClearPge k s = change flush_aside k s
 aside list.ReloadCr3 k s = change reload_aside k (controlled Cr3 k s)
 aside (list.Access op) k s = (accessed op k s).after
@@ -125,7 +132,7 @@ aside (list.Pge on) k s = controlled (Pge on) k s
 aside (list.Cd on) k s = controlled (Cd on) k s
 aside other k s = s
 
-abbrev pub answer_aside : Step → ℕ → System → Outcome
+abbrev pub answer_aside : ProcedureStep → ℕ → System → Outcome
 answer_aside (list.Access op) k s = Accessed (accessed op k s).answer
 answer_aside other k s = Nothing
 
@@ -136,8 +143,8 @@ memory_after other m = m
 
 -- ---- a step of processor k, which is this event or none
 
-abbrev pub after_step : RegisterFile → Option Event → Step → ℕ → System → System
+abbrev pub after_step : RegisterFile → Option Event → ProcedureStep → ℕ → System → System
 after_step goal event todo k s = option_map_or (λ e. step goal e k s) event (aside todo k s)
 
-abbrev pub answer_of_step : Option Event → Step → ℕ → System → Outcome
+abbrev pub answer_of_step : Option Event → ProcedureStep → ℕ → System → Outcome
 answer_of_step event todo k s = option_map_or (λ _. Nothing) event (answer_aside todo k s)

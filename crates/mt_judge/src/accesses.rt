@@ -11,7 +11,7 @@ ghost use Rattle.mt_machine.specs.System.{Processor};
 ghost use Rattle.mt_machine.specs.Bus.{with_lines};
 ghost use Rattle.mt_machine.specs.Access.{Answered, access_at, entry_of, first_of_load, first_of_store, is_cached, keep_entry, load, physical, store, store_filling, store_hit, store_past, store_uncached, store_after};
 ghost use Rattle.mt_bus.specs.Parts.{answered, entry_in, hit_in, lines_in, system, with_changed};
-ghost use Rattle.mt_judge.specs.Parts.{bus, memory};
+ghost use Rattle.mt_judge.specs.Parts.{bus, memory, with_entry_in};
 ghost use Rattle.mt_judge.specs.Steps.{IsAccess};
 
 use crate::buffers::{combine, drain, drain_line};
@@ -354,7 +354,7 @@ fn store(
 // The entry of an address's page in the TLB of a processor, which is filled if there is none.
 fn translate_in(cpus: &mut [Cpu], k: usize, va: u64) -> Result<Option<Entry>, NoMemory>
     requires { k < length cpus.old }
-    ensures { IfOk result (λ e. (e ≡ entry_in k va cpus.old) × (cpus.new ≡ option_map_or (λ e. with_changed (keep_entry e) k cpus.old) (entry_in k va cpus.old) cpus.old)) }
+    ensures { IfOk result (λ e. (e ≡ entry_in k va cpus.old) × (cpus.new ≡ with_entry_in (entry_in k va cpus.old) k cpus.old)) }
 {
     let cpu = &mut cpus[k];
     translate(cpu, va / PAGE_BYTES)

@@ -3,7 +3,7 @@ ghost use Rattle.mt_cache.specs.Lines.{combined_with, find_line, oldest_of_full,
 ghost use Rattle.mt_machine.specs.System.{change};
 ghost use Rattle.mt_machine.specs.Bus.{combine, drain, drain_line, empty_buffer, empty_if_whole, make_buffer_room, with_buffers};
 ghost use Rattle.mt_bus.specs.Parts.{buffers_in, system, with_changed};
-ghost use Rattle.mt_judge.specs.Parts.{bus, memory};
+ghost use Rattle.mt_judge.specs.Parts.{bus, memory, without_buffer};
 
 use crate::cpu::Cpu;
 use crate::lines;
@@ -74,7 +74,7 @@ fn empty_and_drop(
     buffer: &CacheLine,
 )
     requires { k < length cpus.old }
-    ensures { bus layout.now cpus.new words.new ≡ change (with_buffers (without_line number)) k (empty_buffer (bus layout.now cpus.old words.old) buffer.now) }
+    ensures { bus layout.now cpus.new words.new ≡ without_buffer number k (empty_buffer (bus layout.now cpus.old words.old) buffer.now) }
 {
     empty_buffer(layout, cpus, words, buffer);
     drop_buffer(cpus, k, number);

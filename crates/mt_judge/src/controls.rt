@@ -6,7 +6,7 @@ ghost use Rattle.mt_machine.specs.System.{Processor};
 ghost use Rattle.mt_machine.specs.Control.{control_at, drop_page, reload_cr3, set_page_global};
 ghost use Rattle.mt_bus.specs.Parts.{ruled, system, with_changed};
 ghost use Rattle.mt_judge.specs.Parts.{bus, memory};
-ghost use Rattle.mt_judge.specs.Steps.{HasIndex, IsControl, answer_to_map, with_mapping};
+ghost use Rattle.mt_judge.specs.Steps.{HasIndex, IsControl, IsMapped, after_map, answer_to_map};
 
 use crate::buffers::drain;
 use crate::cpu::Cpu;
@@ -70,7 +70,7 @@ fn put_mapping(maps: &mut Vec<Mapping>, x: Mapping) -> Result<Ruled, NoMemory>
 pub(crate) fn map(cpu: &mut Cpu, x: Mapping) -> Result<Ruled, NoMemory>
     requires { x.index < 8 }
     ensures answer { IfOk result (λ ruled. ruled ≡ (if is_full_for x cpu.old.mappings then Ruled.Full else Ruled.Okay)) }
-    ensures after { OnOk result (cpu.new ≡ (if is_full_for x cpu.old.mappings then cpu.old else record cpu.old { mappings = set_mapping x cpu.old.mappings })) }
+    ensures after { OnOk result (cpu.new ≡ after_map x cpu.old) }
 {
     put_mapping(&mut cpu.maps, x)
 }
@@ -153,7 +153,7 @@ fn map_in(cpus: &mut [Cpu], k: usize, x: Mapping) -> Result<Ruled, NoMemory>
     requires processor { k < length cpus.old }
     requires index { x.index < 8 }
     ensures answer { IfOk result (λ ruled. (p : Processor) → slice_get cpus.old k ≡ Some p → ruled ≡ answer_to_map x p) }
-    ensures after { OnOk result ((p : Processor) → slice_get cpus.old k ≡ Some p → cpus.new ≡ (if is_full_for x p.mappings then cpus.old else with_changed (with_mapping x) k cpus.old)) }
+    ensures after { OnOk result (IsMapped x k cpus.old cpus.new) }
 {
     let cpu = &mut cpus[k];
     map(cpu, x)

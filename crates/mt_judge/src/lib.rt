@@ -17,6 +17,7 @@ mod lines;
 mod listing;
 mod moves;
 mod numbers;
+mod one_run;
 mod order;
 mod program;
 mod ram;
@@ -26,6 +27,7 @@ mod search;
 mod snoops;
 mod step;
 mod steps;
+mod store;
 mod telling;
 mod words;
 mod worked;
@@ -33,12 +35,14 @@ mod wrong;
 
 pub use case::{Ask, Input, Reason, Trouble};
 pub use cpu::Cpu;
-pub use judging::{Explored, Verdict, explore, judge, judge_all, judge_run};
+pub use judging::{Explored, Verdict, explore, judge, judge_all};
 pub use moves::{Case, Move, Outcome, Procedure, State, advance};
+pub use one_run::judge_run;
 pub use program::program_status;
 pub use reader::read_input;
-pub use search::{Found, Node, Origin, Search, has_wrong_if_a_sense_holds};
-pub use step::{Place, Step};
+pub use search::{Found, Search, has_wrong_if_a_sense_holds};
+pub use step::{ListPlace, ProcedureStep};
+pub use store::{Node, Origin, Store};
 pub use worked::{
     worked_lost_words, worked_old_types, worked_orders, worked_stale_buffers, worked_stale_entries,
     worked_stale_lines, worked_two_types,

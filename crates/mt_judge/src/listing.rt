@@ -1,7 +1,7 @@
 ghost use Rattle.std.specs.Prelude.{◌<◌};
 
 use crate::case::{Reason, Trouble};
-use crate::step::Step;
+use crate::step::ProcedureStep;
 use crate::words::{address, bad, count, is, shape, switch, value};
 use mt_kinds::WORD_BYTES;
 use mt_machine::Op;
@@ -14,52 +14,52 @@ pub(crate) const BARRIERS: u64 = 8;
 pub(crate) const VIRTUAL_END: u64 = 1 << 48;
 
 // A step that is one word.
-fn plain(word: &[u8]) -> Option<Step> {
+fn plain(word: &[u8]) -> Option<ProcedureStep> {
     if is(word, "take") {
-        Some(Step::Interrupt)
+        Some(ProcedureStep::Interrupt)
     } else if is(word, "set-cd") {
-        Some(Step::SetCd)
+        Some(ProcedureStep::SetCd)
     } else if is(word, "wbinvd") {
-        Some(Step::Wbinvd)
+        Some(ProcedureStep::Wbinvd)
     } else if is(word, "invd") {
-        Some(Step::Invd)
+        Some(ProcedureStep::Invd)
     } else if is(word, "clear-pge") {
-        Some(Step::ClearPge)
+        Some(ProcedureStep::ClearPge)
     } else if is(word, "reload-cr3") {
-        Some(Step::ReloadCr3)
+        Some(ProcedureStep::ReloadCr3)
     } else {
         plain_register(word)
     }
 }
 
-fn plain_register(word: &[u8]) -> Option<Step> {
+fn plain_register(word: &[u8]) -> Option<ProcedureStep> {
     if is(word, "clear-e") {
-        Some(Step::ClearEnable)
+        Some(ProcedureStep::ClearEnable)
     } else if is(word, "write") {
-        Some(Step::WriteRegisters)
+        Some(ProcedureStep::WriteRegisters)
     } else if is(word, "enable") {
-        Some(Step::WriteDefault)
+        Some(ProcedureStep::WriteDefault)
     } else if is(word, "clear-cd") {
-        Some(Step::ClearCd)
+        Some(ProcedureStep::ClearCd)
     } else if is(word, "restore-pge") {
-        Some(Step::ReturnPge)
+        Some(ProcedureStep::ReturnPge)
     } else if is(word, "release") {
-        Some(Step::GoOn)
+        Some(ProcedureStep::GoOn)
     } else if is(word, "fence") {
-        Some(Step::Access(Op::Fence))
+        Some(ProcedureStep::Access(Op::Fence))
     } else {
         None
     }
 }
 
-fn arrival(words: &Words<'_>) -> Result<Step, Trouble> {
+fn arrival(words: &Words<'_>) -> Result<ProcedureStep, Trouble> {
     shape(words, 2)?;
-    Ok(Step::ArriveAt(count(words, 1, 0, BARRIERS - 1)? as u32))
+    Ok(ProcedureStep::ArriveAt(count(words, 1, 0, BARRIERS - 1)? as u32))
 }
 
-fn wait(words: &Words<'_>) -> Result<Step, Trouble> {
+fn wait(words: &Words<'_>) -> Result<ProcedureStep, Trouble> {
     shape(words, 3)?;
-    Ok(Step::WaitAt {
+    Ok(ProcedureStep::WaitAt {
         barrier: count(words, 1, 0, BARRIERS - 1)? as u32,
         count: count(words, 2, 1, 64)? as u32,
     })
@@ -86,47 +86,47 @@ fn form(words: &Words<'_>, size: usize, cpus: Option<u64>) -> Result<(), Trouble
 }
 
 /// An access or a control instruction: a step of a list or, with the number of processors, a line outside the lists.
-pub(crate) fn instruction(words: &Words<'_>, cpus: Option<u64>) -> Result<Step, Trouble> {
+pub(crate) fn instruction(words: &Words<'_>, cpus: Option<u64>) -> Result<ProcedureStep, Trouble> {
     let word = words.text(0);
     let first = first_argument(cpus);
     if is(word, "load") {
         form(words, first + 1, cpus)?;
-        Ok(Step::Access(Op::Load(word_address(words, first)?)))
+        Ok(ProcedureStep::Access(Op::Load(word_address(words, first)?)))
     } else if is(word, "store") {
         form(words, first + 2, cpus)?;
         let va = word_address(words, first)?;
-        Ok(Step::Access(Op::Store(va, value(words, first + 1)?)))
+        Ok(ProcedureStep::Access(Op::Store(va, value(words, first + 1)?)))
     } else if is(word, "invlpg") {
         form(words, first + 1, cpus)?;
-        Ok(Step::Invlpg(address(words, first, 1, VIRTUAL_END)?))
+        Ok(ProcedureStep::Invlpg(address(words, first, 1, VIRTUAL_END)?))
     } else {
         switching(words, first)
     }
 }
 
-fn switching(words: &Words<'_>, first: usize) -> Result<Step, Trouble>
+fn switching(words: &Words<'_>, first: usize) -> Result<ProcedureStep, Trouble>
     requires { first < 3 }
 {
     let word = words.text(0);
     if is(word, "pge") {
         shape(words, first + 1)?;
-        Ok(Step::Pge(switch(words, first)?))
+        Ok(ProcedureStep::Pge(switch(words, first)?))
     } else if is(word, "cd") {
         shape(words, first + 1)?;
-        Ok(Step::Cd(switch(words, first)?))
+        Ok(ProcedureStep::Cd(switch(words, first)?))
     } else if is(word, "fence") {
         shape(words, first)?;
-        Ok(Step::Access(Op::Fence))
+        Ok(ProcedureStep::Access(Op::Fence))
     } else if is(word, "cr3") {
         shape(words, first)?;
-        Ok(Step::ReloadCr3)
+        Ok(ProcedureStep::ReloadCr3)
     } else {
         bad(words.place(0), Reason::BadLine)
     }
 }
 
 /// The step that a line of a procedure names.
-pub(crate) fn step_of(words: &Words<'_>) -> Result<Step, Trouble> {
+pub(crate) fn step_of(words: &Words<'_>) -> Result<ProcedureStep, Trouble> {
     if is(words.text(0), "arrive") {
         return arrival(words);
     }

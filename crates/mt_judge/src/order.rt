@@ -2,28 +2,30 @@ ghost use Rattle.std.specs.Prelude.{◌≡◌, ◌<◌, ◌^◌, ◌↔◌, IsFa
 ghost use Rattle.std.specs.List.{list_all};
 ghost use Rattle.mt_machine.specs.System.{Processor};
 ghost use Rattle.mt_machine.specs.Access.{is_running};
-ghost use Rattle.mt_judge.specs.Dues.{AreListsFinished, AreStepsDue, IsDue, IsDueAt, IsInOrder, IsStepDue, is_first_flush, is_astray, is_unfinished};
+ghost use Rattle.mt_judge.specs.Dues.{AreListsFinished, AreStepsDue, HasUndueStep, HasUnfinished, IsDue, IsDueAt, IsInOrder, IsStepDue, is_astray, is_first_flush, is_invd, is_unfinished};
 ghost use Rattle.mt_judge.specs.Runs.{due_in, event_in, phase_in, place_of};
 
 use crate::due::due;
 use crate::moves::{Case, Move, State, event_in, phase_in, place_at};
-use crate::step::Step;
+use crate::step::ProcedureStep;
 use crate::wrong::is_running;
 use mt_machine::{Event, Phase};
 
 // Whether a step is the first flush of the caches.
-fn is_first_flush(phase: Phase, step: Step) -> bool
+fn is_first_flush(phase: Phase, step: ProcedureStep) -> bool
     ensures { result ≡ is_first_flush phase step }
 {
-    matches!((phase, step), (Phase::NoFill, Step::Wbinvd))
+    matches!((phase, step), (Phase::NoFill, ProcedureStep::Wbinvd))
 }
 
 // Whether a step is a flush of the TLB or a change of CD, in an update.
-fn is_astray(phase: Phase, step: Step) -> bool
+fn is_astray(phase: Phase, step: ProcedureStep) -> bool
     ensures { result ≡ is_astray phase step }
 {
     match step {
-        Step::ClearPge | Step::ReloadCr3 | Step::Cd(_) => !is_running(phase),
+        ProcedureStep::ClearPge | ProcedureStep::ReloadCr3 | ProcedureStep::Cd(_) => !is_running(
+            phase,
+        ),
         _ => false,
     }
 }
@@ -38,11 +40,18 @@ fn is_event_due(event: Option<Event>, due: Option<Event>, astray: bool) -> bool
     }
 }
 
+fn is_invd(step: ProcedureStep) -> bool
+    ensures { result ≡ is_invd step }
+{
+    matches!(step, ProcedureStep::Invd)
+}
+
 // Whether a step is due, by the event that it is and the one that is due.
-fn is_in_order(phase: Phase, step: Step, event: Option<Event>, due: Option<Event>) -> bool
+fn is_in_order(phase: Phase, step: ProcedureStep, event: Option<Event>, due: Option<Event>) -> bool
     ensures { IsTrue result ↔ IsInOrder phase step event due }
 {
-    is_first_flush(phase, step) || is_event_due(event, due, is_astray(phase, step))
+    is_first_flush(phase, step)
+        || !is_invd(step) && is_event_due(event, due, is_astray(phase, step))
 }
 
 impl Move {
@@ -57,7 +66,7 @@ impl Move {
 
 impl State {
     // Whether a step, which is the next one of a processor, is due.
-    fn is_step_due(&self, k: usize, step: Step) -> bool
+    fn is_step_due(&self, k: usize, step: ProcedureStep) -> bool
         requires processor { k < length self.now.processors }
         requires numbers { (p : Processor) → slice_get self.now.processors k ≡ Some p → list_all (λ l. nat_lt l.number (2 ^ 46)) p.lines ≡ true }
         ensures { IsTrue result ↔ IsStepDue self.now k step }
@@ -98,14 +107,16 @@ impl State {
 
     // 1 if the next step of a processor isn't due, else 0.
     fn undue_at(&self, case: &Case, k: usize) -> u64
-        ensures { result ≡ 0 → IsDueAt case.now self.now k }
+        ensures due { result ≡ 0 → IsDueAt case.now self.now k }
+        ensures undue { 0 < result → IsDueAt case.now self.now k → ⊥ }
     {
         if self.is_due(case, k) { 0 } else { 1 }
     }
 
     /// The number of processors whose next step isn't due.
     pub fn undue_count(&self, case: &Case) -> u64
-        ensures { result ≡ 0 → AreStepsDue case.now self.now }
+        ensures due { result ≡ 0 → AreStepsDue case.now self.now }
+        ensures undue { 0 < result → HasUndueStep case.now self.now }
     {
         let mut count = 0u64;
         for k in 0..self.cpus.len() {
@@ -123,7 +134,8 @@ impl State {
 
     /// Whether the list of a processor has ended in the midst of an update.
     pub fn has_unfinished(&self, case: &Case) -> bool
-        ensures { IsFalse result → AreListsFinished case.now self.now }
+        ensures finished { IsFalse result → AreListsFinished case.now self.now }
+        ensures unfinished { IsTrue result → HasUnfinished case.now self.now }
     {
         for k in 0..self.cpus.len() {
             if self.is_unfinished(case, k) {
@@ -136,10 +148,7 @@ impl State {
 
 /// The sum of two numbers, or 2^64 - 1 if it is greater.
 pub(crate) fn sum(a: u64, b: u64) -> u64
-    ensures { result ≡ 0 → (a ≡ 0) × (b ≡ 0) }
+    ensures { (result ≡ 0) ↔ ((a ≡ 0) × (b ≡ 0)) }
 {
-    match a.checked_add(b) {
-        Some(sum) => sum,
-        None => u64::MAX,
-    }
+    a.saturating_add(b)
 }

@@ -1,7 +1,7 @@
 ghost use Rattle.std.specs.Prelude.{◌≡◌, ◌<◌, ◌^◌, slice_index, if◌then◌else◌};
 ghost use Rattle.mt_cache.specs.Lines.{has_number};
 ghost use Rattle.mt_machine.specs.Memory.{line_words, put_word, word_address, word_at, write_back, write_back_of, write_back_word};
-ghost use Rattle.mt_judge.specs.Parts.{memory};
+ghost use Rattle.mt_judge.specs.Parts.{memory, write_back_if};
 
 use mt_cache::CacheLine;
 use mt_kinds::{LINE_BYTES, WORD_BYTES, is_bit_set};
@@ -104,7 +104,7 @@ pub(crate) fn write_back(layout: &Ram, words: &mut [u64], line: &CacheLine)
 }
 
 fn write_back_if(layout: &Ram, words: &mut [u64], line: &CacheLine, number: u64)
-    ensures { memory layout.now words.new ≡ (if has_number number line.now then write_back (memory layout.now words.old) line.now else memory layout.now words.old) }
+    ensures { memory layout.now words.new ≡ write_back_if number line.now (memory layout.now words.old) }
 {
     if line.number == number {
         write_back(layout, words, line);

@@ -5,7 +5,7 @@ use crate::controls::map;
 use crate::cpu::{Cpu, copied};
 use crate::listing::{BARRIERS, VIRTUAL_END, instruction, step_of};
 use crate::moves::{Case, Procedure, State, aside};
-use crate::step::{Place as ListPlace, Step};
+use crate::step::{ListPlace, ProcedureStep};
 use crate::words::{address, bad, count, count_in, is, is_end, shape, value};
 use mt_dump::{Dump, read_dump};
 use mt_kinds::{LINE_BYTES, MOST_LINES, PAGE_BYTES};
@@ -27,8 +27,13 @@ const MOST_STATES: u64 = 1 << 21;
 #[derive(Drop)]
 enum Section {
     Outside,
-    Goal { given: Vec<u32> },
-    List { cpus: Vec<usize>, steps: Vec<Step> },
+    Goal {
+        given: Vec<u32>,
+    },
+    List {
+        cpus: Vec<usize>,
+        steps: Vec<ProcedureStep>,
+    },
 }
 
 /// Reads the lines behind the dump.

@@ -2,7 +2,7 @@ use mt_machine::Op;
 
 /// A step of a list.
 #[derive(Clone, Copy)]
-pub enum Step {
+pub enum ProcedureStep {
     /// The interrupt is taken: the write-combining buffers are emptied.
     Interrupt,
     /// The processor is counted at a barrier.
@@ -42,7 +42,7 @@ pub enum Step {
 
 /// Where a processor is in its list.
 #[derive(Clone, Copy)]
-pub struct Place {
+pub struct ListPlace {
     /// The number of steps that are done.
     pub step: usize,
     /// The number of registers that `WriteRegisters` has written.

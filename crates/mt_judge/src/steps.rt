@@ -9,7 +9,7 @@ use crate::controls::reload_cr3;
 use crate::cpu::Cpu;
 use crate::lines;
 use crate::ram::word_address;
-use crate::step::Step;
+use crate::step::ProcedureStep;
 use mt_cache::CacheLine;
 use mt_kinds::{LINE_BYTES, WORD_BYTES, is_bit_set};
 use mt_machine::{Event, Phase};
@@ -91,28 +91,31 @@ fn reloading(cpu: &Cpu) -> Option<Event>
 }
 
 /// The event of the machine that a step of a processor is, if it is one. `part` is the number of registers that are written.
-pub(crate) fn event_of(step: Step, part: u32, cpu: &Cpu) -> Option<Event>
+pub(crate) fn event_of(step: ProcedureStep, part: u32, cpu: &Cpu) -> Option<Event>
     requires numbers { list_all (λ l. nat_lt l.number (2 ^ 46)) cpu.now.lines ≡ true }
     requires place { part + 1 < 2 ^ 32 }
     ensures event { result ≡ event_of step part cpu.now }
     ensures place { IfSome result HasPlace }
 {
     match step {
-        Step::Interrupt => Some(Event::Take),
-        Step::ArriveAt(_) => arrival(cpu.phase),
-        Step::WaitAt { .. } => passage(cpu.phase),
-        Step::SetCd => Some(Event::SetNoFill),
-        Step::Wbinvd => Some(write_back_or_drop(cpu)),
-        Step::Invd => Some(Event::DropLines),
-        Step::ClearPge => clearing(cpu.phase),
-        Step::ReloadCr3 => reloading(cpu),
-        Step::ClearEnable => Some(Event::Disable),
-        Step::WriteRegisters => Some(Event::Write(part)),
-        Step::WriteDefault => Some(Event::Enable),
-        Step::ClearCd => Some(Event::SetNormal),
-        Step::ReturnPge => Some(Event::RestorePge),
-        Step::GoOn => Some(Event::Release),
-        Step::Access(_) | Step::Invlpg(_) | Step::Pge(_) | Step::Cd(_) => None,
+        ProcedureStep::Interrupt => Some(Event::Take),
+        ProcedureStep::ArriveAt(_) => arrival(cpu.phase),
+        ProcedureStep::WaitAt { .. } => passage(cpu.phase),
+        ProcedureStep::SetCd => Some(Event::SetNoFill),
+        ProcedureStep::Wbinvd => Some(write_back_or_drop(cpu)),
+        ProcedureStep::Invd => Some(Event::DropLines),
+        ProcedureStep::ClearPge => clearing(cpu.phase),
+        ProcedureStep::ReloadCr3 => reloading(cpu),
+        ProcedureStep::ClearEnable => Some(Event::Disable),
+        ProcedureStep::WriteRegisters => Some(Event::Write(part)),
+        ProcedureStep::WriteDefault => Some(Event::Enable),
+        ProcedureStep::ClearCd => Some(Event::SetNormal),
+        ProcedureStep::ReturnPge => Some(Event::RestorePge),
+        ProcedureStep::GoOn => Some(Event::Release),
+        ProcedureStep::Access(_)
+        | ProcedureStep::Invlpg(_)
+        | ProcedureStep::Pge(_)
+        | ProcedureStep::Cd(_) => None,
     }
 }
 

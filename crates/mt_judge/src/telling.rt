@@ -1,7 +1,7 @@
 use crate::due::{arrived, arrived_again, due_at};
 use crate::moves::{Case, Move, Outcome, State, phase_in};
 use crate::numbers::{push_decimal, push_hex};
-use crate::step::Step;
+use crate::step::ProcedureStep;
 use crate::wrong::{Fault, Wrong};
 use mt_kinds::{LINE_BYTES, MemType, PAGE_BYTES, WORD_BYTES};
 use mt_machine::{Done, Event, Op, Phase};
@@ -14,26 +14,26 @@ fn tell_wait(text: &mut String, barrier: u32, count: u32) -> Result<(), AllocErr
 }
 
 /// Writes the words of a step, as a procedure has them.
-fn tell_step(text: &mut String, step: Step) -> Result<(), AllocError> {
+fn tell_step(text: &mut String, step: ProcedureStep) -> Result<(), AllocError> {
     match step {
-        Step::Interrupt => text.push_str("take"),
-        Step::ArriveAt(barrier) => push_decimal(text, "arrive ", barrier as u64),
-        Step::WaitAt { barrier, count } => tell_wait(text, barrier, count),
-        Step::SetCd => text.push_str("set-cd"),
-        Step::Wbinvd => text.push_str("wbinvd"),
-        Step::Invd => text.push_str("invd"),
-        Step::ClearPge => text.push_str("clear-pge"),
-        Step::ReloadCr3 => text.push_str("reload-cr3"),
-        Step::ClearEnable => text.push_str("clear-e"),
-        Step::WriteRegisters => text.push_str("write"),
-        Step::WriteDefault => text.push_str("enable"),
-        Step::ClearCd => text.push_str("clear-cd"),
-        Step::ReturnPge => text.push_str("restore-pge"),
-        Step::GoOn => text.push_str("release"),
-        Step::Access(op) => tell_access(text, op),
-        Step::Invlpg(va) => push_hex(text, "invlpg ", va, 1),
-        Step::Pge(on) => text.push_str(if on { "pge on" } else { "pge off" }),
-        Step::Cd(on) => text.push_str(if on { "cd on" } else { "cd off" }),
+        ProcedureStep::Interrupt => text.push_str("take"),
+        ProcedureStep::ArriveAt(barrier) => push_decimal(text, "arrive ", barrier as u64),
+        ProcedureStep::WaitAt { barrier, count } => tell_wait(text, barrier, count),
+        ProcedureStep::SetCd => text.push_str("set-cd"),
+        ProcedureStep::Wbinvd => text.push_str("wbinvd"),
+        ProcedureStep::Invd => text.push_str("invd"),
+        ProcedureStep::ClearPge => text.push_str("clear-pge"),
+        ProcedureStep::ReloadCr3 => text.push_str("reload-cr3"),
+        ProcedureStep::ClearEnable => text.push_str("clear-e"),
+        ProcedureStep::WriteRegisters => text.push_str("write"),
+        ProcedureStep::WriteDefault => text.push_str("enable"),
+        ProcedureStep::ClearCd => text.push_str("clear-cd"),
+        ProcedureStep::ReturnPge => text.push_str("restore-pge"),
+        ProcedureStep::GoOn => text.push_str("release"),
+        ProcedureStep::Access(op) => tell_access(text, op),
+        ProcedureStep::Invlpg(va) => push_hex(text, "invlpg ", va, 1),
+        ProcedureStep::Pge(on) => text.push_str(if on { "pge on" } else { "pge off" }),
+        ProcedureStep::Cd(on) => text.push_str(if on { "cd on" } else { "cd off" }),
     }
 }
 
@@ -96,8 +96,8 @@ fn tell_event(text: &mut String, goal: &RegFile, event: Option<Event>) -> Result
     }
 }
 
-/// Writes the line of a step that was done.
-pub(crate) fn tell_move(text: &mut String, goal: &RegFile, m: &Move) -> Result<(), AllocError> {
+// Writes the line of a step that was done.
+fn tell_move(text: &mut String, goal: &RegFile, m: &Move) -> Result<(), AllocError> {
     push_decimal(text, "", m.cpu as u64)?;
     text.push_str(" ")?;
     tell_step(text, m.step)?;
@@ -164,8 +164,8 @@ fn tell_due(
     }
 }
 
-/// Writes why the manual's procedure hasn't the step due, by the state before it.
-pub(crate) fn tell_undue(text: &mut String, before: &State, m: &Move) -> Result<(), AllocError> {
+// Writes why the manual's procedure hasn't the step due, by the state before it.
+fn tell_undue(text: &mut String, before: &State, m: &Move) -> Result<(), AllocError> {
     text.push_str("  not due: ")?;
     tell_due(text, before, m.due, m.phase)
 }
@@ -201,8 +201,8 @@ fn tell_two_types(
     push_decimal(text, " and ", other as u64)
 }
 
-/// Writes the line of a state's wrong.
-pub(crate) fn tell_wrong(text: &mut String, wrong: &Wrong) -> Result<(), AllocError> {
+// Writes the line of a state's wrong.
+fn tell_wrong(text: &mut String, wrong: &Wrong) -> Result<(), AllocError> {
     match *wrong {
         Wrong::StaleLine { cpu, line } => tell_at(
             text,
@@ -227,8 +227,22 @@ pub(crate) fn tell_wrong(text: &mut String, wrong: &Wrong) -> Result<(), AllocEr
     text.push_str("\n")
 }
 
-/// Writes the line of a step's fault.
-pub(crate) fn tell_fault(text: &mut String, fault: &Fault) -> Result<(), AllocError> {
+/// Writes what is wrong in a state and isn't known.
+pub(crate) fn tell_new(
+    text: &mut String,
+    wrongs: &[Wrong],
+    known: &[Wrong],
+) -> Result<(), AllocError> {
+    for wrong in wrongs {
+        if !known.contains(wrong) {
+            tell_wrong(text, wrong)?;
+        }
+    }
+    Ok(())
+}
+
+// Writes the line of a step's fault.
+fn tell_fault(text: &mut String, fault: &Fault) -> Result<(), AllocError> {
     match *fault {
         Fault::OldType {
             cpu,
@@ -265,5 +279,33 @@ pub(crate) fn tell_pause(
             text.push_str("\n")
         }
         None => text.push_str(" has ended\n"),
+    }
+}
+
+/// Writes which processors can't go on, though their lists haven't ended.
+pub(crate) fn tell_pauses(text: &mut String, case: &Case, state: &State) -> Result<(), AllocError> {
+    for k in 0..state.count() {
+        if case.step_at(state, k).is_some() {
+            tell_pause(text, case, state, k)?;
+        }
+    }
+    Ok(())
+}
+
+/// Writes a step that was done, whether it wasn't due, and its fault.
+pub(crate) fn tell_whole_step(
+    text: &mut String,
+    case: &Case,
+    before: &State,
+    m: &Move,
+    fault: &Option<Fault>,
+) -> Result<(), AllocError> {
+    tell_move(text, &case.goal, m)?;
+    if !m.is_due() {
+        tell_undue(text, before, m)?;
+    }
+    match fault {
+        Some(fault) => tell_fault(text, fault),
+        None => Ok(()),
     }
 }

@@ -26,7 +26,7 @@ use Rattle.mt_laws.proofs.Barrier.Ranks.{and_left, and_right}
 use Rattle.mt_laws.proofs.Clearing.Follows.{all_append, all_drop, all_filter}
 use Rattle.mt_laws.proofs.Clearing.Renewed.{at_change}
 use Rattle.mt_judge.specs.declared.moves.Outcome.TheVariants.{Accessed}
-use Rattle.mt_judge.specs.declared.step.Step.TheVariants.{Access}
+use Rattle.mt_judge.specs.declared.step.ProcedureStep.TheVariants.{Access}
 use Rattle.mt_judge.specs.declared.wrong.Fault.TheVariants.{OldType}
 use Rattle.mt_judge.specs.declared.wrong.Kept.{Kept}
 use Rattle.mt_judge.specs.declared.wrong.Kept.TheVariants.{Buffer, CleanLine, DirtyLine}

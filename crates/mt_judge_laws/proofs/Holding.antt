@@ -33,8 +33,8 @@ use Rattle.mt_laws.proofs.Registers.Filed.{AllFiled, filed_steps, filed_next}
 use Rattle.mt_bus.specs.Parts.{answered}
 use Rattle.mt_judge.specs.declared.moves.Outcome.{Outcome}
 use Rattle.mt_judge.specs.declared.wrong.Fault.TheVariants.{LostWord}
-use Rattle.mt_judge.specs.declared.step.Step.{Step}
-use Rattle.mt_judge.specs.declared.step.Step.TheVariants as list
+use Rattle.mt_judge.specs.declared.step.ProcedureStep.{ProcedureStep}
+use Rattle.mt_judge.specs.declared.step.ProcedureStep.TheVariants as list
 use Rattle.mt_judge.specs.declared.moves.Outcome.TheVariants.{Accessed}
 use Rattle.mt_judge.specs.Parts.{bus}
 use Rattle.mt_judge.specs.Runs.{Case, State, procedure_order, system_of}
@@ -115,7 +115,7 @@ not_over c ps k p at behind = one (list_all (has_released (order_of c)) ps) refl
     one false all = refl
 
 -- the event of a step that is due isn't an access, and no INVD that is due drops a dirty word
-pub event_right : (goal : RegisterFile) (ps : List Processor) (p : Processor) (k part : ℕ) (todo : Step) (e : Event) (outcome : Outcome) → event_of todo part p ≡ Some e → due (procedure_order goal) ps p p.phase ≡ Some e
+pub event_right : (goal : RegisterFile) (ps : List Processor) (p : Processor) (k part : ℕ) (todo : ProcedureStep) (e : Event) (outcome : Outcome) → event_of todo part p ≡ Some e → due (procedure_order goal) ps p p.phase ≡ Some e
     → fault_with k todo outcome p ≡ None
 event_right goal ps p k part (list.Access op) e outcome is now_due = absurd (cc)
 event_right goal ps p k part list.Invd e outcome is now_due = dropped (first_dirty_line p.lines) (flushes p.phase (now_due ∙ sym is))
@@ -184,7 +184,7 @@ module _ (c : Case) (first : State) (start : IsStart (at_rest c first)) (s : Sta
 
   -- ---- an instruction of a processor that runs
 
-  pub record Instructed (todo : Step) : Type 0 where
+  pub record Instructed (todo : ProcedureStep) : Type 0 where
     pub to : System
     pub is : aside todo k before ≡ to
     pub same_stages : stages_of to.processors ≡ stages_of s.processors
@@ -246,7 +246,7 @@ module _ (c : Case) (first : State) (start : IsStart (at_rest c first)) (s : Sta
     controlled_is : (ctl : Control) → controlled ctl k before ≡ (control_at before k p ctl).after
     controlled_is ctl = ap (λ (x : Option Processor). option_map_or (λ q. (control_at before k q ctl).after) x before) at
 
-    controls : (todo : Step) (ctl : Control) → IsPlain ctl → ((q : Processor) → FitsControl q ctl) → aside todo k before ≡ (control_at before k p ctl).after → fault_with k todo (answer_aside todo k before) p ≡ None → Instructed todo
+    controls : (todo : ProcedureStep) (ctl : Control) → IsPlain ctl → ((q : Processor) → FitsControl q ctl) → aside todo k before ≡ (control_at before k p ctl).after → fault_with k todo (answer_aside todo k before) p ≡ None → Instructed todo
     controls todo ctl plain fits is right =
         let is_done : (control before k ctl).after ≡ (control_at before k p ctl).after = control_is ctl in
         record {
@@ -271,7 +271,7 @@ module _ (c : Case) (first : State) (start : IsStart (at_rest c first)) (s : Sta
         let x_runs : x.phase ≡ Running = ap (λ (y : Stage). y.0) (sym same) ∙ runs in
         λ i. record x { phase = (ap after_reload x_runs ∙ sym x_runs) i })
 
-    pub instructs : (todo : Step) → IsInstruction todo → Instructed todo
+    pub instructs : (todo : ProcedureStep) → IsInstruction todo → Instructed todo
     instructs (list.Access op) fits = accesses op fits
     instructs list.ReloadCr3 fits = controls list.ReloadCr3 Cr3 tt (λ q. tt) reloaded_is refl
     instructs (list.Invlpg address) fits = controls (list.Invlpg address) (Invlpg address) tt (λ q. tt) (controlled_is (Invlpg address)) refl

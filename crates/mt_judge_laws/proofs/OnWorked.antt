@@ -4,8 +4,8 @@ use Rattle.std.specs.Prelude.{slice_get}
 use Rattle.std.specs.List.{All}
 use Rattle.mt_machine.specs.declared.op.Op.TheVariants.{Load}
 use Rattle.mt_machine.specs.System.{Processor}
-use Rattle.mt_judge.specs.declared.step.Step.TheVariants.{Access, Pge}
-use Rattle.mt_judge.specs.declared.step.Step.{Step}
+use Rattle.mt_judge.specs.declared.step.ProcedureStep.TheVariants.{Access, Pge}
+use Rattle.mt_judge.specs.declared.step.ProcedureStep.{ProcedureStep}
 use Rattle.mt_judge.specs.Runs.{list_of}
 use Rattle.mt_judge.specs.WorkedWrongs.{dirty_line, mapped, with_line}
 use Rattle.mt_judge_laws.specs.Manual.{IsInstruction, IsManualList, manual_list}
@@ -23,12 +23,12 @@ lists_are (suc zero) p at = let e : record (mapped 0x806) { self_snoop = true } 
 lists_are (suc (suc k)) p at = absurd (cc)
 
 -- no list without steps is one
-none_empty : (before rest : List Step) → [] ≡ before ++ (manual_list 2 false ++ rest) → ⊥
+none_empty : (before rest : List ProcedureStep) → [] ≡ before ++ (manual_list 2 false ++ rest) → ⊥
 none_empty [] rest is = absurd (cc)
 none_empty (t ∷ ts) rest is = absurd (cc)
 
 pub not_empty : IsManualList 2 false [] → ⊥
 not_empty h = none_empty h.before h.behind h.is
 
-pub odd : (ts : List Step) → ts ≡ Access (Load 0x1001) ∷ [] → All IsInstruction ts → ⊥
+pub odd : (ts : List ProcedureStep) → ts ≡ Access (Load 0x1001) ∷ [] → All IsInstruction ts → ⊥
 odd ts is fit = let low = (subst (All IsInstruction) is fit 0 (Access (Load 0)) (search rules)).0 in let e : 1 ≡ 0 = low in omega (arith, e)

@@ -9,8 +9,8 @@ use Rattle.mt_machine.specs.Machine.{due}
 use Rattle.mt_machine.specs.Start.{IsStart}
 use Rattle.mt_machine.specs.System.{Processor, System}
 use Rattle.mt_judge.specs.declared.moves.Move.{Move}
-use Rattle.mt_judge.specs.declared.step.Step.{Step}
-use Rattle.mt_judge.specs.declared.step.Step.TheVariants as list
+use Rattle.mt_judge.specs.declared.step.ProcedureStep.{ProcedureStep}
+use Rattle.mt_judge.specs.declared.step.ProcedureStep.TheVariants as list
 use Rattle.mt_judge.specs.Runs.{Case, State, after, due_in, due_of, event_in, is_fit, is_open, move_of, moved, next_move, next_step, place_of, run, step_at, system_of}
 use Rattle.mt_judge.specs.Steps.{after_step, answer_aside, answer_of_step, aside, event_of}
 use Rattle.mt_judge.specs.Wrongs.{fault_of, fault_with}
@@ -29,7 +29,7 @@ module _ (c : Case) (first : State) (start : IsStart (at_rest c first)) (s : Sta
   abbrev HoldsIn : System → Type 0
   HoldsIn t = Holds c first t.processors t.memory.words
 
-  module _ (p : Processor) (at : slice_get s.processors k ≡ Some p) (todo : Step) where
+  module _ (p : Processor) (at : slice_get s.processors k ≡ Some p) (todo : ProcedureStep) where
     abbrev part : ℕ
     part = (place_of s k).part
 
@@ -40,12 +40,12 @@ module _ (c : Case) (first : State) (start : IsStart (at_rest c first)) (s : Sta
     abbrev IsAllowed : Option Event → Type 0
     IsAllowed e = MatchOption e (IsBeside p.phase todo) (λ x. due (order_of c) s.processors p p.phase ≡ Some x)
 
-    by_instruction : (t : Step) → is_running p.phase ≡ true → IsInstruction t → HoldsIn (aside t k (system_of c s)) × (fault_with k t (answer_aside t k (system_of c s)) p ≡ None)
+    by_instruction : (t : ProcedureStep) → is_running p.phase ≡ true → IsInstruction t → HoldsIn (aside t k (system_of c s)) × (fault_with k t (answer_aside t k (system_of c s)) p ≡ None)
     by_instruction t runs fits =
         let i = instructs c first start s h k p at (running_is p.phase runs) t fits in
         (subst HoldsIn (sym i.is) i.holds, i.right)
 
-    beside : (t : Step) → IsBeside p.phase t → HoldsIn (aside t k (system_of c s)) × (fault_with k t (answer_aside t k (system_of c s)) p ≡ None)
+    beside : (t : ProcedureStep) → IsBeside p.phase t → HoldsIn (aside t k (system_of c s)) × (fault_with k t (answer_aside t k (system_of c s)) p ≡ None)
     beside (list.ArriveAt barrier) allowed = (h, refl)
     beside (list.WaitAt barrier count) allowed = (h, refl)
     beside other allowed = by_instruction other allowed.0 allowed.1
@@ -71,7 +71,7 @@ module _ (c : Case) (first : State) (start : IsStart (at_rest c first)) (s : Sta
     at_known : next_step c s k ≡ Some todo → IsOrderly (move_of c s k todo) → Keeps (move_of c s k todo)
     at_known next orderly =
         let made = kept (event_of todo part p) refl (allowed_is orderly) in
-        let moved_is : moved c s k ≡ after c s k todo = ap (λ (x : Option Step). option_map_or (after c s k) x s) next in
+        let moved_is : moved c s k ≡ after c s k todo = ap (λ (x : Option ProcedureStep). option_map_or (after c s k) x s) next in
         record {
           holds = subst (λ (t : State). Holds c first t.processors t.words) (sym moved_is)
               (subst (λ (x : Option Event). HoldsIn (after_step c.goal x todo k (system_of c s))) (sym event_is) made.0);
@@ -87,12 +87,12 @@ module _ (c : Case) (first : State) (start : IsStart (at_rest c first)) (s : Sta
   pub keeps : (m : Move) → next_move c s k ≡ Some m → IsOrderly m → Keeps m
   keeps m is orderly = at_step (next_step c s k) refl is
     where
-      at_processor : (todo : Step) → next_step c s k ≡ Some todo → IsOrderly (move_of c s k todo) → (x : Option Processor) → slice_get s.processors k ≡ x → Keeps (move_of c s k todo)
+      at_processor : (todo : ProcedureStep) → next_step c s k ≡ Some todo → IsOrderly (move_of c s k todo) → (x : Option Processor) → slice_get s.processors k ≡ x → Keeps (move_of c s k todo)
       at_processor todo next fine None none =
           absurd (let stays : next_step c s k ≡ None = ap (λ (b : Bool). if b && option_map_or (is_open s.arrived) (step_at c s k) false then step_at c s k else None) (not_there none) in cc)
       at_processor todo next fine (Some p) at = at_known p at todo next fine
 
-      at_step : (x : Option Step) → next_step c s k ≡ x → option_map (move_of c s k) x ≡ Some m → Keeps m
+      at_step : (x : Option ProcedureStep) → next_step c s k ≡ x → option_map (move_of c s k) x ≡ Some m → Keeps m
       at_step None next g = absurd (cc)
       at_step (Some todo) next g =
           let same : move_of c s k todo ≡ m = cc in

@@ -17,9 +17,9 @@ use Rattle.mt_machine.specs.Machine.{after_drop, after_flush, due, has_arrived, 
 use Rattle.mt_machine.specs.System.{Processor}
 use Rattle.mt_machine.proofs.Rows.{back_case}
 use Rattle.mt_judge.specs.declared.moves.Outcome.{Outcome}
-use Rattle.mt_judge.specs.declared.step.Place.{Place}
-use Rattle.mt_judge.specs.declared.step.Step.{Step}
-use Rattle.mt_judge.specs.declared.step.Step.TheVariants as list
+use Rattle.mt_judge.specs.declared.step.ListPlace.{ListPlace}
+use Rattle.mt_judge.specs.declared.step.ProcedureStep.{ProcedureStep}
+use Rattle.mt_judge.specs.declared.step.ProcedureStep.TheVariants as list
 use Rattle.mt_judge.specs.Runs.{arrived_at, counted, is_open, place_after, procedure_order, step_behind}
 use Rattle.mt_judge.specs.Steps.{arrival, clearing, event_of, passage, reloading}
 use Rattle.mt_judge.specs.Wrongs.{fault_with}
@@ -65,16 +65,16 @@ two_at_least goal = long (pair_registers 0 (pair_count goal)) (if has_fixed goal
 
 -- ---- the steps that are left, by the phase
 
-abbrev pub since_write : ℕ → List Step
+abbrev pub since_write : ℕ → List ProcedureStep
 since_write n =
     list.WriteDefault ∷ list.Wbinvd ∷ list.ReloadCr3 ∷ list.ClearCd ∷ list.ReturnPge ∷ list.ArriveAt 1 ∷ list.WaitAt 1 n ∷ list.GoOn ∷ []
 
 -- so many processors wait for each other, and so many registers are written
-module _ (n r : ℕ) (behind : List Step) (snoops : Bool) where
+module _ (n r : ℕ) (behind : List ProcedureStep) (snoops : Bool) where
   -- so many have arrived at the second barrier
-  abbrev pub IsPlace : ℕ → Phase → Bool → List Step → ℕ → Type 0
-  IsPlace count Running true left part = (ops : List Step) × All IsInstruction ops × (left ≡ ops)
-  IsPlace count Running false left part = (ops : List Step) × All IsInstruction ops × (left ≡ ops ++ (manual_list n snoops ++ behind))
+  abbrev pub IsPlace : ℕ → Phase → Bool → List ProcedureStep → ℕ → Type 0
+  IsPlace count Running true left part = (ops : List ProcedureStep) × All IsInstruction ops × (left ≡ ops)
+  IsPlace count Running false left part = (ops : List ProcedureStep) × All IsInstruction ops × (left ≡ ops ++ (manual_list n snoops ++ behind))
   IsPlace count Taken ahead left part = left ≡ list.ArriveAt 0 ∷ list.WaitAt 0 n ∷ list.SetCd ∷ ((first_flush snoops ++ since_flush n) ++ behind)
   IsPlace count Arrived ahead left part = left ≡ list.WaitAt 0 n ∷ list.SetCd ∷ ((first_flush snoops ++ since_flush n) ++ behind)
   IsPlace count Passed ahead left part = left ≡ list.SetCd ∷ ((first_flush snoops ++ since_flush n) ++ behind)
@@ -89,7 +89,7 @@ module _ (n r : ℕ) (behind : List Step) (snoops : Bool) where
   IsPlace count Restored ahead left part = left ≡ list.ArriveAt 1 ∷ list.WaitAt 1 n ∷ list.GoOn ∷ behind
   IsPlace count Arrived2 ahead left part = (left ≡ list.WaitAt 1 n ∷ list.GoOn ∷ behind) ⊎ ((left ≡ list.GoOn ∷ behind) × (n ≤ count))
 
-  pub place_up : (a b : ℕ) → a ≤ b → (ph : Phase) (ahead : Bool) (left : List Step) (part : ℕ) → IsPlace a ph ahead left part → IsPlace b ph ahead left part
+  pub place_up : (a b : ℕ) → a ≤ b → (ph : Phase) (ahead : Bool) (left : List ProcedureStep) (part : ℕ) → IsPlace a ph ahead left part → IsPlace b ph ahead left part
   place_up a b up Running true left part h = h
   place_up a b up Running false left part h = h
   place_up a b up Arrived2 ahead left part h = ⊎_elim
@@ -100,12 +100,12 @@ module _ (n r : ℕ) (behind : List Step) (snoops : Bool) where
 
 -- ---- the next step
 
-module _ (goal : RegisterFile) (ps : List Processor) (n r : ℕ) (behind : List Step) (steps : List Step) (at : Place) (p : Processor) (arrivals : List ℕ) where
-  abbrev pub IsPlaceAt : Phase → Bool → Place → Type 0
+module _ (goal : RegisterFile) (ps : List Processor) (n r : ℕ) (behind : List ProcedureStep) (steps : List ProcedureStep) (at : ListPlace) (p : Processor) (arrivals : List ℕ) where
+  abbrev pub IsPlaceAt : Phase → Bool → ListPlace → Type 0
   IsPlaceAt ph ahead place = IsPlace n r behind p.self_snoop (arrived_at arrivals 1) ph ahead (drop place.step steps) place.part
 
   -- the step is an event, which is due
-  pub record Turn (t : Step) : Type 0 where
+  pub record Turn (t : ProcedureStep) : Type 0 where
     pub event : Event
     pub is : event_of t at.part p ≡ Some event
     pub due_is : due (procedure_order goal) ps p p.phase ≡ Some event
@@ -115,30 +115,30 @@ module _ (goal : RegisterFile) (ps : List Processor) (n r : ℕ) (behind : List 
     pub place : IsPlaceAt (phase_after event p.phase) (nat_lt 0 (era_after event p.era)) (place_after at t (Some event) r)
 
   -- the step is the wait at the second barrier, which is no event
-  pub record Waits (t : Step) : Type 0 where
+  pub record Waits (t : ProcedureStep) : Type 0 where
     pub is : t ≡ list.WaitAt 1 n
     pub phase : p.phase ≡ Arrived2
     pub left : drop (at.step + 1) steps ≡ list.GoOn ∷ behind
     pub full : n ≤ arrived_at arrivals 1
 
   -- the step is an instruction of a processor that runs
-  pub record Instructs (t : Step) : Type 0 where
+  pub record Instructs (t : ProcedureStep) : Type 0 where
     pub fit : IsInstruction t
     pub phase : p.phase ≡ Running
     pub place : IsPlaceAt Running (nat_lt 0 p.era) (step_behind at)
 
-module _ (goal : RegisterFile) (ps : List Processor) (n r : ℕ) (behind : List Step) (fit_behind : All IsInstruction behind) (steps : List Step) (at : Place) (p : Processor) (todo : Step) (arrivals : List ℕ)
+module _ (goal : RegisterFile) (ps : List Processor) (n r : ℕ) (behind : List ProcedureStep) (fit_behind : All IsInstruction behind) (steps : List ProcedureStep) (at : ListPlace) (p : Processor) (todo : ProcedureStep) (arrivals : List ℕ)
     (next : slice_get steps at.step ≡ Some todo) (registers : length (writable p.file) ≡ r) (some : 1 < r) (opened : is_open arrivals todo ≡ true)
     (first_open : n ≤ arrived_at arrivals 0 → list_all (has_arrived (procedure_order goal)) ps ≡ true)
     (second_open : n ≤ arrived_at arrivals 1 → list_all (has_arrived_again (procedure_order goal)) ps ≡ true)
     (later : nat_lt 0 (p.era + 1) ≡ true) where
-  abbrev PlaceAt : Phase → Bool → Place → Type 0
+  abbrev PlaceAt : Phase → Bool → ListPlace → Type 0
   PlaceAt ph ahead place = IsPlaceAt goal ps n r behind steps at p arrivals ph ahead place
 
-  abbrev After : Step → Event → Type 0
+  abbrev After : ProcedureStep → Event → Type 0
   After t e = PlaceAt (phase_after e p.phase) (nat_lt 0 (era_after e p.era)) (place_after at t (Some e) r)
 
-  abbrev TurnFor : Step → Type 0
+  abbrev TurnFor : ProcedureStep → Type 0
   TurnFor t = Turn goal ps n r behind steps at p arrivals t
 
   abbrev WaitsFor : Type 0
@@ -147,21 +147,21 @@ module _ (goal : RegisterFile) (ps : List Processor) (n r : ℕ) (behind : List 
   abbrev InstructsFor : Type 0
   InstructsFor = Instructs goal ps n r behind steps at p arrivals todo
 
-  abbrev IsLeft : List Step → Type 0
+  abbrev IsLeft : List ProcedureStep → Type 0
   IsLeft left = drop at.step steps ≡ left
 
   abbrev IsDueNow : Event → Type 0
   IsDueNow e = due (procedure_order goal) ps p p.phase ≡ Some e
 
   -- a step that is done at once, and adds to no count
-  plain : (t : Step) (e : Event) (more : List Step) → IsLeft (t ∷ more) → event_of t at.part p ≡ Some e → IsDueNow e → (e ≡ Leave → ⊥)
+  plain : (t : ProcedureStep) (e : Event) (more : List ProcedureStep) → IsLeft (t ∷ more) → event_of t at.part p ≡ Some e → IsDueNow e → (e ≡ Leave → ⊥)
       → ((a b : ℕ) (xs : List ℕ) → counted t (a ∷ b ∷ xs) ≡ first_after e a ∷ second_after e b ∷ xs) → ((k : ℕ) (outcome : Outcome) (q : Processor) → fault_with k t outcome q ≡ None)
       → (drop (at.step + 1) steps ≡ more → After t e) → TurnFor todo
   plain t e more left is due_is stays counts right place =
       subst TurnFor (head_left steps at.step t todo more left next)
       (record { event = e; is = is; due_is = due_is; stays = stays; counts = counts; right = right; place = place (tail_left steps at.step t more left) })
 
-  drains : (ph : Phase) (more : List Step) → p.phase ≡ ph → IsLeft (list.Wbinvd ∷ more) → IsDueNow (write_back_or_drop p)
+  drains : (ph : Phase) (more : List ProcedureStep) → p.phase ≡ ph → IsLeft (list.Wbinvd ∷ more) → IsDueNow (write_back_or_drop p)
       → PlaceAt ph (nat_lt 0 p.era) at → (drop (at.step + 1) steps ≡ more → PlaceAt (after_drop ph) (nat_lt 0 p.era) (step_behind at)) → TurnFor todo
   drains ph more same left due_is here behind =
       let dropped = behind (tail_left steps at.step list.Wbinvd more left) in
@@ -178,7 +178,7 @@ module _ (goal : RegisterFile) (ps : List Processor) (n r : ℕ) (behind : List 
             (subst (λ (u : Phase). PlaceAt (after_drop u) (nat_lt 0 p.era) (step_behind at)) (sym same) dropped);
       })
 
-  flushes : (t : Step) (ph : Phase) (more : List Step) → p.phase ≡ ph → IsLeft (t ∷ more) → event_of t at.part p ≡ Some FlushTlb → IsDueNow FlushTlb
+  flushes : (t : ProcedureStep) (ph : Phase) (more : List ProcedureStep) → p.phase ≡ ph → IsLeft (t ∷ more) → event_of t at.part p ≡ Some FlushTlb → IsDueNow FlushTlb
       → ((a b : ℕ) (xs : List ℕ) → counted t (a ∷ b ∷ xs) ≡ a ∷ b ∷ xs) → ((k : ℕ) (outcome : Outcome) (q : Processor) → fault_with k t outcome q ≡ None)
       → place_after at t (Some FlushTlb) r ≡ step_behind at → (drop (at.step + 1) steps ≡ more → PlaceAt (after_flush ph) (nat_lt 0 p.era) (step_behind at)) → TurnFor todo
   flushes t ph more same left is due_is counts right place behind =
@@ -248,7 +248,7 @@ module _ (goal : RegisterFile) (ps : List Processor) (n r : ℕ) (behind : List 
         full = leb-true n (arrived_at arrivals 1) (ap (is_open arrivals) is ∙ opened);
       }
 
-  instructs : (t : Step) (ts more : List Step) (ahead : Bool) → All IsInstruction (t ∷ ts) → IsLeft (t ∷ more) → p.phase ≡ Running → nat_lt 0 p.era ≡ ahead
+  instructs : (t : ProcedureStep) (ts more : List ProcedureStep) (ahead : Bool) → All IsInstruction (t ∷ ts) → IsLeft (t ∷ more) → p.phase ≡ Running → nat_lt 0 p.era ≡ ahead
       → (drop (at.step + 1) steps ≡ more → All IsInstruction ts → PlaceAt Running ahead (step_behind at)) → InstructsFor
   instructs t ts more ahead fit left same is place = record {
     fit = subst IsInstruction (head_left steps at.step t todo more left next) (All-head IsInstruction t ts fit);
@@ -256,11 +256,11 @@ module _ (goal : RegisterFile) (ps : List Processor) (n r : ℕ) (behind : List 
     place = subst (λ (b : Bool). PlaceAt Running b (step_behind at)) (sym is) (place (tail_left steps at.step t more left) (All-tail IsInstruction t ts fit));
   }
 
-  before : (ts : List Step) → All IsInstruction ts → IsLeft (ts ++ (manual_list n p.self_snoop ++ behind)) → p.phase ≡ Running → nat_lt 0 p.era ≡ false → TurnFor todo ⊎ (WaitsFor ⊎ InstructsFor)
+  before : (ts : List ProcedureStep) → All IsInstruction ts → IsLeft (ts ++ (manual_list n p.self_snoop ++ behind)) → p.phase ≡ Running → nat_lt 0 p.era ≡ false → TurnFor todo ⊎ (WaitsFor ⊎ InstructsFor)
   before [] fit left same is = inl (starts same is left)
   before (t ∷ ts) fit left same is = inr (inr (instructs t ts _ false fit left same is (λ tail fits. (ts, fits, tail))))
 
-  after_release : (ts : List Step) → All IsInstruction ts → IsLeft ts → p.phase ≡ Running → nat_lt 0 p.era ≡ true → TurnFor todo ⊎ (WaitsFor ⊎ InstructsFor)
+  after_release : (ts : List ProcedureStep) → All IsInstruction ts → IsLeft ts → p.phase ≡ Running → nat_lt 0 p.era ≡ true → TurnFor todo ⊎ (WaitsFor ⊎ InstructsFor)
   after_release [] fit left same is = absurd (let none = none_left steps at.step left in cc)
   after_release (t ∷ ts) fit left same is = inr (inr (instructs t ts ts true fit left same is (λ tail fits. (ts, fits, tail))))
 

@@ -22,9 +22,9 @@ use Rattle.mt_laws.proofs.Barrier.Stages.{Stage, stage_of, stages_of}
 use Rattle.mt_laws.proofs.Invariant.Standing.{stays_sound}
 use Rattle.mt_laws.proofs.Registers.UnderWay.{lines_are_low}
 use Rattle.mt_laws.proofs.Steps.StepCounts.{count_more}
-use Rattle.mt_judge.specs.declared.step.Place.{Place}
-use Rattle.mt_judge.specs.declared.step.Step.{Step}
-use Rattle.mt_judge.specs.declared.step.Step.TheVariants as list
+use Rattle.mt_judge.specs.declared.step.ListPlace.{ListPlace}
+use Rattle.mt_judge.specs.declared.step.ProcedureStep.{ProcedureStep}
+use Rattle.mt_judge.specs.declared.step.ProcedureStep.TheVariants as list
 use Rattle.mt_judge.specs.Dues.{AreListsFinished}
 use Rattle.mt_judge.specs.Runs.{Case, GoesOn, IsEnded, State, arrived_at, is_fit, is_open, list_of, may_go, place_of, step_at, system_of}
 use Rattle.mt_judge_laws.specs.Manual.{IsInstruction, at_rest, first_flush, machine_of, manual_list, since_flush}
@@ -64,18 +64,18 @@ passes_at q (y ∷ ys) (suc i) x all at = passes_at q ys i x (and_right (q y) (l
 
 -- ---- the next step, and that it may be done
 
-pub record Open (arrivals : List ℕ) (left : List Step) : Type 0 where
-  pub todo : Step
-  pub more : List Step
+pub record Open (arrivals : List ℕ) (left : List ProcedureStep) : Type 0 where
+  pub todo : ProcedureStep
+  pub more : List ProcedureStep
   pub is : left ≡ todo ∷ more
   pub opened : is_open arrivals todo ≡ true
 
-flush_first : (n : ℕ) (snoops : Bool) (behind : List Step)
-    → (todo : Step) × (more : List Step) × (((first_flush snoops ++ since_flush n) ++ behind) ≡ todo ∷ more) × ((arrivals : List ℕ) → is_open arrivals todo ≡ true)
+flush_first : (n : ℕ) (snoops : Bool) (behind : List ProcedureStep)
+    → (todo : ProcedureStep) × (more : List ProcedureStep) × (((first_flush snoops ++ since_flush n) ++ behind) ≡ todo ∷ more) × ((arrivals : List ℕ) → is_open arrivals todo ≡ true)
 flush_first n true behind = (list.ClearPge, _, refl, λ arrivals. refl)
 flush_first n false behind = (list.Wbinvd, _, refl, λ arrivals. refl)
 
-instruction_open : (arrivals : List ℕ) (t : Step) → IsInstruction t → is_open arrivals t ≡ true
+instruction_open : (arrivals : List ℕ) (t : ProcedureStep) → IsInstruction t → is_open arrivals t ≡ true
 instruction_open arrivals (list.Access op) fit = refl
 instruction_open arrivals list.ReloadCr3 fit = refl
 instruction_open arrivals (list.Invlpg address) fit = refl
@@ -84,18 +84,18 @@ instruction_open arrivals (list.Cd on) fit = refl
 instruction_open arrivals other fit = absurd fit
 
 -- the step is open if the barrier is at which a processor in this phase waits
-pub record Next (n : ℕ) (arrivals : List ℕ) (ph : Phase) (left : List Step) : Type 0 where
-  pub todo : Step
-  pub more : List Step
+pub record Next (n : ℕ) (arrivals : List ℕ) (ph : Phase) (left : List ProcedureStep) : Type 0 where
+  pub todo : ProcedureStep
+  pub more : List ProcedureStep
   pub is : left ≡ todo ∷ more
   pub opened : (ph ≡ Arrived → n ≤ arrived_at arrivals 0) → (ph ≡ Arrived2 → n ≤ arrived_at arrivals 1) → is_open arrivals todo ≡ true
 
-next_before : (arrivals : List ℕ) (left : List Step) (n : ℕ) (snoops : Bool) (behind ts : List Step) → All IsInstruction ts → left ≡ ts ++ (manual_list n snoops ++ behind) → Next n arrivals Running left
+next_before : (arrivals : List ℕ) (left : List ProcedureStep) (n : ℕ) (snoops : Bool) (behind ts : List ProcedureStep) → All IsInstruction ts → left ≡ ts ++ (manual_list n snoops ++ behind) → Next n arrivals Running left
 next_before arrivals left n snoops behind [] fit is = record { todo = list.Interrupt; more = _; is = is; opened = λ first second. refl }
 next_before arrivals left n snoops behind (t ∷ ts) fit is = record { todo = t; more = _; is = is; opened = λ first second. instruction_open arrivals t (All-head IsInstruction t ts fit) }
 
 -- a processor that hasn't released has a next step
-next_left : (n r : ℕ) (behind : List Step) (snoops : Bool) (arrivals : List ℕ) (left : List Step) (part : ℕ) (ph : Phase) (ahead : Bool) → IsPlace n r behind snoops (arrived_at arrivals 1) ph ahead left part
+next_left : (n r : ℕ) (behind : List ProcedureStep) (snoops : Bool) (arrivals : List ℕ) (left : List ProcedureStep) (part : ℕ) (ph : Phase) (ahead : Bool) → IsPlace n r behind snoops (arrived_at arrivals 1) ph ahead left part
     → (ph ≡ Running → ahead ≡ false) → Next n arrivals ph left
 next_left n r behind snoops arrivals left part Running true place late = absurd (let e : true ≡ false = late refl in cc)
 next_left n r behind snoops arrivals left part Running false place late = next_before arrivals left n snoops behind place.0 place.1 place.2
@@ -122,11 +122,11 @@ next_left n r behind snoops arrivals left part Normal ahead place late = record 
 next_left n r behind snoops arrivals left part Restored ahead place late = record { todo = list.ArriveAt 1; more = _; is = place; opened = λ first second. refl }
 
 -- a processor that has released has instructions left, or none
-released_left : (n r : ℕ) (behind : List Step) (snoops : Bool) (arrivals : List ℕ) (left : List Step) (part : ℕ) (ph : Phase) (ahead : Bool) → ahead ≡ true → (is_running ph ≡ false → ahead ≡ false)
+released_left : (n r : ℕ) (behind : List ProcedureStep) (snoops : Bool) (arrivals : List ℕ) (left : List ProcedureStep) (part : ℕ) (ph : Phase) (ahead : Bool) → ahead ≡ true → (is_running ph ≡ false → ahead ≡ false)
     → IsPlace n r behind snoops (arrived_at arrivals 1) ph ahead left part → (left ≡ []) ⊎ Open arrivals left
 released_left n r behind snoops arrivals left part Running true is in_step place = instructions_left place.0 place.1 place.2
   where
-    instructions_left : (ts : List Step) → All IsInstruction ts → left ≡ ts → (left ≡ []) ⊎ Open arrivals left
+    instructions_left : (ts : List ProcedureStep) → All IsInstruction ts → left ≡ ts → (left ≡ []) ⊎ Open arrivals left
     instructions_left [] fit e = inl e
     instructions_left (t ∷ ts) fit e = inr (record { todo = t; more = ts; is = e; opened = instruction_open arrivals t (All-head IsInstruction t ts fit) })
 released_left n r behind snoops arrivals left part Running false is in_step place = absurd (cc)
@@ -154,13 +154,13 @@ module _ (c : Case) (first : State) (start : IsStart (at_rest c first)) (few : l
       (lines_low k p at)
 
   -- a processor with a next step that is open may go
-  may : (k : ℕ) (p : Processor) (place : Place) → slice_get s.processors k ≡ Some p → slice_get s.places k ≡ Some place → Open s.arrived (drop place.step (list_of c k)) → may_go c s k ≡ true
+  may : (k : ℕ) (p : Processor) (place : ListPlace) → slice_get s.processors k ≡ Some p → slice_get s.places k ≡ Some place → Open s.arrived (drop place.step (list_of c k)) → may_go c s k ≡ true
   may k p place at here o =
       let place_is : place_of s k ≡ place = get_or_from_slice_get s.places k place (record { step = 0; part = 0 }) here in
-      let next : step_at c s k ≡ Some o.todo = ap (λ (x : Place). slice_get (list_of c k) x.step) place_is ∙ some_left (list_of c k) place.step o.todo o.more o.is in
+      let next : step_at c s k ≡ Some o.todo = ap (λ (x : ListPlace). slice_get (list_of c k) x.step) place_is ∙ some_left (list_of c k) place.step o.todo o.more o.is in
       both (option_map_or (is_fit c.goal) (slice_get s.processors k) false) _
       (ap (λ (x : Option Processor). option_map_or (is_fit c.goal) x false) at ∙ fits k p at)
-      (ap (λ (x : Option Step). option_map_or (is_open s.arrived) x false) next ∙ o.opened)
+      (ap (λ (x : Option ProcedureStep). option_map_or (is_open s.arrived) x false) next ∙ o.opened)
 
   -- so a processor goes on that hasn't released, if the barriers at which it may stand are open
   on : (k : ℕ) (x : Stage) → At (stages_of s.processors) k x → (x.0 ≡ Running → nat_lt 0 x.1 ≡ false) → (x.0 ≡ Arrived → length first.processors ≤ arrived_at s.arrived 0) → (x.0 ≡ Arrived2 → length first.processors ≤ arrived_at s.arrived 1)
@@ -206,7 +206,7 @@ module _ (c : Case) (first : State) (start : IsStart (at_rest c first)) (few : l
       let q = placed_at c first start few s st k p at in
       let place_is : place_of s k ≡ q.0.place = get_or_from_slice_get s.places k q.0.place (record { step = 0; part = 0 }) q.0.here in
       ⊎_elim
-      (λ (left : drop q.0.place.step (list_of c k) ≡ []). inl (ap (λ (x : Place). slice_get (list_of c k) x.step) place_is ∙ none_left (list_of c k) q.0.place.step left))
+      (λ (left : drop q.0.place.step (list_of c k) ≡ []). inl (ap (λ (x : ListPlace). slice_get (list_of c k) x.step) place_is ∙ none_left (list_of c k) q.0.place.step left))
       (λ (opens : Open s.arrived (drop q.0.place.step (list_of c k))). let g : GoesOn c s = (k, may k p q.0.place at q.0.here opens) in inr g)
       (released_left (length first.processors) (length (writable c.goal)) q.0.behind p.self_snoop s.arrived (drop q.0.place.step (list_of c k)) q.0.place.part p.phase (nat_lt 0 p.era)
       (passes_at (is_ahead (order_of c)) (stages_of s.processors) k (stage_of p) all here) (st.holds.guarded.in_step k (stage_of p) here) q.1)
@@ -278,5 +278,5 @@ module _ (c : Case) (first : State) (start : IsStart (at_rest c first)) (few : l
           next_left (length first.processors) (length (writable c.goal)) q.behind p.self_snoop s.arrived (drop q.place.step (list_of c k)) q.place.part p.phase (nat_lt 0 p.era) place
           (λ e. absurd (let runs : is_running p.phase ≡ true = ap is_running e in cc)) in
           let place_is : place_of s k ≡ q.place = get_or_from_slice_get s.places k q.place (record { step = 0; part = 0 }) q.here in
-          let next : step_at c s k ≡ Some after.todo = ap (λ (x : Place). slice_get (list_of c k) x.step) place_is ∙ some_left (list_of c k) q.place.step after.todo after.more after.is in
-          ap (λ (x : Option Step). is_none x && true) next
+          let next : step_at c s k ≡ Some after.todo = ap (λ (x : ListPlace). slice_get (list_of c k) x.step) place_is ∙ some_left (list_of c k) q.place.step after.todo after.more after.is in
+          ap (λ (x : Option ProcedureStep). is_none x && true) next

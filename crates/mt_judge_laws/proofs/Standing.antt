@@ -18,10 +18,14 @@ use Rattle.mt_machine.specs.System.{Processor, System}
 use Rattle.mt_machine.proofs.Rows.{due_row}
 use Rattle.mt_laws.proofs.Barrier.Ranks.{At, at_set, stage_at}
 use Rattle.mt_laws.proofs.Barrier.Stages.{Stage, stage_of, stages_of}
-use Rattle.mt_judge.specs.declared.step.Place.{Place}
-use Rattle.mt_judge.specs.declared.step.Step.{Step}
-use Rattle.mt_judge.specs.declared.step.Step.TheVariants as list
-use Rattle.mt_judge.specs.Dues.{IsDue, is_astray}
+use Rattle.mt_judge.specs.declared.moves.Outcome.{Outcome}
+use Rattle.mt_judge.specs.declared.moves.Outcome.TheVariants.{Nothing}
+use Rattle.mt_judge.specs.declared.step.ListPlace.{ListPlace}
+use Rattle.mt_judge.specs.declared.step.ProcedureStep.{ProcedureStep}
+use Rattle.mt_judge.specs.declared.step.ProcedureStep.TheVariants as list
+use Rattle.mt_judge.specs.declared.wrong.Fault.TheVariants.{LostWord}
+use Rattle.mt_judge.specs.WorkedWrongs.{dirty_line, mapped, with_line}
+use Rattle.mt_judge.specs.Dues.{IsDue, is_astray, is_invd}
 use Rattle.mt_judge.specs.Runs.{Case, State, after as state_after, arrived_at, counted, due_in, due_of, event_in, is_fit, is_open, list_of, may_go, move_of, moved, next_step, place_after, place_of, step_at, step_behind, system_of, phase_in}
 use Rattle.mt_judge.specs.Steps.{after_step, event_of, passage, answer_of_step, reloading}
 use Rattle.mt_judge.specs.Wrongs.{fault_of, fault_with}
@@ -49,6 +53,13 @@ set_same [] k x y at = absurd (cc)
 set_same (z ∷ xs) zero x y at = refl
 set_same (z ∷ xs) (suc k) x y at = set_same xs k x y at
 
+-- ---- a step without a fault
+
+-- a step that has no fault, whatever its processor holds, isn't INVD
+not_invd : (t : ProcedureStep) → ((k : ℕ) (outcome : Outcome) (q : Processor) → fault_with k t outcome q ≡ None) → is_invd t ≡ false
+not_invd list.Invd right = absurd (let lost : Some (LostWord 0 0x4000 0) ≡ None = right 0 Nothing (with_line dirty_line (mapped 0x806)) in cc)
+not_invd other right = refl
+
 -- ---- what holds
 
 abbrev pub snoops_at : State → ℕ → Bool
@@ -56,9 +67,9 @@ snoops_at first k = option_map_or (λ p. p.self_snoop) (slice_get first.processo
 
 -- where a processor in this stage is in its list
 pub record PlaceOf (c : Case) (first s : State) (k : ℕ) (x : Stage) : Type 0 where
-  pub behind : List Step
+  pub behind : List ProcedureStep
   pub fit : All IsInstruction behind
-  pub place : Place
+  pub place : ListPlace
   pub here : slice_get s.places k ≡ Some place
   pub is : IsPlace (length first.processors) (length (writable c.goal)) behind (snoops_at first k) (arrived_at s.arrived 1) x.0 (nat_lt 0 x.1) (drop place.step (list_of c k)) place.part
 
@@ -77,7 +88,7 @@ pub record Stands (c : Case) (first s : State) : Type 0 where
 -- ---- a step
 
 -- the state after a step, where the place and the event are known
-abbrev built : Case → State → ℕ → Step → Place → Option Event → State
+abbrev built : Case → State → ℕ → ProcedureStep → ListPlace → Option Event → State
 built c s k todo at e =
     let t = after_step c.goal e todo k (system_of c s) in
     record {
@@ -89,16 +100,16 @@ built c s k todo at e =
 
 -- a step that may be done: it is due, nothing is wrong with it, and it keeps what holds
 pub record Goes (c : Case) (first s : State) (k : ℕ) : Type 0 where
-  pub todo : Step
+  pub todo : ProcedureStep
   pub is : next_step c s k ≡ Some todo
   pub due_is : IsDue (move_of c s k todo)
   pub right : fault_of s.processors (move_of c s k todo) ≡ None
   pub stands : Stands c first (moved c s k)
 
 module _ (c : Case) (first : State) (start : IsStart (at_rest c first)) (few : length first.processors ≤ 64) (s : State) (st : Stands c first s) (k : ℕ) (p : Processor)
-    (at : slice_get s.processors k ≡ Some p) (todo : Step) (place : Place) (here : slice_get s.places k ≡ Some place) (next_is : slice_get (list_of c k) place.step ≡ Some todo)
+    (at : slice_get s.processors k ≡ Some p) (todo : ProcedureStep) (place : ListPlace) (here : slice_get s.places k ≡ Some place) (next_is : slice_get (list_of c k) place.step ≡ Some todo)
     (opened : is_open s.arrived todo ≡ true) (is : next_step c s k ≡ Some todo)
-    (rest : List Step) (fit : All IsInstruction rest)
+    (rest : List ProcedureStep) (fit : All IsInstruction rest)
     (placed : IsPlace (length first.processors) (length (writable c.goal)) rest p.self_snoop (arrived_at s.arrived 1) p.phase (nat_lt 0 p.era) (drop place.step (list_of c k)) place.part)
     (snoops : snoops_at first k ≡ p.self_snoop) where
   place_is : place_of s k ≡ place
@@ -112,13 +123,13 @@ module _ (c : Case) (first : State) (start : IsStart (at_rest c first)) (few : l
 
   event_is : (e : Option Event) → event_of todo place.part p ≡ e → event_in s.processors k todo (place_of s k).part ≡ e
   event_is e known =
-      ap (λ (x : Place). event_in s.processors k todo x.part) place_is
+      ap (λ (x : ListPlace). event_in s.processors k todo x.part) place_is
       ∙ ap (λ (x : Option Processor). option_map_or (event_of todo place.part) x None) at
       ∙ known
 
   moved_is : (e : Option Event) → event_of todo place.part p ≡ e → moved c s k ≡ built c s k todo place e
   moved_is e known =
-      ap (λ (x : Option Step). option_map_or (state_after c s k) x s) is
+      ap (λ (x : Option ProcedureStep). option_map_or (state_after c s k) x s) is
       ∙ (λ i. built c s k todo (place_is i) (event_is e known i))
 
   due_is : due_in s.processors k ≡ due (order_of c) s.processors p p.phase
@@ -180,7 +191,7 @@ module _ (c : Case) (first : State) (start : IsStart (at_rest c first)) (few : l
         let more = counts_are.up in
         omega (arith, was, is_now, same, more)
 
-    abbrev place' : Place
+    abbrev place' : ListPlace
     place' = place_after place todo (Some e) (length (writable c.goal))
 
     moved_place : PlaceOf c first (built c s k todo place (Some e)) k (stage_after e (stage_of p))
@@ -232,7 +243,7 @@ module _ (c : Case) (first : State) (start : IsStart (at_rest c first)) (few : l
   turned t = record {
     todo = todo;
     is = is;
-    due_is = inr (subst EventIsDue (sym (event_is (Some t.event) t.is)) (due_is ∙ t.due_is));
+    due_is = inr (not_invd todo t.right, subst EventIsDue (sym (event_is (Some t.event) t.is)) (due_is ∙ t.due_is));
     right = fault_is (t.right k (move_of c s k todo).outcome p);
     stands = subst (Stands c first) (sym (moved_is (Some t.event) t.is)) (stands_to t.event t.is t.due_is t.stays t.counts t.place);
   }
@@ -265,7 +276,7 @@ module _ (c : Case) (first : State) (start : IsStart (at_rest c first)) (few : l
   waited : WaitsHere → Goes c first s k
   waited w =
       let n : ℕ = length first.processors in
-      let none : event_of todo place.part p ≡ None = ap (λ (t : Step). event_of t place.part p) w.is ∙ ap passage w.phase in
+      let none : event_of todo place.part p ≡ None = ap (λ (t : ProcedureStep). event_of t place.part p) w.is ∙ ap passage w.phase in
       let stands : Stands c first behind_wait =
       record {
         holds = st.holds;
@@ -276,27 +287,28 @@ module _ (c : Case) (first : State) (start : IsStart (at_rest c first)) (few : l
       record {
         todo = todo;
         is = is;
-        due_is = inr (subst EventIsDue (sym (event_is None none)) (ap (is_astray (phase_in s.processors k)) w.is));
-        right = fault_is (ap (λ (t : Step). fault_with k t (move_of c s k todo).outcome p) w.is);
-        stands = subst (Stands c first) (sym (moved_is None none ∙ ap (λ (t : Step). built c s k t place None) w.is)) stands;
+        due_is = inr (ap is_invd w.is, subst EventIsDue (sym (event_is None none)) (ap (is_astray (phase_in s.processors k)) w.is));
+        right = fault_is (ap (λ (t : ProcedureStep). fault_with k t (move_of c s k todo).outcome p) w.is);
+        stands = subst (Stands c first) (sym (moved_is None none ∙ ap (λ (t : ProcedureStep). built c s k t place None) w.is)) stands;
       }
 
   -- ---- an instruction of a processor that runs
 
   -- it is no event of an update, and the next step follows it
-  pub record IsAside (t : Step) : Type 0 where
+  pub record IsAside (t : ProcedureStep) : Type 0 where
     pub no_event : event_of t place.part p ≡ None
+    pub no_invd : is_invd t ≡ false
     pub no_flush : is_astray p.phase t ≡ false
     pub goes_on : place_after place t None (length (writable c.goal)) ≡ step_behind place
     pub counts_none : counted t s.arrived ≡ s.arrived
 
-  asides : p.phase ≡ Running → (t : Step) → IsInstruction t → IsAside t
-  asides runs (list.Access op) fits = record { no_event = refl; no_flush = refl; goes_on = refl; counts_none = refl }
+  asides : p.phase ≡ Running → (t : ProcedureStep) → IsInstruction t → IsAside t
+  asides runs (list.Access op) fits = record { no_event = refl; no_invd = refl; no_flush = refl; goes_on = refl; counts_none = refl }
   asides runs list.ReloadCr3 fits =
-      record { no_event = ap (λ (ph : Phase). reloading ph p.page_global) runs; no_flush = ap (λ (ph : Phase). not (is_running ph)) runs; goes_on = refl; counts_none = refl }
-  asides runs (list.Invlpg address) fits = record { no_event = refl; no_flush = refl; goes_on = refl; counts_none = refl }
-  asides runs (list.Pge on) fits = record { no_event = refl; no_flush = refl; goes_on = refl; counts_none = refl }
-  asides runs (list.Cd on) fits = record { no_event = refl; no_flush = ap (λ (ph : Phase). not (is_running ph)) runs; goes_on = refl; counts_none = refl }
+      record { no_event = ap (λ (ph : Phase). reloading ph p.page_global) runs; no_invd = refl; no_flush = ap (λ (ph : Phase). not (is_running ph)) runs; goes_on = refl; counts_none = refl }
+  asides runs (list.Invlpg address) fits = record { no_event = refl; no_invd = refl; no_flush = refl; goes_on = refl; counts_none = refl }
+  asides runs (list.Pge on) fits = record { no_event = refl; no_invd = refl; no_flush = refl; goes_on = refl; counts_none = refl }
+  asides runs (list.Cd on) fits = record { no_event = refl; no_invd = refl; no_flush = ap (λ (ph : Phase). not (is_running ph)) runs; goes_on = refl; counts_none = refl }
   asides runs other fits = absurd fits
 
   instructed : InstructsHere → Goes c first s k
@@ -309,7 +321,7 @@ module _ (c : Case) (first : State) (start : IsStart (at_rest c first)) (few : l
       record {
         todo = todo;
         is = is;
-        due_is = inr (subst EventIsDue (sym (event_is None a.no_event)) (ap (λ (x : Option Processor). is_astray (option_map_or (λ q. q.phase) x Running) todo) at ∙ a.no_flush));
+        due_is = inr (a.no_invd, subst EventIsDue (sym (event_is None a.no_event)) (ap (λ (x : Option Processor). is_astray (option_map_or (λ q. q.phase) x Running) todo) at ∙ a.no_flush));
         right = fault_is (ap (λ (x : Option Event). fault_with k todo (answer_of_step x todo k (system_of c s)) p) (event_is None a.no_event) ∙ i.right);
         stands = subst (Stands c first) (sym (moved_is None a.no_event ∙ built_is))
             (record {
@@ -390,15 +402,15 @@ module _ (c : Case) (first : State) (start : IsStart (at_rest c first)) (few : l
       open_at : option_map_or (is_open s.arrived) (step_at c s k) false ≡ true
       open_at = (and_parts (option_map_or (is_fit c.goal) (slice_get s.processors k) false) _ go).1
 
-      next_known : (todo : Step) → step_at c s k ≡ Some todo → next_step c s k ≡ Some todo
+      next_known : (todo : ProcedureStep) → step_at c s k ≡ Some todo → next_step c s k ≡ Some todo
       next_known todo known = ap (λ (b : Bool). if b then step_at c s k else None) go ∙ known
 
-      at_step : (p : Processor) → slice_get s.processors k ≡ Some p → (x : Option Step) → step_at c s k ≡ x → option_map_or (is_open s.arrived) x false ≡ true → Goes c first s k
+      at_step : (p : Processor) → slice_get s.processors k ≡ Some p → (x : Option ProcedureStep) → step_at c s k ≡ x → option_map_or (is_open s.arrived) x false ≡ true → Goes c first s k
       at_step p at None known opened = absurd (cc)
       at_step p at (Some todo) known opened =
           let q = placed_at p at in
           let place_is : place_of s k ≡ q.0.place = get_or_from_slice_get s.places k q.0.place (record { step = 0; part = 0 }) q.0.here in
-          let next_is : slice_get (list_of c k) q.0.place.step ≡ Some todo = ap (λ (x : Place). slice_get (list_of c k) x.step) (sym place_is) ∙ known in
+          let next_is : slice_get (list_of c k) q.0.place.step ≡ Some todo = ap (λ (x : ListPlace). slice_get (list_of c k) x.step) (sym place_is) ∙ known in
           goes_here c first start few s st k p at todo q.0.place q.0.here next_is opened (next_known todo known) q.0.behind q.0.fit q.1 (snoops_are p at) (registers_are p at)
 
       at_processor : (x : Option Processor) → slice_get s.processors k ≡ x → option_map_or (is_fit c.goal) x false ≡ true → Goes c first s k

@@ -15,7 +15,7 @@ use Rattle.mt_laws.proofs.Steps.StepCounts.{count_more}
 use Rattle.mt_judge.specs.declared.moves.Move.{Move}
 use Rattle.mt_judge.specs.declared.search.Found.{Found}
 use Rattle.mt_judge.specs.declared.search.Found.TheVariants as ends
-use Rattle.mt_judge.specs.declared.step.Place.{Place}
+use Rattle.mt_judge.specs.declared.step.ListPlace.{ListPlace}
 use Rattle.mt_judge.specs.Verdicts.{IsRight}
 use Rattle.mt_judge.specs.Dues.{AreStepsDue, IsDue, IsDueAt}
 use Rattle.mt_judge.specs.Runs.{Case, GoesOn, IsEnded, IsRun, State, arrived_at, list_of, may_go, move_of, moved, next_move, run, step_at}
@@ -76,7 +76,7 @@ module _ (senses : Senses) (c : Case) (s : State) (right : IsRightStart c s) (ma
         behind = l.behind;
         fit = l.behind_fit;
         place = first_place;
-        here = ap (λ (ps : List Place). slice_get ps k) manual.places ∙ repeated_at (length s.processors) k first_place within;
+        here = ap (λ (ps : List ListPlace). slice_get ps k) manual.places ∙ repeated_at (length s.processors) k first_place within;
         is = subst (λ (y : Stage). IsPlace (length s.processors) (length (writable c.goal)) l.behind (snoops_at s k) (arrived_at s.arrived 1) y.0 (nat_lt 0 y.1) (drop 0 (list_of c k)) 0)
             (sym (at_first k x at_x))
             (subst (λ (b : Bool). IsPlace (length s.processors) (length (writable c.goal)) l.behind b (arrived_at s.arrived 1) Running false (drop 0 (list_of c k)) 0) snoops placed);

@@ -7,9 +7,9 @@ use Rattle.mt_machine.specs.Start.{IsQuiet}
 use Rattle.mt_machine.specs.System.{Processor}
 use Rattle.mt_judge.specs.declared.search.Found.{Found}
 use Rattle.mt_judge.specs.declared.search.Found.TheVariants as found
-use Rattle.mt_judge.specs.declared.step.Place.{Place}
-use Rattle.mt_judge.specs.declared.step.Step.{Step}
-use Rattle.mt_judge.specs.declared.step.Step.TheVariants as list
+use Rattle.mt_judge.specs.declared.step.ListPlace.{ListPlace}
+use Rattle.mt_judge.specs.declared.step.ProcedureStep.{ProcedureStep}
+use Rattle.mt_judge.specs.declared.step.ProcedureStep.TheVariants as list
 use Rattle.mt_judge.specs.Runs.{Case, IsRun, State, list_of, procedure_order, run, system_of}
 use Rattle.mt_judge.specs.Searches.{IsFound, has_wrong}
 use Rattle.mt_judge.specs.Verdicts.{IsRight}
@@ -17,22 +17,22 @@ use Rattle.mt_judge.specs.Verdicts.{IsRight}
 -- ---- the list
 
 -- a self-snooping processor leaves out the first flush of the caches
-abbrev pub first_flush : Bool → List Step
+abbrev pub first_flush : Bool → List ProcedureStep
 first_flush true = []
 first_flush false = list.Wbinvd ∷ []
 
 -- the steps behind that flush
-abbrev pub since_flush : ℕ → List Step
+abbrev pub since_flush : ℕ → List ProcedureStep
 since_flush count =
     list.ClearPge ∷ list.ClearEnable ∷ list.WriteRegisters ∷ list.WriteDefault ∷ list.Wbinvd ∷ list.ReloadCr3 ∷ list.ClearCd ∷ list.ReturnPge
     ∷ list.ArriveAt 1 ∷ list.WaitAt 1 count ∷ list.GoOn ∷ []
 
 -- of each of so many processors
-abbrev pub manual_list : ℕ → Bool → List Step
+abbrev pub manual_list : ℕ → Bool → List ProcedureStep
 manual_list count self_snoop = list.Interrupt ∷ list.ArriveAt 0 ∷ list.WaitAt 0 count ∷ list.SetCd ∷ (first_flush self_snoop ++ since_flush count)
 
 -- an access or a control instruction of a processor that runs
-abbrev pub IsInstruction : Step → Type 0
+abbrev pub IsInstruction : ProcedureStep → Type 0
 IsInstruction (list.Access op) = FitsOp op
 IsInstruction list.ReloadCr3 = Unit {0}
 IsInstruction (list.Invlpg address) = Unit {0}
@@ -41,9 +41,9 @@ IsInstruction (list.Cd on) = Unit {0}
 IsInstruction other = ⊥
 
 -- the manual's list, with instructions before the interrupt and behind the release
-pub record IsManualList (count : ℕ) (self_snoop : Bool) (steps : List Step) : Type 0 where
-  pub before : List Step
-  pub behind : List Step
+pub record IsManualList (count : ℕ) (self_snoop : Bool) (steps : List ProcedureStep) : Type 0 where
+  pub before : List ProcedureStep
+  pub behind : List ProcedureStep
   pub before_fit : All IsInstruction before
   pub behind_fit : All IsInstruction behind
   pub is : steps ≡ before ++ (manual_list count self_snoop ++ behind)
@@ -53,7 +53,7 @@ pub record IsManualList (count : ℕ) (self_snoop : Bool) (steps : List Step) : 
 abbrev pub at_rest : Case → State → Machine
 at_rest c s = record { system = system_of c s; order = None }
 
-abbrev pub first_place : Place
+abbrev pub first_place : ListPlace
 first_place = record { step = 0; part = 0 }
 
 -- a sound state with nothing wrong, in which all processors run and none has finished an update

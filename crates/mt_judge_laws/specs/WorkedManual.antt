@@ -8,8 +8,8 @@ use Rattle.mt_machine.specs.Start.{zero_memory}
 use Rattle.mt_machine.specs.System.{Processor}
 use Rattle.mt_judge.specs.declared.moves.Outcome.TheVariants.{Nothing}
 use Rattle.mt_judge.specs.declared.moves.Move.{Move}
-use Rattle.mt_judge.specs.declared.step.Step.TheVariants.{Access, Pge}
-use Rattle.mt_judge.specs.declared.step.Step.{Step}
+use Rattle.mt_judge.specs.declared.step.ProcedureStep.TheVariants.{Access, Pge}
+use Rattle.mt_judge.specs.declared.step.ProcedureStep.{ProcedureStep}
 use Rattle.mt_judge.specs.Runs.{Case, State}
 use Rattle.mt_judge.specs.WorkedWrongs.{dirty_line, mapped, registers, with_line}
 use Rattle.mt_judge_laws.specs.Manual.{first_place, manual_list}
@@ -17,24 +17,24 @@ use Rattle.mt_judge_laws.specs.Manual.{first_place, manual_list}
 abbrev pub two_processors : List Processor
 two_processors = with_line dirty_line (mapped 0x806) ∷ record (mapped 0x806) { self_snoop = true } ∷ []
 
-abbrev pub first_list : List Step
+abbrev pub first_list : List ProcedureStep
 first_list = manual_list 2 false ++ Access (Load 0x1000) ∷ Pge true ∷ []
 
-abbrev pub second_list : List Step
+abbrev pub second_list : List ProcedureStep
 second_list = Access (Load 0x1000) ∷ manual_list 2 true
 
 -- the page is WB at the start, and the goal makes it UC
-abbrev pub with_lists : List (List Step) → Case
+abbrev pub with_lists : List (List ProcedureStep) → Case
 with_lists lists = record { layout = zero_memory (record { base = 0x100000; lines = 1 } ∷ []); goal = registers 0x800; lists = lists }
 
 abbrev pub two_lists : Case
 two_lists = with_lists (first_list ∷ second_list ∷ [])
 
 -- a list that begins, and one that ends, with a load from an address that is no word's
-abbrev pub odd_before : List Step
+abbrev pub odd_before : List ProcedureStep
 odd_before = Access (Load 0x1001) ∷ manual_list 2 false
 
-abbrev pub odd_behind : List Step
+abbrev pub odd_behind : List ProcedureStep
 odd_behind = manual_list 2 false ++ Access (Load 0x1001) ∷ []
 
 abbrev pub started : List Processor → State
@@ -49,5 +49,5 @@ abbrev pub two_started : State
 two_started = started two_processors
 
 -- a step of processor 0 in this phase, the event that it is, and the one that is due
-abbrev pub move : Phase → Step → Option Event → Option Event → Move
+abbrev pub move : Phase → ProcedureStep → Option Event → Option Event → Move
 move phase todo event due = record { cpu = 0; phase = phase; step = todo; event = event; due = due; outcome = Nothing }

@@ -1,7 +1,7 @@
 // Instances of what the laws require, and of what fails in one part.
 ghost use Rattle.std.specs.Prelude.{◌≡◌, [], ◌∷◌, false, true, None, Some, replicate};
 ghost use Rattle.mt_judge.specs.WorkedWrongs.{dirty_line, mapped, registers, with_line};
-ghost use Rattle.mt_judge.specs.declared.step.Step.TheVariants.{Access, ArriveAt, ClearPge, WaitAt};
+ghost use Rattle.mt_judge.specs.declared.step.ProcedureStep.TheVariants.{Access, ArriveAt, ClearPge, WaitAt};
 ghost use Rattle.mt_machine.specs.declared.op.Op.TheVariants.{Load};
 ghost use Rattle.mt_machine.specs.declared.event.Event.TheVariants.{ArriveAgain, RestorePge, Take};
 ghost use Rattle.mt_machine.specs.declared.phase.Phase.TheVariants.{Arrived2, Restored, Running, Taken};
