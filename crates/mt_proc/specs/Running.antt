@@ -9,12 +9,12 @@ use Rattle.mt_ports.specs.declared.status.Status.{Status}
 use Rattle.mt_output.specs.Ports.{Held, Port, SinkRun, SourceRun}
 use Rattle.mt_stream.specs.Handling.{IsRunOfLines}
 use Rattle.mt_stream.specs.Lines.{AtLine, Path, Running, early_at, running}
-use Rattle.mt_stream.specs.Runs.{AsksBy, RefusesMemory}
+use Rattle.mt_stream.specs.Runs.{AsksBy, RefusesMemory, Runs}
 use Rattle.mt_stream.specs.Told.{Told, told_step}
 use Rattle.mt_proc.specs.declared.running.ProcRun.{ProcRun}
 use Rattle.mt_proc.specs.declared.running.Run.{Run}
 use Rattle.mt_proc.specs.declared.running.Run.TheVariants as run
-use Rattle.mt_proc.specs.Proc.{Answer, Point, from_point, in_dump, in_requests, proc_end, situation_of}
+use Rattle.mt_proc.specs.Proc.{Answer, Point, from_point, in_dump, in_requests, proc_end, proc_told, situation_of}
 use Rattle.mt_proc.specs.Serving.{Serves, served}
 
 -- the run stands at this point
@@ -88,4 +88,4 @@ proc_running =
 
 -- For want of memory nothing was written.
 abbrev pub IsProc : {S K : Type 0} → ℕ → SourceRun S → SinkRun K → Status → Type 0
-IsProc cpus source sink status = IsRunOfLines (path_from cpus (in_dump [])) (AsksBy (from_point cpus) (AsksAt cpus)) source sink status
+IsProc cpus source sink status = IsRunOfLines (record { told = proc_told cpus; Results = Runs (proc_told cpus) []; Refused = OutOfMemory cpus }) source sink status

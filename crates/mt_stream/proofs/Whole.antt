@@ -9,7 +9,7 @@ use Rattle.mt_ports.specs.Causes.{StatusHasCause}
 use Rattle.mt_ports.specs.declared.status.Status.{Status}
 use Rattle.mt_ports.specs.declared.status.Status.TheVariants.{Disabled, NoMemory, ReadFault, TooFew, TooLong, Usage, WriteFault}
 use Rattle.mt_output.specs.Ports.{SinkRun, SourceRun, held, port}
-use Rattle.mt_stream.specs.Handling.{IsRunOfLines, RefusesFrom, RunsFrom}
+use Rattle.mt_stream.specs.Handling.{IsRunOfLines, RefusesFrom, RunsFrom, account_of}
 use Rattle.mt_stream.specs.Lines.{Path, early_of, run_status, tells_of}
 use Rattle.mt_stream.specs.Told.{Telling, transcript}
 use Rattle.mt_stream.specs.declared.ending.Cut.{Cut}
@@ -24,7 +24,7 @@ module _ {S K : Type 0} (start : Path) (Asks : Telling → ℕ → List ℕ → 
       → StatusHasCause ReadFault (source.faults source.old) (source.faults source.new) status
       → StatusHasCause WriteFault (sink.faults sink.old) (sink.faults sink.new) status
       → ((run_status run ≡ TooLong) ↔ GaveTooMuch (source.given source.old) (source.given source.new))
-      → (status ≢ Usage) × (status ≢ TooFew) × (status ≢ Disabled) → IsRunOfLines start Asks source sink status
+      → (status ≢ Usage) × (status ≢ TooFew) × (status ≢ Disabled) → IsRunOfLines (account_of start Asks) source sink status
   ran run status is runs refuses failed cause long others =
       let bytes : RunsFrom start (port source.left source.old source.new) (port sink.taken sink.old sink.new) status =
       subst (RunsFrom start (port source.left source.old source.new) (port sink.taken sink.old sink.new)) (sym is) runs in
@@ -36,11 +36,12 @@ module _ {S K : Type 0} (start : Path) (Asks : Telling → ℕ → List ℕ → 
         read_fault = failed;
         write_fault = cause;
         too_long = (λ much. long.0 (sym is ∙ much), λ much. is ∙ long.1 much);
-        others = others;
+        usage = others.0;
+        few = (others.1, others.2);
       }
 
   -- memory was refused before it
-  pub refused : source.new ≡ source.old → sink.new ≡ sink.old → IsRunOfLines start Asks source sink NoMemory
+  pub refused : source.new ≡ source.old → sink.new ≡ sink.old → IsRunOfLines (account_of start Asks) source sink NoMemory
   refused same_source same_sink = record {
     bytes = λ text known. (nothing (early_of start text), nothing (transcript (tells_of start) text).text);
     complete = λ text known. inr (inr (inr (inl refl)));
@@ -51,7 +52,8 @@ module _ {S K : Type 0} (start : Path) (Asks : Telling → ℕ → List ℕ → 
       λ is. absurd (cc is),
       λ much. let same : source.given source.new ≡ source.given source.old = ap source.given same_source in absurd (omega arith),
     );
-    others = (λ is. cc is, λ is. cc is, λ is. cc is);
+    usage = λ is. cc is;
+    few = (λ is. cc is, λ is. cc is);
   }
     where
       nothing : (text : List ℕ) → AppendsFront (sink.taken sink.old) (sink.taken sink.new) text

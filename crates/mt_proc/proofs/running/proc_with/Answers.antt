@@ -19,9 +19,8 @@ returns-in_default g c =
 pub returns : goal.returns
 returns g c =
     let start = path_from c.args.cpus (in_dump []) in
-    let stands = (in_dump [], c.new-2.ensures, refl, refl, tt) in
     ran start (AsksBy (from_point c.args.cpus) (AsksAt c.args.cpus))
     (source_run g.S.Source.left g.S.Source.faults g.S.Source.given c.args.source.now c.run_lines.new.source)
     (sink_run g.K.Sink.taken g.K.Sink.faults c.args.sink.now c.run_lines.new.sink)
-    c.run_lines.result c.run_status.result c.run_status.ensures.value (c.run_lines.ensures.bytes start stands) (c.run_lines.ensures.memory start stands)
+    c.run_lines.result c.run_status.result c.run_status.ensures.value (c.run_lines.ensures.bytes start (in_dump [], c.new-2.ensures, refl, refl, tt)) (c.run_lines.ensures.memory start (in_dump [], c.new-2.ensures, refl, refl, tt))
     (c.run_status.ensures.read_fault _ _ c.run_lines.ensures.source) (c.run_status.ensures.write_fault _ _ c.run_lines.ensures.sink) c.run_lines.ensures.too_long c.run_status.ensures.others

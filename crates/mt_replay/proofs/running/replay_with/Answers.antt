@@ -20,9 +20,8 @@ returns-in_default g c =
 pub returns : goal.returns
 returns g c =
     let start = path_from false [] (in_head at_start []) in
-    let stands = (in_head at_start [], false, (c.new-2.ensures.setup, c.new-2.ensures.dump), (refl, refl), refl) in
     ran start (AsksBy from_point AsksAt)
     (source_run g.S.Source.left g.S.Source.faults g.S.Source.given c.args.source.now c.run_lines.new.source)
     (sink_run g.K.Sink.taken g.K.Sink.faults c.args.sink.now c.run_lines.new.sink)
-    c.run_lines.result c.run_status.result c.run_status.ensures.value (c.run_lines.ensures.bytes start stands) (c.run_lines.ensures.memory start stands)
+    c.run_lines.result c.run_status.result c.run_status.ensures.value (c.run_lines.ensures.bytes start (in_head at_start [], false, (c.new-2.ensures.setup, c.new-2.ensures.dump), (refl, refl), refl)) (c.run_lines.ensures.memory start (in_head at_start [], false, (c.new-2.ensures.setup, c.new-2.ensures.dump), (refl, refl), refl))
     (c.run_status.ensures.read_fault _ _ c.run_lines.ensures.source) (c.run_status.ensures.write_fault _ _ c.run_lines.ensures.sink) c.run_lines.ensures.too_long c.run_status.ensures.others
