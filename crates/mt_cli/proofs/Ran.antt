@@ -191,7 +191,7 @@ replay_ran words source sink result says run =
     replays_leave words bytes result (source.left source.new) before (sink.taken sink.new) says
     (subst (λ (o : Option (List ℕ)). Replays (held bytes (source.left source.new)) (change o (sink.taken sink.new)) result) taken (run.bytes bytes is)))
     (λ bytes is. replays_read words bytes result (source.left source.new) (sink.taken sink.old) (sink.taken sink.new) says (run.bytes bytes is))
-    (run_ends words (Threaded Replay) result says refl (run.others.1, run.others.2)) run.others.0 (λ is. tt) run.memory run.read_fault run.write_fault run.too_long
+    (run_ends words (Threaded Replay) result says refl run.few) run.usage (λ is. tt) run.memory run.read_fault run.write_fault run.too_long
 
 -- requests
 pub proc_ran : {S K : Type 0} (words : List (List ℕ)) (cpus : ℕ) (source : SourceRun S) (sink : SinkRun K) (result : Status)
@@ -202,7 +202,7 @@ proc_ran words cpus source sink result says run =
     proc_leaves words bytes cpus result (source.left source.new) before (sink.taken sink.new) says
     (subst (λ (o : Option (List ℕ)). Runs (proc_told cpus) [] (held bytes (source.left source.new)) (change o (sink.taken sink.new)) result) taken (run.bytes bytes is)))
     (λ bytes is. proc_reads words bytes cpus result (source.left source.new) (sink.taken sink.old) (sink.taken sink.new) says (run.bytes bytes is))
-    (run_ends words (Threaded (Proc cpus)) result says refl (run.others.1, run.others.2)) run.others.0 (λ is. tt) run.memory run.read_fault run.write_fault run.too_long
+    (run_ends words (Threaded (Proc cpus)) result says refl run.few) run.usage (λ is. tt) run.memory run.read_fault run.write_fault run.too_long
 
 -- ---- ports that a call before it left as they were
 

@@ -9,7 +9,7 @@ use Rattle.mt_ports.specs.declared.status.Status.{Status}
 use Rattle.mt_output.specs.Ports.{Held, Port, SinkRun, SourceRun}
 use Rattle.mt_stream.specs.Handling.{IsRunOfLines}
 use Rattle.mt_stream.specs.Lines.{AtLine, Path, Running, early_at, running}
-use Rattle.mt_stream.specs.Runs.{AsksBy, RefusesMemory}
+use Rattle.mt_stream.specs.Runs.{AsksBy, RefusesMemory, Runs}
 use Rattle.mt_stream.specs.Told.{Told, told_step}
 use Rattle.mt_proc.specs.declared.running.ProcRun.{ProcRun}
 use Rattle.mt_proc.specs.declared.running.Run.{Run}
@@ -88,4 +88,4 @@ proc_running =
 
 -- For want of memory nothing was written.
 abbrev pub IsProc : {S K : Type 0} → ℕ → SourceRun S → SinkRun K → Status → Type 0
-IsProc cpus source sink status = IsRunOfLines (proc_told cpus) (λ bytes. []) (AsksBy (from_point cpus) (AsksAt cpus)) source sink status
+IsProc cpus source sink status = IsRunOfLines (record { told = proc_told cpus; Results = Runs (proc_told cpus) []; Refused = OutOfMemory cpus }) source sink status

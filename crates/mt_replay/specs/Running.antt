@@ -137,6 +137,5 @@ replay_running = running StandsAt end_of_run (λ now. AsksBy from_point AsksAt) 
 
 -- ---- what is proved
 
--- For want of memory at most the line `accepted` was written, unless a line `up` or `join` is read.
 abbrev pub IsReplay : {S K : Type 0} → SourceRun S → SinkRun K → Status → Type 0
-IsReplay source sink status = IsRunOfLines replay_told early_text (AsksBy from_point AsksAt) source sink status
+IsReplay source sink status = IsRunOfLines (record { told = replay_told; Results = Replays; Refused = OutOfMemory }) source sink status

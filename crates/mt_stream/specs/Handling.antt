@@ -3,7 +3,7 @@
 --     MayTake R pre, TakesEach R taken faults post      of a function that takes each line
 --     RunsFrom start source sink status      what the loop leaves, where the source tells its bytes
 --     RefusesFrom start asks source sink      where memory was refused
---     IsRunOfLines start early asks source sink status      what is proved of a whole run
+--     IsRunOfLines account source sink status      what is proved of a whole run
 use Rattle.std.specs.Prelude.{ℕ, ◌≡◌, ◌≢◌, ◌↔◌, ◌+◌, ◌≤◌, List, Option, Some, Result, Ok}
 use Rattle.std.specs.Borrow.{Bor, MutBor}
 use Rattle.mt_text.specs.Text.{longest_input}
@@ -71,18 +71,23 @@ RefusesFrom start Asks source sink = (bytes : List ℕ) → source.old ≡ Some 
 
 -- ---- a whole run
 
--- A run over the lines of a source, which tell this. Some of them ask for memory, and before that no more than an early text is written.
-pub record IsRunOfLines {S K : Type 0} (start : Telling) (early : List ℕ → List ℕ) (Asks : Telling → ℕ → List ℕ → Type 0) (source : SourceRun S) (sink : SinkRun K) (status : Status) : Type 0 where
+-- What is told of a text, what each status says of the ports, and where memory is refused.
+pub record Account : Type 1 where
+  pub told : Telling
+  pub Results : Held → Port → Status → Type 0
+  pub Refused : Held → Port → Type 0
+
+-- A run over the lines of a source, of which this is told.
+pub record IsRunOfLines {S K : Type 0} (account : Account) (source : SourceRun S) (sink : SinkRun K) (status : Status) : Type 0 where
   -- Where the source tells its bytes, what each status says of them and of what the sink took.
-  pub bytes : (bytes : List ℕ) → source.left source.old ≡ Some bytes
-      → Runs start (early bytes) (held bytes (source.left source.new)) (port sink.taken sink.old sink.new) status
+  pub bytes : (bytes : List ℕ) → source.left source.old ≡ Some bytes → account.Results (held bytes (source.left source.new)) (port sink.taken sink.old sink.new) status
   -- The status is that of the text, unless a port fails, too much is read or memory is refused.
-  pub complete : (bytes : List ℕ) → source.left source.old ≡ Some bytes → EndsAs (transcript start bytes).status status
+  pub complete : (bytes : List ℕ) → source.left source.old ≡ Some bytes → EndsAs (transcript account.told bytes).status status
   -- Memory is refused before anything is read, or at a line that asks for some. What the lines before it tell was then written.
-  pub memory : (bytes : List ℕ) → source.left source.old ≡ Some bytes → status ≡ NoMemory
-      → RefusesMemory start Asks (held bytes (source.left source.new)) (port sink.taken sink.old sink.new)
+  pub memory : (bytes : List ℕ) → source.left source.old ≡ Some bytes → status ≡ NoMemory → account.Refused (held bytes (source.left source.new)) (port sink.taken sink.old sink.new)
   -- A port that failed did so once, and the status is its fault; at every other status none failed.
   pub read_fault : StatusHasCause ReadFault (source.faults source.old) (source.faults source.new) status
   pub write_fault : StatusHasCause WriteFault (sink.faults sink.old) (sink.faults sink.new) status
   pub too_long : (status ≡ TooLong) ↔ GaveTooMuch (source.given source.old) (source.given source.new)
-  pub others : (status ≢ Usage) × (status ≢ TooFew) × (status ≢ Disabled)
+  pub usage : status ≢ Usage
+  pub few : (status ≢ TooFew) × (status ≢ Disabled)
