@@ -18,7 +18,7 @@ use Rattle.mt_stream.specs.declared.ending.Ended.{Ended}
 use Rattle.mt_stream.proofs.Rounds.{ends_as}
 
 -- what is proved of the results may be said in other words
-module _ {S K : Type 0} (start : Path) (Asks : Telling → ℕ → List ℕ → Type 0) (Results : Held → Port → Status → Type 0) (as : (h : Held) (p : Port) (status : Status) → RunsOn start h p status → Results h p status)
+module _ {S K : Type 0} (start : Path) (Asks : Telling → ℕ → List ℕ → Type 0) (Results : Held → Port → Status → Type 0) (results_of : (h : Held) (p : Port) (status : Status) → RunsOn start h p status → Results h p status)
     (source : SourceRun S) (sink : SinkRun K) where
   abbrev account : Account
   account = record { told = tells_of start; Results = Results; Refused = RefusesMemory (tells_of start) Asks }
@@ -35,7 +35,7 @@ module _ {S K : Type 0} (start : Path) (Asks : Telling → ℕ → List ℕ → 
       let bytes : RunsFrom start (port source.left source.old source.new) (port sink.taken sink.old sink.new) status =
       subst (RunsFrom start (port source.left source.old source.new) (port sink.taken sink.old sink.new)) (sym is) runs in
       record {
-        bytes = λ text known. as (held text (source.left source.new)) (port sink.taken sink.old sink.new) status (bytes text known);
+        bytes = λ text known. results_of (held text (source.left source.new)) (port sink.taken sink.old sink.new) status (bytes text known);
         complete = λ text known.
             ends_as (record { tells = transcript (tells_of start) text; early = early_of start text }) (tells_of start) (held text (source.left source.new)) (port sink.taken sink.old sink.new) status (bytes text known);
         memory = λ text known no. inr (refuses (sym is ∙ no) text known);
@@ -50,7 +50,7 @@ module _ {S K : Type 0} (start : Path) (Asks : Telling → ℕ → List ℕ → 
   pub refused : source.new ≡ source.old → sink.new ≡ sink.old → IsRunOfLines account source sink NoMemory
   refused same_source same_sink = record {
     bytes = λ text known.
-        as (held text (source.left source.new)) (port sink.taken sink.old sink.new) NoMemory (nothing (early_of start text), nothing (transcript (tells_of start) text).text);
+        results_of (held text (source.left source.new)) (port sink.taken sink.old sink.new) NoMemory (nothing (early_of start text), nothing (transcript (tells_of start) text).text);
     complete = λ text known. inr (inr (inr (inl refl)));
     memory = λ text known no. inl (ap source.left same_source ∙ known, ap sink.taken same_sink);
     read_fault = record { rose = λ is. absurd (cc is); stands = λ other. ap source.faults same_source };
