@@ -267,11 +267,11 @@ pub fn proc_with<R: Threads + Wait + Sync, S: Source, K: Sink, G: Gate>(
     let take = |run: &mut ProcRun, line: &Line<'_>, writer: &mut Writer, sink: &mut K|
         requires { HasRoom run.old.run × HasCpus run.old }
         ensures { Taken proc_running (record {
-            line = line.now;
-            run = change run.old run.new;
-            writer = change writer.old writer.new;
-            sink = port K.taken sink.old sink.new;
-            faults = change (K.faults sink.old) (K.faults sink.new);
+          line = line.now;
+          run = change run.old run.new;
+          writer = change writer.old writer.new;
+          sink = port K.taken sink.old sink.new;
+          faults = change (K.faults sink.old) (K.faults sink.new);
         }) result }
     { take_line(caller, alloc, run.cpus, &mut run.run, line, writer, sink) };
     run_status(run_lines(take, &mut run, source, &mut writer, sink))

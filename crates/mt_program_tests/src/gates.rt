@@ -57,7 +57,10 @@ impl<'a> Run<'a> {
 fn updates() -> [(Run<'static>, u64); 6] {
     let replay = Call::Tool(&["replay"]);
     [
-        (Run::of(replay, JOINED, b"accepted\njoined 1\ncomplete 2\n"), 2),
+        (
+            Run::of(replay, JOINED, b"accepted\njoined 1\ncomplete 2\n"),
+            2,
+        ),
         (Run::of(replay, UNLIKE, b"accepted\ncomplete 1\n"), 1),
         (Run::of(replay, UPDATE, UPDATED), 1),
         (Run::of(Call::Replay, UPDATE, UPDATED), 1),
