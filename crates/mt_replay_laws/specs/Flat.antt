@@ -1,5 +1,5 @@
 -- The flat machine, without caches, beside a script: what it is given of each command, and the transcript with its values.
-use Rattle.std.specs.Prelude.{◌≡◌, ℕ, ◌+◌, List, [], ◌∷◌, if◌then◌else◌, Result, Ok, Err}
+use Rattle.std.specs.Prelude.{◌≡◌, ℕ, ◌+◌, List, [], ◌∷◌, if◌then◌else◌, Some, Result, Ok, Err}
 use Rattle.std.specs.Option.{option_map_or}
 use Rattle.mt_text.specs.Text.{end_of}
 use Rattle.mt_text.specs.declared.place.Place.{Place}

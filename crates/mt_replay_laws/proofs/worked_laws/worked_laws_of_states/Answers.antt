@@ -4,7 +4,7 @@ use Rattle.mt_replay_laws.specs.WorkedStates.{just_dumped, small_dump}
 use Rattle.mt_replay_laws.proofs.worked_laws.worked_laws_of_states.Goals as goal
 
 pub returns-clause-scripts : goal.returns-clause-scripts
-returns-clause-scripts c = λ law. law small_dump
+returns-clause-scripts c = λ law. (law small_dump).0
 
 pub returns-clause-commands : goal.returns-clause-commands
 returns-clause-commands c = λ law kept. law just_dumped asks.Join kept refl

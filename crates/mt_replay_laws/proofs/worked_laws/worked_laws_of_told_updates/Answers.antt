@@ -47,4 +47,4 @@ returns-clause-held c = λ law.
     (told.0, told.3, told.4)
 
 pub returns-clause-joined : goal.returns-clause-joined
-returns-clause-joined c = λ law. law just_dumped (scripts_keep small_dump) refl refl
+returns-clause-joined c = λ law. law just_dumped (scripts_keep small_dump).0 refl refl
