@@ -9,7 +9,7 @@ use Rattle.mt_output.specs.Lines.{line}
 use Rattle.mt_script.specs.Commands.{command_of, outside}
 use Rattle.mt_script.specs.declared.command.Command.{Command}
 use Rattle.mt_script.specs.declared.command.Command.TheVariants as command
-use Rattle.mt_answers.specs.Generator.{global_line, hexadecimal, load_line, local_line, store_line}
+use Rattle.mt_answers.specs.Generator.{hexadecimal}
 use Rattle.mt_cli_laws.proofs.Made.Digits.{IsProcessor, IsWord, hexadecimal_read, hexadecimal_word, processor}
 use Rattle.mt_cli_laws.proofs.Made.Dump.{ready}
 use Rattle.mt_cli_laws.proofs.Made.Words.{word_first, word_last}
@@ -41,6 +41,12 @@ load_body cpu address = codes "load " ++ (decimal cpu ++ 32 ∷ hexadecimal addr
 
 abbrev pub store_body : ℕ → ℕ → ℕ → List ℕ
 store_body cpu address value = codes "store " ++ (decimal cpu ++ 32 ∷ (hexadecimal address ++ 32 ∷ hexadecimal value))
+
+abbrev pub load_line : ℕ → ℕ → List ℕ
+load_line cpu address = codes "load " ++ decimal cpu ++ codes " " ++ hexadecimal address ++ codes "\n"
+
+abbrev pub store_line : ℕ → ℕ → ℕ → List ℕ
+store_line cpu address value = codes "store " ++ decimal cpu ++ codes " " ++ hexadecimal address ++ codes " " ++ hexadecimal value ++ codes "\n"
 
 pub load_is_line : (cpu address : ℕ) → load_line cpu address ≡ line (load_body cpu address)
 load_is_line cpu address = ap (λ l. codes "load " ++ l) (ap (λ l. l ++ 10 ∷ []) (append_assoc (decimal cpu) (32 ∷ []) (hexadecimal address)))
@@ -106,6 +112,12 @@ map_is_line cpu address tail =
     ∙ append_assoc d (32 ∷ []) (h ++ 32 ∷ (h ++ e))
     ∙ sym (append_assoc d (32 ∷ (h ++ 32 ∷ (h ++ 32 ∷ tail))) (10 ∷ [])
     ∙ ap (λ l. d ++ 32 ∷ l) (append_assoc h (32 ∷ (h ++ 32 ∷ tail)) (10 ∷ []) ∙ ap (λ l. h ++ 32 ∷ l) (append_assoc h (32 ∷ tail) (10 ∷ [])))))
+
+abbrev pub local_line : ℕ → ℕ → List ℕ
+local_line cpu address = codes "map " ++ decimal cpu ++ codes " " ++ hexadecimal address ++ codes " " ++ hexadecimal address ++ codes " 0\n"
+
+abbrev pub global_line : ℕ → ℕ → List ℕ
+global_line cpu address = codes "map " ++ decimal cpu ++ codes " " ++ hexadecimal address ++ codes " " ++ hexadecimal address ++ codes " 0 global\n"
 
 pub local_is_line : (cpu address : ℕ) → local_line cpu address ≡ line (map_body cpu address (codes "0"))
 local_is_line cpu address = map_is_line cpu address (codes "0")
