@@ -53,13 +53,14 @@ impl<'a> Run<'a> {
     }
 }
 
-// One script and one list of requests, each by the top call and by its own, and two more scripts; and how many updates they make.
+// One script and one list of requests, each by the top call and by its own, and two more scripts; and how many updates they make on
+// threads. A processor joins by the core's own calls.
 fn updates() -> [(Run<'static>, u64); 6] {
     let replay = Call::Tool(&["replay"]);
     [
         (
             Run::of(replay, JOINED, b"accepted\njoined 1\ncomplete 2\n"),
-            2,
+            1,
         ),
         (Run::of(replay, UNLIKE, b"accepted\ncomplete 1\n"), 1),
         (Run::of(replay, UPDATE, UPDATED), 1),

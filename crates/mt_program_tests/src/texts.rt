@@ -18,7 +18,7 @@ pub(crate) const UPDATE: &[u8] =
 pub(crate) const UPDATED: &[u8] =
     b"accepted\nok\nok\nstored WB\nmemory 0000000000000000\ncomplete 1\ncpu 0 running era 1 lines 0 dirty 0 buffers 0 entries 0 stale 0 cd 0 pge 0\ncpu 1 running era 1 lines 0 dirty 0 buffers 0 entries 0 stale 0 cd 0 pge 0\nregisters same\nmemory 000000000000002a\nvalue 000000000000002a UC\n";
 
-// A self-snooping processor, one that joins it, and an update of both: two updates.
+// A self-snooping processor, one that joins it, and an update of both.
 pub(crate) const JOINED: &[u8] =
     b"cpus 1\ndump\n0fe 508\n200 6\n201 f00000800\n2ff 800\nend\nselfsnoop 0\njoin\nupdate\n200 0\nend\n";
 
