@@ -11,9 +11,9 @@ use Rattle.mt_dump.specs.Reader.{dump_offence}
 use Rattle.mt_dump.proofs.Ends.{read_exactly, read_offence}
 use Rattle.mt_dump.specs.declared.fault.DumpFault.{DumpFault}
 use Rattle.mt_output.specs.Ports.{change, held}
-use Rattle.mt_stream.specs.Runs.{Runs, TellsAll, TellsKnown}
-use Rattle.mt_stream.specs.Told as stream
-use Rattle.mt_stream.specs.Told.{Telling}
+use Rattle.mt_stream.specs.Results.{ResultsIn, TellsAll, TellsKnown}
+use Rattle.mt_stream.specs.Transcript as stream
+use Rattle.mt_stream.specs.Transcript.{Telling}
 use Rattle.mt_proc.specs.Proc.{proc_told, proc_transcript}
 use Rattle.mt_proc.proofs.Endings.{one_of_three as one_of_three_of_proc}
 use Rattle.mt_replay.specs.Running.{Replays}
@@ -183,7 +183,7 @@ module _ (words : List (List ℕ)) (bytes : List ℕ) (command : Command) (start
     read = run.read left tells.read;
   }
 
-  run_leaves : (before : List ℕ) (new : Option (List ℕ)) (result : Status) → Runs start early (held bytes left) (change (Some before) new) result → Leaves words (held bytes left) (took before new) result
+  run_leaves : (before : List ℕ) (new : Option (List ℕ)) (result : Status) → ResultsIn start early (held bytes left) (change (Some before) new) result → Leaves words (held bytes left) (took before new) result
   run_leaves before new Done tells = all_told before new Done tells
   run_leaves before new Refused tells = all_told before new Refused tells
   run_leaves before new Usage tells = absurd tells
@@ -200,7 +200,7 @@ module _ (words : List (List ℕ)) (bytes : List ℕ) (command : Command) (start
   status_told old new result tells =
       record { text = (stream.transcript start bytes).text; output = subst (Output words bytes (stream.transcript start bytes).text) (sym tells.status_is) run.output; read = run.read left tells.read }
 
-  run_reads : (old new : Option (List ℕ)) (result : Status) → Runs start early (held bytes left) (change old new) result → Reads words (held bytes left) result
+  run_reads : (old new : Option (List ℕ)) (result : Status) → ResultsIn start early (held bytes left) (change old new) result → Reads words (held bytes left) result
   run_reads old new Done tells = status_told old new Done tells
   run_reads old new Refused tells = status_told old new Refused tells
   run_reads old new Usage tells = absurd tells
@@ -217,14 +217,14 @@ pub replays_leave : (words : List (List ℕ)) (bytes : List ℕ) (result : Statu
 replays_leave words bytes result left before new says tells = run_leaves words bytes (Threaded Replay) replay_told (early_text bytes) (replays words bytes says) left before new result tells
 
 pub proc_leaves : (words : List (List ℕ)) (bytes : List ℕ) (cpus : ℕ) (result : Status) (left : Option (List ℕ)) (before : List ℕ) (new : Option (List ℕ))
-    → command_of words ≡ Some (Threaded (Proc cpus)) → Runs (proc_told cpus) [] (held bytes left) (change (Some before) new) result → Leaves words (held bytes left) (took before new) result
+    → command_of words ≡ Some (Threaded (Proc cpus)) → ResultsIn (proc_told cpus) [] (held bytes left) (change (Some before) new) result → Leaves words (held bytes left) (took before new) result
 proc_leaves words bytes cpus result left before new says tells = run_leaves words bytes (Threaded (Proc cpus)) (proc_told cpus) [] (procs words bytes cpus says) left before new result tells
 
 pub replays_read : (words : List (List ℕ)) (bytes : List ℕ) (result : Status) (left old new : Option (List ℕ)) → command_of words ≡ Some (Threaded Replay) → Replays (held bytes left) (change old new) result → Reads words (held bytes left) result
 replays_read words bytes result left old new says tells = run_reads words bytes (Threaded Replay) replay_told (early_text bytes) (replays words bytes says) left old new result tells
 
 pub proc_reads : (words : List (List ℕ)) (bytes : List ℕ) (cpus : ℕ) (result : Status) (left old new : Option (List ℕ))
-    → command_of words ≡ Some (Threaded (Proc cpus)) → Runs (proc_told cpus) [] (held bytes left) (change old new) result → Reads words (held bytes left) result
+    → command_of words ≡ Some (Threaded (Proc cpus)) → ResultsIn (proc_told cpus) [] (held bytes left) (change old new) result → Reads words (held bytes left) result
 proc_reads words bytes cpus result left old new says tells = run_reads words bytes (Threaded (Proc cpus)) (proc_told cpus) [] (procs words bytes cpus says) left old new result tells
 
 -- ---- what is said of the source alone

@@ -7,7 +7,7 @@ use Rattle.mt_ports.specs.declared.status.Status.TheVariants.{Done, Usage, ReadF
 use Rattle.mt_text.specs.Feed.{GaveTooMuch}
 use Rattle.mt_output.specs.Written.{Writes}
 use Rattle.mt_output.specs.Ports.{SinkRun, SourceRun, change, held, port, sink_run, source_run}
-use Rattle.mt_stream.specs.Runs.{Runs}
+use Rattle.mt_stream.specs.Results.{ResultsIn}
 use Rattle.mt_proc.specs.Proc.{proc_told}
 use Rattle.mt_proc.specs.Running.{IsProc}
 use Rattle.mt_replay.specs.Running.{IsReplay, Replays}
@@ -200,7 +200,7 @@ proc_ran words cpus source sink result says run =
     reading_ran words (Threaded (Proc cpus)) source sink result says refl
     (λ bytes before is taken.
     proc_leaves words bytes cpus result (source.left source.new) before (sink.taken sink.new) says
-    (subst (λ (o : Option (List ℕ)). Runs (proc_told cpus) [] (held bytes (source.left source.new)) (change o (sink.taken sink.new)) result) taken (run.bytes bytes is)))
+    (subst (λ (o : Option (List ℕ)). ResultsIn (proc_told cpus) [] (held bytes (source.left source.new)) (change o (sink.taken sink.new)) result) taken (run.bytes bytes is)))
     (λ bytes is. proc_reads words bytes cpus result (source.left source.new) (sink.taken sink.old) (sink.taken sink.new) says (run.bytes bytes is))
     (run_ends words (Threaded (Proc cpus)) result says refl run.few) run.usage (λ is. tt) run.memory run.read_fault run.write_fault run.too_long
 

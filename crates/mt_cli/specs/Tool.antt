@@ -11,7 +11,7 @@ use Rattle.mt_ports.specs.Puts.{AppendsFront}
 use Rattle.mt_output.specs.Lines.{accepted_line}
 use Rattle.mt_script.specs.Newcomers.{IsWithoutNewcomers}
 use Rattle.mt_output.specs.Ports.{Held, Port, change}
-use Rattle.mt_stream.specs.Runs.{TellsKnown}
+use Rattle.mt_stream.specs.Results.{TellsKnown}
 use Rattle.mt_proc.specs.Proc.{proc_told}
 use Rattle.mt_proc.specs.Running.{OutOfMemory as ProcOutOfMemory}
 use Rattle.mt_replay.specs.Running.{OutOfMemory as ReplayOutOfMemory}

@@ -8,11 +8,11 @@ use Rattle.mt_regs.specs.declared.fault.Fault.{Fault}
 use Rattle.mt_regs.specs.Agreement.{first_refusal}
 use Rattle.mt_dump.specs.Dumps.{Dump}
 use Rattle.mt_script.specs.Head.{HeadStep, ends_dump, goes_on, offends, shows, step_in_dump}
-use Rattle.mt_stream.specs.Told.{Told, told_from, told_step}
+use Rattle.mt_stream.specs.Transcript.{Transcript, told_from, told_step}
 use Rattle.mt_proc.specs.declared.request.Request.{Request}
 use Rattle.mt_proc.specs.declared.request.ProcFault.{ProcFault}
 use Rattle.mt_proc.specs.After.{Served}
-use Rattle.mt_proc.specs.Proc.{Answer, Point, begins, in_dump, in_requests, of_head, of_request, proc_end, proc_step, proc_transcript, situation_of}
+use Rattle.mt_proc.specs.Proc.{Answer, RequestState, begins, in_dump, in_requests, of_head, of_request, proc_end, proc_step, proc_transcript, situation_of}
 use Rattle.mt_proc.specs.Requests.{request_of}
 
 abbrev IsEnd : Status → Type 0
@@ -36,15 +36,15 @@ of_line now (Ok None) = tt
 of_line now (Ok (Some request)) = tt
 of_line now (Err fault) = inr (inr refl)
 
-step_ends : (cpus number : ℕ) (line : List ℕ) (p : Point) → Ends (proc_step cpus number line p)
+step_ends : (cpus number : ℕ) (line : List ℕ) (p : RequestState) → Ends (proc_step cpus number line p)
 step_ends cpus number line (in_dump before) = of_dump_line (step_in_dump (situation_of cpus) before number line (ends_dump line))
 step_ends cpus number line (in_requests now) = of_line now (request_of number line)
 
-answer_ends : (answer : Answer) (rest : Point → Told) → Ends answer → ((p : Point) → IsEnd (rest p).status) → IsEnd (told_step rest answer).status
+answer_ends : (answer : Answer) (rest : RequestState → Transcript) → Ends answer → ((p : RequestState) → IsEnd (rest p).status) → IsEnd (told_step rest answer).status
 answer_ends (Ok step) rest ends behind = behind step.1
 answer_ends (Err last) rest ends behind = ends
 
-from_ends : (cpus : ℕ) (finish : Point → Told) → ((p : Point) → IsEnd (finish p).status) → (number : ℕ) (lines : List (List ℕ)) (p : Point) → IsEnd (told_from (proc_step cpus) finish number lines p).status
+from_ends : (cpus : ℕ) (finish : RequestState → Transcript) → ((p : RequestState) → IsEnd (finish p).status) → (number : ℕ) (lines : List (List ℕ)) (p : RequestState) → IsEnd (told_from (proc_step cpus) finish number lines p).status
 from_ends cpus finish last number [] p = last p
 from_ends cpus finish last number (line ∷ lines) p =
     answer_ends (proc_step cpus number line p) (told_from (proc_step cpus) finish (number + 1) lines) (step_ends cpus number line p) (from_ends cpus finish last (number + 1) lines)
@@ -52,6 +52,6 @@ from_ends cpus finish last number (line ∷ lines) p =
 pub one_of_three : (cpus : ℕ) (bytes : List ℕ) → ((proc_transcript cpus bytes).status ≡ Done) ⊎ ((proc_transcript cpus bytes).status ≡ Refused) ⊎ ((proc_transcript cpus bytes).status ≡ BadText)
 one_of_three cpus bytes = from_ends cpus (proc_end (end_of bytes)) last 1 (lines_of bytes) (in_dump [])
   where
-    last : (p : Point) → IsEnd (proc_end (end_of bytes) p).status
+    last : (p : RequestState) → IsEnd (proc_end (end_of bytes) p).status
     last (in_dump before) = inr (inr refl)
     last (in_requests now) = inl refl

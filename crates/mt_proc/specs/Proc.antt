@@ -16,7 +16,7 @@ use Rattle.mt_script.specs.declared.fault.Offence.{Offence}
 use Rattle.mt_script.specs.declared.fault.Offence.TheVariants.{Script}
 use Rattle.mt_script.specs.declared.fault.ScriptReason.TheVariants.{NoEnd}
 use Rattle.mt_output.specs.Lines.{bad_text, dump_refused_line, offence_line}
-use Rattle.mt_stream.specs.Told.{Step, Telling, Told, told, telling, transcript}
+use Rattle.mt_stream.specs.Transcript.{LineStep, Telling, Transcript, transcript_with, telling, transcript}
 use Rattle.mt_proc.specs.declared.request.Request.{Request}
 use Rattle.mt_proc.specs.declared.request.ProcFault.{ProcFault}
 use Rattle.mt_proc.specs.declared.request.ProcReason.{ProcReason}
@@ -26,9 +26,9 @@ use Rattle.mt_proc.specs.Listing.{requests_from}
 use Rattle.mt_proc.specs.Requests.{request_of}
 
 -- within the dump, after these lines of it, of which the last stands first, or behind its end
-pub data Point : Type 0 where
-  in_dump : List Reading → Point
-  in_requests : Served → Point
+pub data RequestState : Type 0 where
+  in_dump : List Reading → RequestState
+  in_requests : Served → RequestState
 
 abbrev pub reason_text : ProcReason → List ℕ
 reason_text BadLine = codes "bad line"
@@ -39,46 +39,46 @@ abbrev pub request_fault_line : ProcFault → List ℕ
 request_fault_line fault = bad_text fault.place (reason_text fault.reason)
 
 abbrev pub Answer : Type 0
-Answer = Result (List ℕ × Point) Told
+Answer = Result (List ℕ × RequestState) Transcript
 
 -- The dump's end: each file is to be accepted. The requests are then about processor 0's file.
 abbrev pub begins : Dump → Option (ℕ × Fault) → Answer
-begins dump (Some (k, fault)) = Err (told (dump_refused_line dump.version k fault) Refused)
+begins dump (Some (k, fault)) = Err (transcript_with (dump_refused_line dump.version k fault) Refused)
 begins dump None = Ok ([], in_requests (at_first (first_file dump)))
 
 abbrev pub of_head : HeadStep → Answer
 of_head (goes_on now after) = Ok ([], in_dump after)
 of_head (shows dump) = begins dump (first_refusal dump.files)
-of_head (offends offence) = Err (told (offence_line offence) BadText)
+of_head (offends offence) = Err (transcript_with (offence_line offence) BadText)
 
 -- the lines of a dump for so many processors
 abbrev pub situation_of : ℕ → Situation
 situation_of cpus = record at_start { cpus = cpus }
 
 abbrev pub of_request : Served → Result (Option Request) ProcFault → Answer
-of_request now (Err fault) = Err (told (request_fault_line fault) BadText)
+of_request now (Err fault) = Err (transcript_with (request_fault_line fault) BadText)
 of_request now (Ok None) = Ok ([], in_requests now)
 of_request now (Ok (Some request)) = Ok (answer_text now request, in_requests (asked now request))
 
-abbrev pub proc_step : ℕ → Step Point
+abbrev pub proc_step : ℕ → LineStep RequestState
 proc_step cpus number line (in_dump before) = of_head (step_in_dump (situation_of cpus) before number line (ends_dump line))
 proc_step cpus number line (in_requests now) = of_request now (request_of number line)
 
 abbrev pub no_end : Place → Offence
 no_end place = Script (fault_at NoEnd place)
 
-abbrev pub proc_end : Place → Point → Told
-proc_end place (in_dump before) = told (offence_line (no_end place)) BadText
-proc_end place (in_requests now) = told (end_text now) Done
+abbrev pub proc_end : Place → RequestState → Transcript
+proc_end place (in_dump before) = transcript_with (offence_line (no_end place)) BadText
+proc_end place (in_requests now) = transcript_with (end_text now) Done
 
-abbrev pub from_point : ℕ → Point → Telling
+abbrev pub from_point : ℕ → RequestState → Telling
 from_point cpus p = telling (proc_step cpus) proc_end p
 
 abbrev pub proc_told : ℕ → Telling
 proc_told cpus = from_point cpus (in_dump [])
 
 -- what it tells of a whole text
-abbrev pub proc_transcript : ℕ → List ℕ → Told
+abbrev pub proc_transcript : ℕ → List ℕ → Transcript
 proc_transcript cpus bytes = transcript (proc_told cpus) bytes
 
 -- ---- a list of requests
@@ -94,4 +94,4 @@ requests_in (Ok (Some request) ∷ rest) = option_map (λ requests. request ∷ 
 abbrev pub LinesTellRequests : Type 0
 LinesTellRequests =
     (cpus : ℕ) (now : Served) (place : Place) (number : ℕ) (lines : List (List ℕ)) (requests : List Request) → requests_in (requests_from number lines) ≡ Some requests
-    → from_point cpus (in_requests now) (Some place) number lines ≡ told (answers now requests ++ end_text (after_all now requests)) Done
+    → from_point cpus (in_requests now) (Some place) number lines ≡ transcript_with (answers now requests ++ end_text (after_all now requests)) Done

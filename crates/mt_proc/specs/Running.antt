@@ -9,33 +9,33 @@ use Rattle.mt_ports.specs.declared.status.Status.{Status}
 use Rattle.mt_output.specs.Ports.{Held, Port, SinkRun, SourceRun}
 use Rattle.mt_stream.specs.Handling.{IsRunOfLines}
 use Rattle.mt_stream.specs.Lines.{AtLine, Path, Running, early_at, running}
-use Rattle.mt_stream.specs.Runs.{AsksBy, RefusesMemory, Runs}
-use Rattle.mt_stream.specs.Told.{Told, told_step}
+use Rattle.mt_stream.specs.Results.{AsksBy, RefusesMemory, ResultsIn}
+use Rattle.mt_stream.specs.Transcript.{Transcript, told_step}
 use Rattle.mt_proc.specs.declared.running.ProcRun.{ProcRun}
 use Rattle.mt_proc.specs.declared.running.Run.{Run}
 use Rattle.mt_proc.specs.declared.running.Run.TheVariants as run
-use Rattle.mt_proc.specs.Proc.{Answer, Point, from_point, in_dump, in_requests, proc_end, proc_told, situation_of}
+use Rattle.mt_proc.specs.Proc.{Answer, RequestState, from_point, in_dump, in_requests, proc_end, proc_told, situation_of}
 use Rattle.mt_proc.specs.Serving.{Serves, served}
 
 -- the run stands at this point
-abbrev pub IsAt : Run → Point → Type 0
+abbrev pub IsAt : Run → RequestState → Type 0
 IsAt (run.Dump reader) (in_dump before) = HasRead reader before
 IsAt (run.Dump reader) (in_requests now) = ⊥
 IsAt (run.Requests m) (in_dump before) = ⊥
 IsAt (run.Requests m) (in_requests now) = served m ≡ now
 
 -- what is told where the text ends
-abbrev pub end_of_run : Run → Place → Told
+abbrev pub end_of_run : Run → Place → Transcript
 end_of_run (run.Dump reader) place = proc_end place (in_dump [])
 end_of_run (run.Requests m) place = proc_end place (in_requests (served m))
 
 -- nothing is written before the dump's end
-abbrev pub IsQuiet : Run → List ℕ → Type 0
-IsQuiet (run.Dump reader) text = text ≡ []
-IsQuiet (run.Requests m) text = ⊤
+abbrev pub HasOutput : Run → List ℕ → Type 0
+HasOutput (run.Dump reader) text = text ≡ []
+HasOutput (run.Requests m) text = ⊤
 
 -- where lines stand at this point; memory is asked for before anything is written
-abbrev pub path_from : ℕ → Point → Path
+abbrev pub path_from : ℕ → RequestState → Path
 path_from cpus p = early_at [] (from_point cpus p)
 
 -- No processor is left out, each runs and holds nothing, and all have done as many updates. They have one file once a request was carried out.
@@ -44,7 +44,7 @@ AllServe cpus (run.Dump reader) = ⊤
 AllServe cpus (run.Requests m) = (length m.system.processors ≡ cpus) × Serves m
 
 abbrev pub StandsAt : ℕ → Run → List ℕ → Path → Type 0
-StandsAt cpus now so_far was = (p : Point) × IsAt now p × IsQuiet now so_far × (was ≡ path_from cpus p) × AllServe cpus now
+StandsAt cpus now so_far was = (p : RequestState) × IsAt now p × HasOutput now so_far × (was ≡ path_from cpus p) × AllServe cpus now
 
 -- what a line and those behind it lead to by the line's answer
 abbrev pub LeadsBy : ℕ → AtLine → Answer → Type 0
@@ -67,7 +67,7 @@ IsDump (run.Requests m) = ⊥
 -- ---- where memory is asked for
 
 -- A line asks for memory where it ends a dump whose files are accepted. No other does.
-abbrev pub AsksAt : ℕ → Point → ℕ → List ℕ → Type 0
+abbrev pub AsksAt : ℕ → RequestState → ℕ → List ℕ → Type 0
 AsksAt cpus (in_dump before) number line = (dump : Dump) × (step_in_dump (situation_of cpus) before number line (ends_dump line) ≡ shows dump) × (first_refusal dump.files ≡ None)
 AsksAt cpus (in_requests now) number line = ⊥
 
@@ -88,4 +88,4 @@ proc_running =
 
 -- For want of memory nothing was written.
 abbrev pub IsProc : {S K : Type 0} → ℕ → SourceRun S → SinkRun K → Status → Type 0
-IsProc cpus source sink status = IsRunOfLines (record { told = proc_told cpus; Results = Runs (proc_told cpus) []; Refused = OutOfMemory cpus }) source sink status
+IsProc cpus source sink status = IsRunOfLines (record { told = proc_told cpus; Results = ResultsIn (proc_told cpus) []; Refused = OutOfMemory cpus }) source sink status

@@ -11,7 +11,7 @@ ghost use Rattle.mt_stream.specs.Lines.{AtLine, IfGoesOn, Path, Takes, at_line};
 ghost use Rattle.mt_output.specs.Ports.{change, port, sink_run, source_run};
 ghost use Rattle.mt_proc.specs.After.{era_line};
 ghost use Rattle.mt_proc.specs.Listing.{listing};
-ghost use Rattle.mt_proc.specs.Proc.{Point, begins, no_end, of_request, reason_text, request_fault_line};
+ghost use Rattle.mt_proc.specs.Proc.{RequestState, begins, no_end, of_request, reason_text, request_fault_line};
 ghost use Rattle.mt_proc.specs.Requests.{request_of};
 ghost use Rattle.mt_proc.specs.Running.{AllServe, AsksAt, HasCount, HasCpus, HasRoom, IsAt, IsDump, IsProc, LeadsBy, StandsAt, proc_running};
 ghost use Rattle.mt_proc.specs.Serving.{idling, served};
@@ -148,7 +148,7 @@ fn take_line<R: Threads + Wait + Sync, K: Sink, G: Gate>(
     requires room { HasRoom run.old }
     ensures bytes { (so_far : List ℕ) (was : Path) → StandsAt cpus run.old so_far was →
         Takes (StandsAt cpus run.new) (at_line line.now.number line.now.bytes.now so_far was) (change writer.old writer.new) (port K.taken sink.old sink.new) result }
-    ensures asks { (p : Point) → IsAt run.old p → result ≡ Ok (Some Stop.NoMemory) → AsksAt cpus p line.now.number line.now.bytes.now }
+    ensures asks { (p : RequestState) → IsAt run.old p → result ≡ Ok (Some Stop.NoMemory) → AsksAt cpus p line.now.number line.now.bytes.now }
     ensures counts { (most : ℕ) → HasCount most run.old → IfGoesOn result (HasCount (most + 1) run.new) }
     ensures cause { HasCause (K.faults sink.old) (K.faults sink.new) result }
 {
@@ -209,7 +209,7 @@ fn no_end(at: Place) -> Offence
 impl LineRun for ProcRun {
     ghost use Rattle.mt_proc.specs.Proc.{from_point};
     ghost use Rattle.mt_proc.specs.Running.{AsksAt, HasCount, HasCpus, StandsAt, end_of_run};
-    ghost use Rattle.mt_stream.specs.Runs.{AsksBy};
+    ghost use Rattle.mt_stream.specs.Results.{AsksBy};
 
     ghost at = { λ now. StandsAt now.cpus now.run };
 
@@ -219,7 +219,7 @@ impl LineRun for ProcRun {
 
     ghost ready = { λ most now. HasCount most now.run × HasCpus now };
 
-    fn finish<K: Sink>(
+    fn write_end<K: Sink>(
         &self,
         end: Place,
         writer: &mut Writer,

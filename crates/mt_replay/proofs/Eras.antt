@@ -16,7 +16,7 @@ use Rattle.mt_replay.specs.declared.task.Ask.TheVariants as ask
 use Rattle.mt_replay.specs.declared.task.Section.TheVariants as section
 use Rattle.mt_replay.specs.Doing.{CanAct, CanAsk, CanDo}
 use Rattle.mt_replay.specs.Kept.{CommandsFinishOne, IsReplayState}
-use Rattle.mt_replay.specs.ReplayState.{ReplayState, acted, after_word, asked_of, is_absent, machine_after, outcome, task_of}
+use Rattle.mt_replay.specs.ReplayState.{ReplayState, acted, after_word, asked_of, effect, is_absent, machine_after, task_of}
 use Rattle.mt_replay.proofs.Doing.{can_do}
 use Rattle.mt_replay.proofs.Keeping.Absent.{absent_machine, there_machine}
 use Rattle.mt_replay.proofs.Keeping.Kinds.{eras_risen, risen_same}
@@ -50,7 +50,7 @@ module _ (s : ReplayState) (h : IsReplayState s) where
   acted_eras (act.Section section.End) can = by_rise s.machine (machine_after s command.End) (follows_end s h).risen
   acted_eras other can = stays s.machine
 
-  eras : (t : Task) → CanDo s.machine t → KeepsEras s.machine (outcome s t).machine
+  eras : (t : Task) → CanDo s.machine t → KeepsEras s.machine (effect s t).machine
   eras task.Report can = stays s.machine
   eras (task.Window base lines) can = by_rise s.machine (grown (window base lines) s.machine) (risen_same s.machine.system (with_window (window base lines) s.machine.system.memory))
   eras task.Up can = (moves_up s.machine h.arises h.came h.some h.few).eras

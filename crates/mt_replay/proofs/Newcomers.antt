@@ -17,7 +17,7 @@ use Rattle.mt_script.specs.declared.fault.ScriptFault.{ScriptFault}
 use Rattle.mt_replay.specs.Heads.{HeadEnd, end_after, has_offence, head_end, head_of, shows_dump, stays_open}
 use Rattle.mt_replay.specs.Newcomers.{early, early_text, has_newcomers, is_newcomer, newcomer_by, newcomers_by, newcomers_from, newcomers_in, newcomers_of_dump}
 use Rattle.mt_replay.specs.ReplayState.{ReplayState, first_state, state_after}
-use Rattle.mt_replay.specs.Steps.{Step, begins_by, begins_with, steps_in, steps_of}
+use Rattle.mt_replay.specs.Steps.{ScriptStep, begins_by, begins_with, steps_in, steps_of}
 use Rattle.mt_replay.specs.Transcript.{in_body, in_head, transcript}
 
 -- ---- in the head
@@ -44,7 +44,7 @@ body_brings s number line lines answer is = ap (newcomer_by s (newcomers_in (num
 
 -- ---- in the course
 
-abbrev IsNewcomer : Step → Bool
+abbrev IsNewcomer : ScriptStep → Bool
 IsNewcomer step = is_newcomer step.command
 
 in_steps : (number : ℕ) (lines : List (List ℕ)) (s : ReplayState) → newcomers_in number lines s ≡ list_any IsNewcomer (steps_in number lines s)

@@ -9,31 +9,31 @@ use Rattle.mt_script.specs.Commands.{end_fault}
 use Rattle.mt_script.specs.declared.fault.ScriptFault.{ScriptFault}
 use Rattle.mt_stream.specs.Laws.{AreLaws, IsLongLed}
 use Rattle.mt_stream.specs.Lines.{AtLine, Path, at_line}
-use Rattle.mt_replay.specs.Running.{HasErasAt, IsAt, IsQuiet, end_of_run, line_at, path_from, replay_running, setup_of}
-use Rattle.mt_replay.specs.Transcript.{Point, in_body, in_head, told_at_end, told_lines, told_offence}
+use Rattle.mt_replay.specs.Running.{HasErasAt, HasOutput, IsAt, end_of_run, line_at, path_from, replay_running, setup_of}
+use Rattle.mt_replay.specs.Transcript.{ScriptState, in_body, in_head, told_at_end, told_lines, told_offence}
 use Rattle.mt_replay.specs.declared.line.Run.{Run}
 use Rattle.mt_replay.specs.declared.line.Run.TheVariants as run
 use Rattle.mt_replay.proofs.Walks.{IsSound, long_brings, long_offence, long_stops, none_known}
 use Rattle.mt_replay.specs.Newcomers.{early}
-use Rattle.mt_stream.specs.Told.{Told}
+use Rattle.mt_stream.specs.Transcript.{Transcript}
 
-sound_at : (now : Run) (point : Point) → IsAt now point → IsSound point
+sound_at : (now : Run) (point : ScriptState) → IsAt now point → IsSound point
 sound_at (run.Head h) (in_head s before) at = tt
 sound_at (run.Head h) (in_body s) at = absurd at
 sound_at (run.Body r) (in_head s before) at = absurd at
 sound_at (run.Body r) (in_body s) at = at.1
 
 -- where no line is left
-pub none_told : (place : Place) (number : ℕ) (now : Run) (point : Point) → IsAt now point → told_lines (Some place) number [] point ≡ end_of_run now place
+pub none_told : (place : Place) (number : ℕ) (now : Run) (point : ScriptState) → IsAt now point → told_lines (Some place) number [] point ≡ end_of_run now place
 none_told place number (run.Head h) (in_head s before) at = ap (λ (x : Situation). told_at_end (end_fault x.stage place)) (sym at.0)
 none_told place number (run.Head h) (in_body s) at = absurd at
 none_told place number (run.Body r) (in_head s before) at = absurd at
 none_told place number (run.Body r) (in_body s) at = ap (λ x. told_at_end (end_fault x.now.stage place)) (sym at.0)
 
 -- a line too long brings none up
-long_path : (came : Bool) (so_far : List ℕ) (p : Point) (number : ℕ) → IsSound p → IsLongLed (path_from came so_far p) number
+long_path : (came : Bool) (so_far : List ℕ) (p : ScriptState) (number : ℕ) → IsSound p → IsLongLed (path_from came so_far p) number
 long_path came so_far p number sound =
-    let t : Told = told_offence (long_offence number p) in
+    let t : Transcript = told_offence (long_offence number p) in
     record {
       leads = record { tells = t; early = early (came || false) so_far t.text };
       bad = refl;
@@ -52,18 +52,18 @@ replay_laws = record {
 }
 
 -- a line and those behind it lead to as much as from the point where the run stands
-pub at_point : (was : Path) (came : Bool) (so_far : List ℕ) (p : Point) (F : AtLine → Type 0) (number : ℕ) (line : List ℕ) → was ≡ path_from came so_far p → F (line_at came so_far number line p) → F (at_line number line so_far was)
+pub at_point : (was : Path) (came : Bool) (so_far : List ℕ) (p : ScriptState) (F : AtLine → Type 0) (number : ℕ) (line : List ℕ) → was ≡ path_from came so_far p → F (line_at came so_far number line p) → F (at_line number line so_far was)
 at_point was came so_far p F number line is holds = subst (λ (t : Path). F (at_line number line so_far t)) (sym is) holds
 
 -- a text that may have been written so far
-pub quiet_text : Run → List ℕ
-quiet_text (run.Head h) = []
-quiet_text (run.Body r) = accepted_line
+pub output_so_far : Run → List ℕ
+output_so_far (run.Head h) = []
+output_so_far (run.Body r) = accepted_line
 
-pub is_quiet : (now : Run) → IsQuiet now false (quiet_text now)
-unfolding quiet_text
-is_quiet (run.Head h) = (refl, refl)
-is_quiet (run.Body r) = λ takes. refl
+pub has_output : (now : Run) → HasOutput now false (output_so_far now)
+unfolding output_so_far
+has_output (run.Head h) = (refl, refl)
+has_output (run.Body r) = λ takes. refl
 
 -- ---- eras
 

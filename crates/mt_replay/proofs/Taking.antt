@@ -28,22 +28,22 @@ use Rattle.mt_replay.specs.Parts.{AsksForMemory}
 use Rattle.mt_replay.specs.ReplayState.{ReplayState, command_text, first_state, state_after}
 use Rattle.mt_replay.specs.Newcomers.{early, is_newcomer, newcomers_from, newcomers_in, newcomers_of_dump}
 use Rattle.mt_replay.proofs.Newcomers.{body_brings, early_front, early_then, head_brings, or_true}
-use Rattle.mt_replay.specs.Running.{CarriesOut, IsAt, IsQuiet, StandsAt, dump_at, from_line, line_at, path_from}
+use Rattle.mt_replay.specs.Running.{CarriesOut, HasOutput, IsAt, StandsAt, dump_at, from_line, line_at, path_from}
 use Rattle.mt_stream.specs.Lines.{Fails, GoesOn, Leads, Takes, leads_behind}
 use Rattle.mt_output.specs.Ports.{Port, Waiting, change}
-use Rattle.mt_replay.specs.Transcript.{Point, body_lines, head_lines, in_body, in_head, told_command, told_dump}
-use Rattle.mt_stream.specs.Told.{Told, behind, told}
+use Rattle.mt_replay.specs.Transcript.{ScriptState, body_lines, head_lines, in_body, in_head, told_command, told_dump}
+use Rattle.mt_stream.specs.Transcript.{Transcript, behind, transcript_with}
 use Rattle.mt_replay.specs.declared.line.Run.{Run}
 use Rattle.mt_replay.specs.declared.line.Run.TheVariants as run
 use Rattle.mt_replay.proofs.Eras.{eras_kept}
 use Rattle.mt_replay.proofs.Keeping.States.{state_kept}
 use Rattle.mt_replay.proofs.Walks.{from_body, head_leads}
 
-abbrev leads_of : Told → Bool → List ℕ → Leads
+abbrev leads_of : Transcript → Bool → List ℕ → Leads
 leads_of t comes so_far = record { tells = t; early = early comes so_far t.text }
 
 -- as much is told, and as much may have been written
-leads_then : (a b : Told) (came own later all : Bool) (so_far text : List ℕ) → a ≡ behind text b → all ≡ (own || later)
+leads_then : (a b : Transcript) (came own later all : Bool) (so_far text : List ℕ) → a ≡ behind text b → all ≡ (own || later)
     → record { tells = a; early = early (came || all) so_far a.text } ≡ leads_behind text (record { tells = b; early = early ((came || own) || later) (so_far ++ text) b.text })
 leads_then a b came own later all so_far text tells is =
     (λ i. leads_of (tells i) (came || all) so_far) ∙ ap (λ (e : List ℕ). record { tells = behind text b; early = e }) (early_then came own later all so_far text b.text is)
@@ -51,11 +51,11 @@ leads_then a b came own later all so_far text tells is =
 -- ---- the dump's end
 
 -- what a shown dump and the lines behind it tell
-abbrev pub from_dump : Situation → Dump → ℕ → Option Place → List (List ℕ) → Told
+abbrev pub from_dump : Situation → Dump → ℕ → Option Place → List (List ℕ) → Transcript
 from_dump now dump number end lines = told_dump now dump (body_lines end number lines) (first_refusal dump.files)
 
 pub dump_refused : (now : Situation) (dump : Dump) (number : ℕ) (refusal : ℕ × Fault) → first_refusal dump.files ≡ Some refusal → (end : Option Place) (lines : List (List ℕ))
-    → from_dump now dump number end lines ≡ told (dump_refused_line dump.version refusal.0 refusal.1) Refused
+    → from_dump now dump number end lines ≡ transcript_with (dump_refused_line dump.version refusal.0 refusal.1) Refused
 dump_refused now dump number refusal is end lines = ap (told_dump now dump (body_lines end number lines)) is
 
 pub dump_accepted : (now : Situation) (dump : Dump) (number : ℕ) → first_refusal dump.files ≡ None → (end : Option Place) (lines : List (List ℕ))
@@ -78,7 +78,7 @@ pub dump_fails : (now : Situation) (dump : Dump) (number : ℕ) (waiting text : 
     → Fails (dump_at now dump number) waiting sink
 dump_fails now dump number waiting text sink is line failed = record {
   text = accepted_line;
-  front = λ end lines. ((body_lines end number lines (first_state now dump)).text, ap (λ (t : Told). t.text) (dump_accepted now dump number is end lines));
+  front = λ end lines. ((body_lines end number lines (first_state now dump)).text, ap (λ (t : Transcript). t.text) (dump_accepted now dump number is end lines));
   failed = subst (λ l. AppendsFront sink.old sink.new (waiting ++ l)) line failed;
 }
 
@@ -99,14 +99,14 @@ leads s c number line asked end lines = from_body s number line end lines ∙ ap
 
 module _ (s new : ReplayState) (c : Command) (number : ℕ) (line : List ℕ) (is : IsReplayState s) (fits : Fits s.now c) (asked : command_of s.now number line ≡ Ok c) where
   pub command_takes : (writer : Waiting) (sink : Port) (result : Result (Option Stop) Failed) → CarriesOut (change s new) c writer sink result → ((stop : Stop) → result ≡ Ok (Some stop) → AsksForMemory s.machine c)
-      → (came : Bool) (so_far : List ℕ) → IsQuiet (run.Body s) came so_far → Takes (StandsAt (run.Body new)) (line_at came so_far number line (in_body s)) writer sink result
+      → (came : Bool) (so_far : List ℕ) → HasOutput (run.Body s) came so_far → Takes (StandsAt (run.Body new)) (line_at came so_far number line (in_body s)) writer sink result
   command_takes writer sink (Ok None) does asks came so_far quiet = record {
     next = path_from (came || is_newcomer c) (so_far ++ command_text s c) (in_body (state_after s c));
     at = (
       in_body (state_after s c),
       (came || is_newcomer c),
       (does.1, (state_kept s c is fits).past),
-      subst (λ (r : ReplayState). IsQuiet (run.Body r) (came || is_newcomer c) (so_far ++ command_text s c)) (sym does.1) later,
+      subst (λ (r : ReplayState). HasOutput (run.Body r) (came || is_newcomer c) (so_far ++ command_text s c)) (sym does.1) later,
       refl,
     );
     text = command_text s c;
@@ -116,7 +116,7 @@ module _ (s new : ReplayState) (c : Command) (number : ℕ) (line : List ℕ) (i
     passed = does.0;
   }
     where
-      later : IsQuiet (run.Body (state_after s c)) (came || is_newcomer c) (so_far ++ command_text s c)
+      later : HasOutput (run.Body (state_after s c)) (came || is_newcomer c) (so_far ++ command_text s c)
       later takes = let was = quiet_command s c fits takes in ap (λ l. so_far ++ l) was.1 ∙ append-nil so_far ∙ quiet was.0
   command_takes writer sink (Ok (Some stop)) does asks came so_far quiet =
       inr (record {
@@ -137,7 +137,7 @@ module _ (s new : ReplayState) (c : Command) (number : ℕ) (line : List ℕ) (i
       asked_early lines (inr w) off = ⊎_elim (λ up. none lines (ap is_newcomer up) off) (λ join. none lines (ap is_newcomer join) off) w.1
   command_takes writer sink (Err failed) does asks came so_far quiet = record {
     text = command_text s c;
-    front = λ end lines. ((body_lines end (number + 1) lines (state_after s c)).text, ap (λ (t : Told). t.text) (leads s c number line asked end lines));
+    front = λ end lines. ((body_lines end (number + 1) lines (state_after s c)).text, ap (λ (t : Transcript). t.text) (leads s c number line asked end lines));
     failed = does;
   }
 
@@ -173,9 +173,9 @@ dump_leads now dump before number line came so_far is none end lines =
     λ i. leads_of (head_leads now before number line (shows dump) is end lines i) (none.1 i || head_brings now before number line lines (shows dump) is i) (none.0 i)
 
 -- a run in the head stands at what its reader has read
-pub in_the_head : (r : Run) (h : HeadReader) (was : Point) → r ≡ run.Head h → IsAt r was → (before : List Reading) × HasRead h.dump before × (was ≡ in_head h.setup before)
+pub in_the_head : (r : Run) (h : HeadReader) (was : ScriptState) → r ≡ run.Head h → IsAt r was → (before : List Reading) × HasRead h.dump before × (was ≡ in_head h.setup before)
 in_the_head r h was is at = by was (subst (λ x. IsAt x was) is at)
   where
-    by : (was : Point) → IsAt (run.Head h) was → (before : List Reading) × HasRead h.dump before × (was ≡ in_head h.setup before)
+    by : (was : ScriptState) → IsAt (run.Head h) was → (before : List Reading) × HasRead h.dump before × (was ≡ in_head h.setup before)
     by (in_head now before) at = (before, at.1, ap (λ n. in_head n before) (sym at.0))
     by (in_body s) at = absurd at

@@ -19,16 +19,16 @@ use Rattle.mt_script.specs.declared.fault.Offence.TheVariants.{Script, Dump}
 use Rattle.mt_replay.specs.Heads.{end_after, head_end}
 use Rattle.mt_replay.specs.ReplayState.{ReplayState}
 use Rattle.mt_replay.specs.Running.{from_line}
-use Rattle.mt_replay.specs.Transcript.{Point, body_lines, from_point, head_lines, in_body, in_head, told_by, told_command, told_dump, told_last, told_lines, told_offence}
+use Rattle.mt_replay.specs.Transcript.{ScriptState, body_lines, from_point, head_lines, in_body, in_head, told_by, told_command, told_dump, told_last, told_lines, told_offence}
 use Rattle.mt_stream.specs.Laws.{IsLongTold}
 use Rattle.mt_replay.specs.Newcomers.{newcomer_by, newcomers_from, newcomers_in}
 use Rattle.mt_replay.proofs.Newcomers.{head_brings}
-use Rattle.mt_stream.specs.Told.{Told, told}
+use Rattle.mt_stream.specs.Transcript.{Transcript, transcript_with}
 
 -- ---- the head
 
 -- what is told from a step on
-abbrev pub told_after : Situation → (Situation → List Reading → Told) → (ReplayState → Told) → HeadStep → Told
+abbrev pub told_after : Situation → (Situation → List Reading → Transcript) → (ReplayState → Transcript) → HeadStep → Transcript
 told_after now head rest (goes_on next after) = head next after
 told_after now head rest (shows dump) = told_dump now dump rest (first_refusal dump.files)
 told_after now head rest (offends o) = told_offence o
@@ -61,11 +61,11 @@ long_in InUpdate number = Script (fault_at BadLine (record { line = number; colu
 long_in InBegin number = Script (fault_at BadLine (record { line = number; column = 4097 }))
 
 -- a point that a run may stand at
-abbrev pub IsSound : Point → Type 0
+abbrev pub IsSound : ScriptState → Type 0
 IsSound (in_head now before) = Unit {0}
 IsSound (in_body s) = is_past_dump s.now.stage ≡ true
 
-abbrev pub long_offence : ℕ → Point → Offence
+abbrev pub long_offence : ℕ → ScriptState → Offence
 long_offence number (in_head now before) = long_in now.stage number
 long_offence number (in_body s) = long_in s.now.stage number
 
@@ -81,7 +81,7 @@ long_head now before number line long = by now.stage refl
     by InUpdate is = rw long refl
     by InBegin is = rw long refl
 
-long_body : (s : ReplayState) (number : ℕ) (line : List ℕ) (rest : ReplayState → Told) → is_past_dump s.now.stage ≡ true → nat_lt 4096 (length line) ≡ true
+long_body : (s : ReplayState) (number : ℕ) (line : List ℕ) (rest : ReplayState → Transcript) → is_past_dump s.now.stage ≡ true → nat_lt 4096 (length line) ≡ true
     → told_command s rest (command_of s.now number line) ≡ told_offence (long_in s.now.stage number)
 long_body s number line rest past long = by s.now.stage past
   where
@@ -95,14 +95,14 @@ long_body s number line rest past long = by s.now.stage past
     by InBegin is = rw long refl
 
 -- it is an offence, whatever its bytes are
-pub long_stops : (number : ℕ) (line : List ℕ) (point : Point) → IsSound point → 4096 < length line → (end : Option Place) (lines : List (List ℕ))
+pub long_stops : (number : ℕ) (line : List ℕ) (point : ScriptState) → IsSound point → 4096 < length line → (end : Option Place) (lines : List (List ℕ))
     → from_line number line point end lines ≡ told_offence (long_offence number point)
 long_stops number line (in_head now before) sound long end lines =
     head_leads now before number line (offends (long_in now.stage number)) (long_head now before number line (grind (arith, nat_tests, long))) end lines
 long_stops number line (in_body s) sound long end lines =
     from_body s number line end lines ∙ long_body s number line (body_lines end (number + 1) lines) sound (grind (arith, nat_tests, long))
 
-pub long_told : (point : Point) (number : ℕ) → IsSound point → IsLongTold (from_point point) number
+pub long_told : (point : ScriptState) (number : ℕ) → IsSound point → IsLongTold (from_point point) number
 long_told point number sound = record {
   telling = told_offence (long_offence number point);
   bad = refl;
@@ -123,12 +123,12 @@ long_refused s number line rest past long = by s.now.stage past
     by InBegin is = rw long refl
 
 -- and brings no processor up
-pub long_brings : (number : ℕ) (line : List ℕ) (point : Point) → IsSound point → 4096 < length line → (lines : List (List ℕ)) → newcomers_from number (line ∷ lines) point ≡ false
+pub long_brings : (number : ℕ) (line : List ℕ) (point : ScriptState) → IsSound point → 4096 < length line → (lines : List (List ℕ)) → newcomers_from number (line ∷ lines) point ≡ false
 long_brings number line (in_head now before) sound long lines =
     head_brings now before number line lines (offends (long_in now.stage number)) (long_head now before number line (grind (arith, nat_tests, long)))
 long_brings number line (in_body s) sound long lines = long_refused s number line (newcomers_in (number + 1) lines) sound (grind (arith, nat_tests, long))
 
 -- where no line is left of a front
-pub none_known : (number : ℕ) (point : Point) → told_lines None number [] point ≡ told [] Done
+pub none_known : (number : ℕ) (point : ScriptState) → told_lines None number [] point ≡ transcript_with [] Done
 none_known number (in_head now before) = refl
 none_known number (in_body s) = refl

@@ -15,7 +15,7 @@ use Rattle.mt_script.specs.declared.fault.ScriptFault.{ScriptFault}
 use Rattle.mt_replay.specs.Heads.{HeadEnd, head_end, shows_dump}
 use Rattle.mt_replay.specs.ReplayState.{ReplayState, first_state, state_after}
 use Rattle.mt_replay.specs.Steps.{course}
-use Rattle.mt_replay.specs.Transcript.{Point, in_body, in_head, transcript}
+use Rattle.mt_replay.specs.Transcript.{ScriptState, in_body, in_head, transcript}
 
 abbrev pub is_newcomer : Command → Bool
 is_newcomer command.Up = true
@@ -42,7 +42,7 @@ abbrev pub newcomers_by : HeadEnd → Bool
 newcomers_by (shows_dump now dump number lines) = newcomers_of_dump now dump (newcomers_in number lines) (first_refusal dump.files)
 newcomers_by other = false
 
-abbrev pub newcomers_from : ℕ → List (List ℕ) → Point → Bool
+abbrev pub newcomers_from : ℕ → List (List ℕ) → ScriptState → Bool
 newcomers_from number lines (in_head now before) = newcomers_by (head_end number lines now before)
 newcomers_from number lines (in_body s) = newcomers_in number lines s
 

@@ -187,21 +187,21 @@ task_of other = task.Act act.Nothing
 -- ---- what is done, and what it writes
 
 -- of a processor that is asked, if any, where it is there
-pub record Outcome : Type 0 where
+pub record Effect : Type 0 where
   pub text : List ℕ
   pub machine : Machine
   pub goal : RegisterFile
 
-abbrev pub leads_to : ReplayState → List ℕ → Machine → Outcome
+abbrev pub leads_to : ReplayState → List ℕ → Machine → Effect
 leads_to s text m = record { text = text; machine = m; goal = s.goal }
 
-abbrev pub asked_of : ReplayState → ℕ → Ask → Outcome
+abbrev pub asked_of : ReplayState → ℕ → Ask → Effect
 asked_of s k (ask.Access o) = leads_to s (accessed_line s.machine k o) (next s.machine (Accesses k o))
 asked_of s k (ask.Control c) = leads_to s (controlled_line s.machine k c) (next s.machine (Controls k c))
 asked_of s k ask.Step = leads_to s (stepped_line (file_at (step_after s.machine k).system.processors k s.goal) (step_answer s.machine k)) (step_after s.machine k)
 asked_of s k (ask.Register number) = leads_to s (register_line number (register_value s k number)) s.machine
 
-abbrev pub laid : ReplayState → Section → Outcome
+abbrev pub laid : ReplayState → Section → Effect
 laid s section.Begin = record { text = []; machine = s.machine; goal = first_file s }
 laid s (section.Register number value) = record { text = []; machine = s.machine; goal = with_register s.goal number value }
 laid s section.End =
@@ -209,7 +209,7 @@ laid s section.End =
     (if is_update s.now.stage then update_line s.machine s.goal else call_line s.machine s.goal)
     (if is_update s.now.stage then after_update s.machine s.goal else after_call s.machine s.goal)
 
-abbrev pub acted : ReplayState → Act → Outcome
+abbrev pub acted : ReplayState → Act → Effect
 acted s (act.Ask k a) = asked_of s k a
 acted s act.Go = leads_to s (go_line (is_undecided (go_of s.machine))) (after_word Goes s.machine)
 acted s act.Cancel = leads_to s (cancel_line (is_undecided (go_of s.machine))) (after_word Cancels s.machine)
@@ -219,12 +219,12 @@ acted s (act.Selfsnoop k) = leads_to s [] (snooped k s.machine)
 acted s (act.Section line) = laid s line
 acted s act.Nothing = leads_to s [] s.machine
 
-abbrev pub outcome : ReplayState → Task → Outcome
-outcome s task.Report = leads_to s (report_text s.machine.system.processors) s.machine
-outcome s (task.Window base lines) = leads_to s [] (grown (window base lines) s.machine)
-outcome s task.Up = leads_to s (up_text s.machine) (after_up s.machine)
-outcome s task.Join = leads_to s (join_text s.machine) (after_join s.machine)
-outcome s (task.Act a) = acted s a
+abbrev pub effect : ReplayState → Task → Effect
+effect s task.Report = leads_to s (report_text s.machine.system.processors) s.machine
+effect s (task.Window base lines) = leads_to s [] (grown (window base lines) s.machine)
+effect s task.Up = leads_to s (up_text s.machine) (after_up s.machine)
+effect s task.Join = leads_to s (join_text s.machine) (after_join s.machine)
+effect s (task.Act a) = acted s a
 
 -- the processor of which something is asked
 abbrev pub asked : Task → Option ℕ
@@ -236,18 +236,18 @@ abbrev pub misses : Machine → Task → Bool
 misses m t = option_map_or (λ k. not (nat_lt k (length m.system.processors))) (asked t) false
 
 abbrev pub done_text : ReplayState → Task → List ℕ
-done_text s t = if misses s.machine t then absent_line else (outcome s t).text
+done_text s t = if misses s.machine t then absent_line else (effect s t).text
 
 abbrev pub done_after : ReplayState → Task → Machine
-done_after s t = if misses s.machine t then s.machine else (outcome s t).machine
+done_after s t = if misses s.machine t then s.machine else (effect s t).machine
 
 -- ---- commands
 
 abbrev pub present_text : ReplayState → Command → List ℕ
-present_text s c = (outcome s (task_of c)).text
+present_text s c = (effect s (task_of c)).text
 
 abbrev pub present_after : ReplayState → Command → Machine
-present_after s c = (outcome s (task_of c)).machine
+present_after s c = (effect s (task_of c)).machine
 
 abbrev pub named : Command → Option ℕ
 named c = asked (task_of c)
@@ -262,7 +262,7 @@ abbrev pub machine_after : ReplayState → Command → Machine
 machine_after s c = done_after s (task_of c)
 
 abbrev pub goal_after : ReplayState → Command → RegisterFile
-goal_after s c = (outcome s (task_of c)).goal
+goal_after s c = (effect s (task_of c)).goal
 
 abbrev pub state_after : ReplayState → Command → ReplayState
 state_after s c = record { now = accepted s.now c; machine = machine_after s c; goal = goal_after s c }

@@ -21,30 +21,30 @@ use Rattle.mt_dump.specs.Dumps.{Dump}
 use Rattle.mt_stream.specs.Handling.{IsRunOfLines}
 use Rattle.mt_stream.specs.Lines.{AtLine, Path, Running, at_line, running}
 use Rattle.mt_output.specs.Ports.{Change, Held, Port, SinkRun, SourceRun, Waiting}
-use Rattle.mt_stream.specs.Runs.{AsksBy, RefusesMemory, RunsAs}
-use Rattle.mt_stream.specs.Told.{Told}
+use Rattle.mt_stream.specs.Results.{AsksBy, RefusesMemory, ResultsAs}
+use Rattle.mt_stream.specs.Transcript.{Transcript}
 use Rattle.mt_stream.specs.declared.ending.Stop.{Stop}
 use Rattle.mt_stream.specs.declared.ending.Stop.TheVariants.{NoMemory}
 use Rattle.mt_replay.specs.Kept.{HasEras}
 use Rattle.mt_replay.specs.Parts.{AsksForMemory}
 use Rattle.mt_replay.specs.ReplayState.{ReplayState, command_text, state_after}
 use Rattle.mt_replay.specs.Newcomers.{early, early_text, newcomers_from, newcomers_in, newcomers_of_dump}
-use Rattle.mt_replay.specs.Transcript.{Point, body_lines, from_point, in_body, in_head, replay_told, told_at_end, told_dump, told_lines, transcript}
+use Rattle.mt_replay.specs.Transcript.{ScriptState, body_lines, from_point, in_body, in_head, replay_told, told_at_end, told_dump, told_lines, transcript}
 use Rattle.mt_replay.specs.declared.line.Run.{Run}
 use Rattle.mt_replay.specs.declared.line.Run.TheVariants as run
 
 -- ---- a whole replay
 
 -- Memory is asked for before anything but the line `accepted` is written, unless a line `up` or `join` is read.
-abbrev pub ReplaysAs : Told → Held → Port → Status → Type 0
-ReplaysAs t source sink status = RunsAs (record { tells = t; early = early_text source.bytes }) replay_told source sink status
+abbrev pub ReplaysAs : Transcript → Held → Port → Status → Type 0
+ReplaysAs t source sink status = ResultsAs (record { tells = t; early = early_text source.bytes }) replay_told source sink status
 
 -- what is told is the transcript
 abbrev pub Replays : Held → Port → Status → Type 0
 Replays source sink status = ReplaysAs (transcript source.bytes) source sink status
 
 -- A line asks for memory where it ends a dump whose files are accepted, or is a command `ram`, or `up` or `join` where a processor may come. No other does.
-abbrev pub AsksAt : Point → ℕ → List ℕ → Type 0
+abbrev pub AsksAt : ScriptState → ℕ → List ℕ → Type 0
 AsksAt (in_head now before) number line = (dump : Dump) × (head_step now before number line ≡ shows dump) × (first_refusal dump.files ≡ None)
 AsksAt (in_body s) number line = (c : Command) × (command_of s.now number line ≡ Ok c) × AsksForMemory s.machine c
 
@@ -60,20 +60,20 @@ setup_of (run.Head h) = h.setup
 setup_of (run.Body r) = r.now
 
 -- the run stands at this point
-abbrev pub IsAt : Run → Point → Type 0
+abbrev pub IsAt : Run → ScriptState → Type 0
 IsAt (run.Head h) (in_head now before) = (h.setup ≡ now) × HasRead h.dump before
 IsAt (run.Head h) (in_body s) = ⊥
 IsAt (run.Body r) (in_head now before) = ⊥
 IsAt (run.Body r) (in_body s) = (r ≡ s) × (is_past_dump s.now.stage ≡ true)
 
 -- what is told where the text ends
-abbrev pub end_of_run : Run → Place → Told
+abbrev pub end_of_run : Run → Place → Transcript
 end_of_run now place = told_at_end (end_fault (setup_of now).stage place)
 
 -- Nothing but the line `accepted` is written where windows may be asked for, and no line `up` or `join` stands in the head of a script.
-abbrev pub IsQuiet : Run → Bool → List ℕ → Type 0
-IsQuiet (run.Head h) came text = (text ≡ []) × (came ≡ false)
-IsQuiet (run.Body r) came text = takes_windows r.now.stage ≡ true → text ≡ accepted_line
+abbrev pub HasOutput : Run → Bool → List ℕ → Type 0
+HasOutput (run.Head h) came text = (text ≡ []) × (came ≡ false)
+HasOutput (run.Body r) came text = takes_windows r.now.stage ≡ true → text ≡ accepted_line
 
 -- A text went through the writer, and the run goes on; or a write failed, and a front of it was taken.
 abbrev pub Writes : Waiting → List ℕ → Port → Result (Option Stop) Failed → Type 0
@@ -93,21 +93,21 @@ CarriesOut state c writer sink result =
     (λ failed. AppendsFront sink.old sink.new (writer.old ++ command_text state.old c))
 
 -- where lines stand at this point, behind a text, and whether a processor came up before
-abbrev pub path_from : Bool → List ℕ → Point → Path
+abbrev pub path_from : Bool → List ℕ → ScriptState → Path
 path_from came so_far p end number lines = record {
   tells = told_lines end number lines p;
   early = early (came || newcomers_from number lines p) so_far (told_lines end number lines p).text;
 }
 
 abbrev pub StandsAt : Run → List ℕ → Path → Type 0
-StandsAt now so_far was = (p : Point) × (came : Bool) × IsAt now p × IsQuiet now came so_far × (was ≡ path_from came so_far p)
+StandsAt now so_far was = (p : ScriptState) × (came : Bool) × IsAt now p × HasOutput now came so_far × (was ≡ path_from came so_far p)
 
 -- what a line of this number at a point, and those behind it, tell
-abbrev pub from_line : ℕ → List ℕ → Point → Option Place → List (List ℕ) → Told
+abbrev pub from_line : ℕ → List ℕ → ScriptState → Option Place → List (List ℕ) → Transcript
 from_line number line p end lines = told_lines end number (line ∷ lines) p
 
 -- and what a run that takes it finds behind a text, where a processor may have come up before
-abbrev pub line_at : Bool → List ℕ → ℕ → List ℕ → Point → AtLine
+abbrev pub line_at : Bool → List ℕ → ℕ → List ℕ → ScriptState → AtLine
 line_at came so_far number line p = at_line number line so_far (path_from came so_far p)
 
 -- The same at the end of a dump that is shown, the lines behind which have this number on. Nothing is written before it.

@@ -23,7 +23,7 @@ use Rattle.mt_script.specs.declared.fault.Offence.{Offence}
 use Rattle.mt_output.specs.Lines.{accepted_line, dump_refused_line, offence_line}
 use Rattle.mt_replay.specs.Heads.{HeadEnd, head_of, shows_dump}
 use Rattle.mt_replay.specs.Transcript.{told_offence, transcript}
-use Rattle.mt_stream.specs.Told.{told}
+use Rattle.mt_stream.specs.Transcript.{transcript_with}
 
 -- ---- the dump of a text
 
@@ -94,7 +94,7 @@ RefusedWhereFileIsRefused = (text : List ℕ) → ((transcript text).status ≡ 
 abbrev pub RefusedAlone : Type 0
 RefusedAlone =
     (text : List ℕ) (dump : Dump) (k : ℕ) (fault : Fault) → ShowsDump text dump → IsFirstRefusal dump.files k fault
-    → transcript text ≡ told (dump_refused_line dump.version k fault) Refused
+    → transcript text ≡ transcript_with (dump_refused_line dump.version k fault) Refused
 
 -- where no file is refused the status says whether the script has an offence
 abbrev pub BadTextWhereOffence : Type 0

@@ -18,23 +18,23 @@ use Rattle.mt_replay.specs.ReplayState.{ReplayState, command_text, first_state, 
 -- ---- steps
 
 -- A line behind the dump, with what it asks for, and the state that it finds.
-pub record Step : Type 0 where
+pub record ScriptStep : Type 0 where
   pub number : ℕ
   pub command : Command
   pub before : ReplayState
 
-abbrev pub wrote : Step → List ℕ
+abbrev pub wrote : ScriptStep → List ℕ
 wrote step = command_text step.before step.command
 
-abbrev pub left : Step → ReplayState
+abbrev pub left : ScriptStep → ReplayState
 left step = state_after step.before step.command
 
 -- of these lines, the first of which has this number, up to the first that is refused
-abbrev pub steps_of : ReplayState → ℕ → (ReplayState → List Step) → Result Command ScriptFault → List Step
+abbrev pub steps_of : ReplayState → ℕ → (ReplayState → List ScriptStep) → Result Command ScriptFault → List ScriptStep
 steps_of s number rest (Err fault) = []
 steps_of s number rest (Ok c) = record { number = number; command = c; before = s } ∷ rest (state_after s c)
 
-abbrev pub steps_in : ℕ → List (List ℕ) → ReplayState → List Step
+abbrev pub steps_in : ℕ → List (List ℕ) → ReplayState → List ScriptStep
 steps_in number [] s = []
 steps_in number (line ∷ lines) s = steps_of s number (steps_in (number + 1) lines) (command_of s.now number line)
 
@@ -66,10 +66,10 @@ begins_from number lines now before = begins_by (head_end number lines now befor
 abbrev pub beginning : List ℕ → Option Beginning
 beginning text = begins_by (head_of text)
 
-abbrev pub course : List ℕ → List Step
+abbrev pub course : List ℕ → List ScriptStep
 course text = option_map_or (λ b. steps_in b.number b.lines b.state) (beginning text) []
 
 -- the state that the last of these steps leaves, or this one
-abbrev pub last_of : ReplayState → List Step → ReplayState
+abbrev pub last_of : ReplayState → List ScriptStep → ReplayState
 last_of s [] = s
 last_of s (step ∷ steps) = last_of (left step) steps

@@ -14,7 +14,7 @@ use Rattle.mt_script.specs.Situation.{Situation}
 use Rattle.mt_replay.specs.Steps.{begins_from, last_of, steps_in}
 use Rattle.mt_replay.specs.ReplayState.{ReplayState, first_state}
 use Rattle.mt_replay.specs.Running.{IsAt}
-use Rattle.mt_replay.specs.Transcript.{Point, in_body, in_head}
+use Rattle.mt_replay.specs.Transcript.{ScriptState, in_body, in_head}
 use Rattle.mt_replay.specs.Summary.{is_complete, last_from, memory_sum, value_in}
 use Rattle.mt_replay.specs.declared.line.Run.{Run}
 use Rattle.mt_replay.specs.declared.line.Run.TheVariants as run
@@ -47,7 +47,7 @@ with_memory t last = record t { memory = memory_sum last % 2 ^ 64 }
 -- ---- the last state
 
 -- behind these lines, the first of which has this number, from a point on
-abbrev pub last_lines : ℕ → List (List ℕ) → Point → Option ReplayState
+abbrev pub last_lines : ℕ → List (List ℕ) → ScriptState → Option ReplayState
 last_lines number lines (in_head now before) = option_map last_from (begins_from number lines now before)
 last_lines number lines (in_body s) = Some (last_of s (steps_in number lines s))
 
@@ -56,17 +56,17 @@ state_in (run.Head h) = None
 state_in (run.Body r) = Some r
 
 -- The run goes on from another point, whatever lines stand behind.
-pub record LastsOn (number : ℕ) (line : List ℕ) (was : Point) (now : Run) : Type 0 where
-  pub next : Point
+pub record LastsOn (number : ℕ) (line : List ℕ) (was : ScriptState) (now : Run) : Type 0 where
+  pub next : ScriptState
   pub at : IsAt now next
   pub same : (lines : List (List ℕ)) → last_lines number (line ∷ lines) was ≡ last_lines (number + 1) lines next
 
 -- The run stands at the last state, whatever lines stand behind.
-abbrev pub LastsHere : ℕ → List ℕ → Point → Run → Type 0
+abbrev pub LastsHere : ℕ → List ℕ → ScriptState → Run → Type 0
 LastsHere number line was now = (lines : List (List ℕ)) → last_lines number (line ∷ lines) was ≡ state_in now
 
 -- what a run makes of one line
-abbrev pub Lasts : ℕ → List ℕ → Point → Run → Result (Option Stop) Failed → Type 0
+abbrev pub Lasts : ℕ → List ℕ → ScriptState → Run → Result (Option Stop) Failed → Type 0
 Lasts number line was now result =
     MatchResult result
     (λ ended. MatchOption ended (LastsOn number line was now) (λ stop. stop ≢ NoMemory → LastsHere number line was now))

@@ -116,7 +116,7 @@ fn common_era(core: &Core) -> u64
 }
 
 // Calls an update to these registers, and answers why it isn't begun.
-fn begin(core: &mut Core, goal: &RegFile) -> Option<CallFault>
+fn call_update(core: &mut Core, goal: &RegFile) -> Option<CallFault>
     requires some { 0 < length core.old.system.processors }
     requires fits { All (FitsGoal goal.now) core.old.system.processors }
     requires room { HasEraRoom core.old }
@@ -133,7 +133,7 @@ fn begin(core: &mut Core, goal: &RegFile) -> Option<CallFault>
 }
 
 // Updates the processors to these registers, each on a thread of its own, and answers why it isn't begun.
-fn lead<R: Threads + Wait + Sync, G: Gate>(
+fn run_update<R: Threads + Wait + Sync, G: Gate>(
     caller: &Caller<R, G>,
     alloc: Global,
     core: &mut Core,
@@ -169,7 +169,7 @@ pub(crate) fn update<R: Threads + Wait + Sync, G: Gate>(
     ensures text { writer.new ≡ writer.old ++ update_line core.old goal.now }
     ensures after { core.new ≡ after_update core.old goal.now }
 {
-    match lead(caller, alloc, core, goal) {
+    match run_update(caller, alloc, core, goal) {
         None => writer.append(complete_line(common_era(core)).as_slice()),
         Some(fault) => writer.append(call_fault_line(&fault).as_slice()),
     }
@@ -185,7 +185,7 @@ pub(crate) fn call(writer: &mut Writer, core: &mut Core, goal: &RegFile)
     ensures text { writer.new ≡ writer.old ++ call_line core.old goal.now }
     ensures after { core.new ≡ after_call core.old goal.now }
 {
-    match begin(core, goal) {
+    match call_update(core, goal) {
         None => writer.append(called_line().as_slice()),
         Some(fault) => writer.append(call_fault_line(&fault).as_slice()),
     }

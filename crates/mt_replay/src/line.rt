@@ -10,11 +10,11 @@ ghost use Rattle.mt_dump.specs.ForProcessors.{has_each};
 ghost use Rattle.mt_replay.specs.Kept.{HasEras};
 ghost use Rattle.mt_replay.specs.Parts.{AsksForMemory};
 ghost use Rattle.mt_replay.specs.ReplayState.{ReplayState, command_text, may_come, state_after, task_of};
-ghost use Rattle.mt_replay.specs.Running.{AsksAt, CarriesOut, HasEraRoomAt, HasErasAt, IsAt, IsQuiet, Writes, StandsAt, dump_at, line_at, setup_of};
+ghost use Rattle.mt_replay.specs.Running.{AsksAt, CarriesOut, HasEraRoomAt, HasErasAt, IsAt, HasOutput, Writes, StandsAt, dump_at, line_at, setup_of};
 ghost use Rattle.mt_stream.specs.Lines.{IfGoesOn, Takes};
 ghost use Rattle.mt_output.specs.Ports.{change, port};
 ghost use Rattle.mt_replay.specs.Summing.{Begins, Lasts, state_in};
-ghost use Rattle.mt_replay.specs.Transcript.{Point, in_body};
+ghost use Rattle.mt_replay.specs.Transcript.{ScriptState, in_body};
 
 use crate::commands::task_of;
 use crate::replayer::Replayer;
@@ -229,7 +229,7 @@ fn take_command<R: Threads + Wait + Sync, K: Sink, G: Gate>(
     sink: &mut K,
 ) -> Result<Option<Stop>, Failed>
     requires { HasEraRoom replayer.old.machine }
-    ensures bytes { (came : Bool) (so_far : List ℕ) → IsQuiet (Run.Body replayer.old) came so_far →
+    ensures bytes { (came : Bool) (so_far : List ℕ) → HasOutput (Run.Body replayer.old) came so_far →
         Takes (StandsAt (Run.Body replayer.new)) (line_at came so_far line.now.number line.now.bytes.now (in_body replayer.old))
         (change writer.old writer.new) (port K.taken sink.old sink.new) result }
     ensures eras { (most : ℕ) → HasEras most replayer.old → IfGoesOn result (HasEras (most + 1) replayer.new) }
@@ -254,11 +254,11 @@ fn take_in_head<K: Sink>(
     sink: &mut K,
 ) -> Result<Option<Stop>, Failed>
     requires { (replayer : ReplayState) → run.old ≢ Run.Body replayer }
-    ensures bytes { (came : Bool) (so_far : List ℕ) (was : Point) → IsAt run.old was → IsQuiet run.old came so_far →
+    ensures bytes { (came : Bool) (so_far : List ℕ) (was : ScriptState) → IsAt run.old was → HasOutput run.old came so_far →
         Takes (StandsAt run.new) (line_at came so_far line.now.number line.now.bytes.now was) (change writer.old writer.new) (port K.taken sink.old sink.new) result }
     ensures eras { (most : ℕ) → HasErasAt most run.old → IfGoesOn result (HasErasAt (most + 1) run.new) }
-    ensures asks { (was : Point) → IsAt run.old was → result ≡ Ok (Some Stop.NoMemory) → AsksAt was line.now.number line.now.bytes.now }
-    ensures last { (was : Point) → IsAt run.old was → Lasts line.now.number line.now.bytes.now was run.new result }
+    ensures asks { (was : ScriptState) → IsAt run.old was → result ≡ Ok (Some Stop.NoMemory) → AsksAt was line.now.number line.now.bytes.now }
+    ensures last { (was : ScriptState) → IsAt run.old was → Lasts line.now.number line.now.bytes.now was run.new result }
     ensures cause { HasCause (K.faults sink.old) (K.faults sink.new) result }
 {
     let head = match run {
@@ -285,11 +285,11 @@ pub(crate) fn take_line<R: Threads + Wait + Sync, K: Sink, G: Gate>(
     sink: &mut K,
 ) -> Result<Option<Stop>, Failed>
     requires { HasEraRoomAt run.old }
-    ensures bytes { (came : Bool) (so_far : List ℕ) (was : Point) → IsAt run.old was → IsQuiet run.old came so_far →
+    ensures bytes { (came : Bool) (so_far : List ℕ) (was : ScriptState) → IsAt run.old was → HasOutput run.old came so_far →
         Takes (StandsAt run.new) (line_at came so_far line.now.number line.now.bytes.now was) (change writer.old writer.new) (port K.taken sink.old sink.new) result }
     ensures eras { (most : ℕ) → HasErasAt most run.old → IfGoesOn result (HasErasAt (most + 1) run.new) }
-    ensures asks { (was : Point) → IsAt run.old was → result ≡ Ok (Some Stop.NoMemory) → AsksAt was line.now.number line.now.bytes.now }
-    ensures last { (was : Point) → IsAt run.old was → Lasts line.now.number line.now.bytes.now was run.new result }
+    ensures asks { (was : ScriptState) → IsAt run.old was → result ≡ Ok (Some Stop.NoMemory) → AsksAt was line.now.number line.now.bytes.now }
+    ensures last { (was : ScriptState) → IsAt run.old was → Lasts line.now.number line.now.bytes.now was run.new result }
     ensures cause { HasCause (K.faults sink.old) (K.faults sink.new) result }
 {
     match run {

@@ -16,7 +16,7 @@ use std::thread::Threads;
 impl LineRun for Run {
     ghost use Rattle.mt_replay.specs.Running.{AsksAt, HasErasAt, StandsAt, end_of_run};
     ghost use Rattle.mt_replay.specs.Transcript.{from_point};
-    ghost use Rattle.mt_stream.specs.Runs.{AsksBy};
+    ghost use Rattle.mt_stream.specs.Results.{AsksBy};
 
     ghost at = { StandsAt };
 
@@ -26,7 +26,7 @@ impl LineRun for Run {
 
     ghost ready = { HasErasAt };
 
-    fn finish<K: Sink>(
+    fn write_end<K: Sink>(
         &self,
         end: Place,
         writer: &mut Writer,

@@ -18,10 +18,10 @@ use Rattle.mt_script.specs.declared.fault.ScriptFault.{ScriptFault}
 use Rattle.mt_script.specs.declared.fault.Offence.TheVariants.{Script}
 use Rattle.mt_output.specs.Lines.{accepted_line, dump_refused_line}
 use Rattle.mt_stream.specs.Known.{known_text}
-use Rattle.mt_stream.specs.Told.{told}
+use Rattle.mt_stream.specs.Transcript.{transcript_with}
 use Rattle.mt_stream.proofs.KnownLines.{LeadsOn, Walks, known_is_front}
 use Rattle.mt_replay.specs.ReplayState.{ReplayState, command_text, first_state, state_after}
-use Rattle.mt_replay.specs.Transcript.{Point, from_point, in_body, in_head, replay_told, told_offence, transcript}
+use Rattle.mt_replay.specs.Transcript.{ScriptState, from_point, in_body, in_head, replay_told, told_offence, transcript}
 use Rattle.mt_replay.proofs.Keeping.States.{command_known}
 use Rattle.mt_replay.proofs.Taking.{dump_accepted, dump_refused, fault_leads, leads}
 use Rattle.mt_replay.proofs.Walks.{IsSound, head_leads, long_told, none_known}
@@ -49,7 +49,7 @@ past_kept now other past fits = refl
 by_dump : (now : Situation) (before : List Reading) (number : ℕ) (line : List ℕ) (dump : Dump) → head_step now before number line ≡ shows dump → (refusal : Option (ℕ × Fault)) → first_refusal dump.files ≡ refusal
     → LeadsOn from_point IsSound (in_head now before) number line
 by_dump now before number line dump step (Some refusal) is = inr (
-  told (dump_refused_line dump.version refusal.0 refusal.1) Refused,
+  transcript_with (dump_refused_line dump.version refusal.0 refusal.1) Refused,
   λ end lines. head_leads now before number line (shows dump) step end lines ∙ dump_refused now dump (number + 1) refusal is end lines,
 )
 by_dump now before number line dump step None is = inl (
@@ -68,7 +68,7 @@ by_command : (s : ReplayState) (number : ℕ) (line : List ℕ) → is_past_dump
 by_command s number line past (Err fault) is = inr (told_offence (Script fault), fault_leads s number line fault is)
 by_command s number line past (Ok c) is = inl (command_text s c, in_body (state_after s c), past_kept s.now c past (command_known s.now number line c is), leads s c number line is)
 
-by_line : (p : Point) (number : ℕ) (line : List ℕ) → IsSound p → LeadsOn from_point IsSound p number line
+by_line : (p : ScriptState) (number : ℕ) (line : List ℕ) → IsSound p → LeadsOn from_point IsSound p number line
 by_line (in_head now before) number line sound = by_step now before number line (head_step now before number line) refl
 by_line (in_body s) number line sound = by_command s number line sound (command_of s.now number line) refl
 
@@ -76,4 +76,4 @@ lines_walk : Walks from_point IsSound
 lines_walk = record { unknown = λ p number. none_known number p; leads = by_line; long = long_told }
 
 pub known_write_front : (front more : List ℕ) → (rest : List ℕ) × ((transcript (front ++ more)).text ≡ known_text replay_told front ++ rest)
-known_write_front front more = known_is_front Point from_point IsSound lines_walk (in_head at_start []) tt front more
+known_write_front front more = known_is_front ScriptState from_point IsSound lines_walk (in_head at_start []) tt front more

@@ -25,7 +25,7 @@ use Rattle.mt_script.proofs.Ends.{ended}
 use Rattle.mt_machine.specs.Machine.{Machine}
 use Rattle.mt_machine.specs.Update.{IsSettled, updated}
 use Rattle.mt_core.specs.Rounds.{in_order}
-use Rattle.mt_stream.specs.Told.{Told, told_from, told_step}
+use Rattle.mt_stream.specs.Transcript.{Transcript, told_from, told_step}
 use Rattle.mt_proc.specs.declared.applying.Applied.{Applied}
 use Rattle.mt_proc.specs.declared.applying.Applied.TheVariants.{BadRange, Goal, NoneFree, NotUsed}
 use Rattle.mt_proc.specs.declared.request.Request.{Request}
@@ -34,7 +34,7 @@ use Rattle.mt_proc.specs.declared.request.ProcFault.{ProcFault}
 use Rattle.mt_proc.specs.After.{Served, answer_text, at_first, change_text, done_text, end_text, with_change, with_goal}
 use Rattle.mt_proc.specs.Applied.{applied}
 use Rattle.mt_replay_laws.specs.ProcCourses.{LeavesSettled, ProcStep, TellsOfMachines, steps_after, steps_begun, steps_by, steps_from, steps_in, texts_of}
-use Rattle.mt_proc.specs.Proc.{Point, begins, in_dump, in_requests, of_head, of_request, proc_end, proc_step, request_fault_line, situation_of}
+use Rattle.mt_proc.specs.Proc.{RequestState, begins, in_dump, in_requests, of_head, of_request, proc_end, proc_step, request_fault_line, situation_of}
 use Rattle.mt_proc.specs.Requests.{request_of}
 use Rattle.mt_proc.specs.Serving.{changed, files_of, idle, idling, served, standing}
 use Rattle.mt_proc.proofs.Beginning.{first_for}
@@ -130,7 +130,7 @@ abbrev AllSettle : ℕ → List ProcStep → Type 0
 AllSettle cpus steps = AllByRecursion (LeavesSettled cpus) steps
 
 -- these requests are told, and then more
-abbrev TellsOf : Told → List ProcStep → Type 0
+abbrev TellsOf : Transcript → List ProcStep → Type 0
 TellsOf t steps = (more : List ℕ) × (t.text ≡ texts_of steps ++ more)
 
 module _ (cpus : ℕ) (some : 0 < cpus) where
@@ -167,7 +167,7 @@ module _ (cpus : ℕ) (some : 0 < cpus) where
 
   -- ---- what is told of them
 
-  tells_by : (m : Machine) (tell : Point → Told) (rest : Machine → List ProcStep) → Idles cpus m → ((next : Machine) → Idles cpus next → TellsOf (tell (in_requests (served next))) (rest next)) → (read : Result (Option Request) ProcFault)
+  tells_by : (m : Machine) (tell : RequestState → Transcript) (rest : Machine → List ProcStep) → Idles cpus m → ((next : Machine) → Idles cpus next → TellsOf (tell (in_requests (served next))) (rest next)) → (read : Result (Option Request) ProcFault)
       → TellsOf (told_step tell (of_request (served m) read)) (steps_by m rest read)
   tells_by m tell rest idles later (Err fault) = (request_fault_line fault, refl)
   tells_by m tell rest idles later (Ok None) = later m idles
@@ -183,7 +183,7 @@ module _ (cpus : ℕ) (some : 0 < cpus) where
   tells_in end number (line ∷ lines) m idles =
       tells_by m (told_from (proc_step cpus) (proc_end end) (number + 1) lines) (steps_in (number + 1) lines) idles (λ next i. tells_in end (number + 1) lines next i) (request_of number line)
 
-  tells_head : (tell : Point → Told) (head : List Reading → List ProcStep) (rest : Machine → List ProcStep) → ((after : List Reading) → TellsOf (tell (in_dump after)) (head after))
+  tells_head : (tell : RequestState → Transcript) (head : List Reading → List ProcStep) (rest : Machine → List ProcStep) → ((after : List Reading) → TellsOf (tell (in_dump after)) (head after))
       → ((m : Machine) → Idles cpus m → TellsOf (tell (in_requests (served m))) (rest m)) → (step : HeadStep) → ((dump : Dump) → step ≡ shows dump → has_each cpus dump ≡ true)
       → TellsOf (told_step tell (of_head step)) (steps_after cpus head rest step)
   tells_head tell head rest heads later (goes_on now after) each = heads after

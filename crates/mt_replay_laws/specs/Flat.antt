@@ -25,7 +25,7 @@ use Rattle.mt_replay.specs.Texts.{absent_line, done_line}
 use Rattle.mt_replay.specs.ReplayState.{ReplayState, call_fault, each_processor, is_absent, is_update, mapping, may_come, may_go, present_text, state_after}
 use Rattle.mt_replay.specs.Heads.{head_of}
 use Rattle.mt_replay.specs.Transcript.{told_at_end, told_by, told_last, told_offence, transcript}
-use Rattle.mt_stream.specs.Told.{Told, behind}
+use Rattle.mt_stream.specs.Transcript.{Transcript, behind}
 
 -- ---- what the flat machine is given
 
@@ -82,16 +82,16 @@ flat_present_text s f other = present_text s other
 abbrev pub flat_text : ReplayState → Flat → Command → List ℕ
 flat_text s f c = if is_absent s.machine c then absent_line else flat_present_text s f c
 
-abbrev pub flat_told_command : ReplayState → Flat → (ReplayState → Flat → Told) → Result Command ScriptFault → Told
+abbrev pub flat_told_command : ReplayState → Flat → (ReplayState → Flat → Transcript) → Result Command ScriptFault → Transcript
 flat_told_command s f rest (Err fault) = told_offence (offence.Script fault)
 flat_told_command s f rest (Ok c) = behind (flat_text s f c) (rest (state_after s c) (flat_command s c f))
 
-abbrev pub flat_told_in : Place → ℕ → List (List ℕ) → ReplayState → Flat → Told
+abbrev pub flat_told_in : Place → ℕ → List (List ℕ) → ReplayState → Flat → Transcript
 flat_told_in end number [] s f = told_at_end (end_fault s.now.stage end)
 flat_told_in end number (line ∷ lines) s f = flat_told_command s f (flat_told_in end (number + 1) lines) (command_of s.now number line)
 
 -- the flat machine is at its start where the machine is
-abbrev pub flat_transcript : List ℕ → Told
+abbrev pub flat_transcript : List ℕ → Transcript
 flat_transcript text = told_by (told_last (Some (end_of text))) (λ number lines s. flat_told_in (end_of text) number lines s flat_start) (head_of text)
 
 -- caches are never seen: each value in a transcript is the flat machine's

@@ -36,22 +36,22 @@ use Rattle.mt_replay_laws.specs.Settling.{emptied_now, stored_by}
 use Rattle.mt_replay.specs.Statuses.{ShowsDump}
 use Rattle.mt_replay.specs.Texts.{called_line, complete_line, joined_line, under_way_line, up_line}
 use Rattle.mt_replay.specs.Transcript.{told_offence, transcript}
-use Rattle.mt_stream.specs.Told.{Told, behind, told}
-use Rattle.mt_replay.specs.Steps.{Step, wrote, left, Beginning, beginning, course, last_of}
+use Rattle.mt_stream.specs.Transcript.{Transcript, behind, transcript_with}
+use Rattle.mt_replay.specs.Steps.{ScriptStep, wrote, left, Beginning, beginning, course, last_of}
 
 -- ---- "the tool writes exactly the transcript of the manual's machine"
 
-abbrev pub joined : List Step → List ℕ
+abbrev pub joined : List ScriptStep → List ℕ
 joined [] = []
 joined (step ∷ steps) = wrote step ++ joined steps
 
 -- the line of the first offence, where there is one
-abbrev pub ending : Option Offence → Told
-ending None = told [] Done
+abbrev pub ending : Option Offence → Transcript
+ending None = transcript_with [] Done
 ending (Some o) = told_offence o
 
 -- the line `accepted`, what the steps write, and the ending
-abbrev pub told_by_course : List ℕ → Told
+abbrev pub told_by_course : List ℕ → Transcript
 told_by_course text = behind accepted_line (behind (joined (course text)) (ending (script_offence text)))
 
 -- the transcript is that text, with its status
@@ -68,12 +68,12 @@ ReplaysAreOfTheCourse =
 abbrev pub TranscriptIsOneLine : Type 0
 TranscriptIsOneLine =
     (text : List ℕ) → beginning text ≡ None
-    → ((o : Offence) × (transcript text ≡ told_offence o)) ⊎ ((version : ℕ) × (k : ℕ) × (fault : Fault) × (transcript text ≡ told (dump_refused_line version k fault) Refused))
+    → ((o : Offence) × (transcript text ≡ told_offence o)) ⊎ ((version : ℕ) × (k : ℕ) × (fault : Fault) × (transcript text ≡ transcript_with (dump_refused_line version k fault) Refused))
 
 -- a step is what the script's line of its number asks for
 abbrev pub StepsAreOfTheirLines : Type 0
 StepsAreOfTheirLines =
-    (text : List ℕ) (front rest : List Step) (step : Step) → course text ≡ front ++ step ∷ rest
+    (text : List ℕ) (front rest : List ScriptStep) (step : ScriptStep) → course text ≡ front ++ step ∷ rest
     → (above : List (List ℕ)) × (line : List ℕ) × (below : List (List ℕ))
     × (lines_of text ≡ above ++ line ∷ below) × (step.number ≡ length above + 1) × (command_of step.before.now step.number line ≡ Ok step.command)
 
@@ -82,62 +82,62 @@ abbrev pub StartsAsTheDumpShows : Type 0
 StartsAsTheDumpShows =
     (text : List ℕ) (dump : Dump) → ShowsDump text dump → All IsAccepted dump.files
     → (b : Beginning) × (beginning text ≡ Some b) × (b.state.machine ≡ start_of b.state.now dump)
-    × ((step : Step) (rest : List Step) → course text ≡ step ∷ rest → step.before ≡ b.state)
+    × ((step : ScriptStep) (rest : List ScriptStep) → course text ≡ step ∷ rest → step.before ≡ b.state)
 
 -- each step finds what the one before it left
 abbrev pub StepsFollow : Type 0
-StepsFollow = (text : List ℕ) (front rest : List Step) (first second : Step) → course text ≡ front ++ first ∷ second ∷ rest → second.before ≡ left first
+StepsFollow = (text : List ℕ) (front rest : List ScriptStep) (first second : ScriptStep) → course text ≡ front ++ first ∷ second ∷ rest → second.before ≡ left first
 
 -- what holds through a text holds where each step begins and ends
 abbrev pub StatesAreOfTheCourse : Type 0
 StatesAreOfTheCourse =
     (text : List ℕ) (test : ReplayState → Bool) → HoldsThrough (λ s. test s ≡ true) text
-    → (front rest : List Step) (step : Step) → course text ≡ front ++ step ∷ rest → (test step.before ≡ true) × (test (left step) ≡ true)
+    → (front rest : List ScriptStep) (step : ScriptStep) → course text ≡ front ++ step ∷ rest → (test step.before ≡ true) × (test (left step) ≡ true)
 
 -- ---- "an accepted update"
 
 -- the end of a section calls for an update
-abbrev pub IsSectionCall : Step → Type 0
+abbrev pub IsSectionCall : ScriptStep → Type 0
 IsSectionCall step = (wrote step ≡ called_line) ⊎ ((era : ℕ) × (wrote step ≡ complete_line era))
 
 -- so does a processor that comes up, and one that joins
-abbrev pub ComesUp : Step → ℕ → Type 0
+abbrev pub ComesUp : ScriptStep → ℕ → Type 0
 ComesUp step k = (step.command ≡ command.Up) × (wrote step ≡ up_line k)
 
-abbrev pub Joins : Step → ℕ → Type 0
+abbrev pub Joins : ScriptStep → ℕ → Type 0
 Joins step k = (step.command ≡ command.Join) × (wrote step ≡ joined_line k)
 
-abbrev pub IsNewcomer : Step → Type 0
+abbrev pub IsNewcomer : ScriptStep → Type 0
 IsNewcomer step = (k : ℕ) × (ComesUp step k ⊎ Joins step k)
 
 -- a step calls for an update
-abbrev pub IsCall : Step → Type 0
+abbrev pub IsCall : ScriptStep → Type 0
 IsCall step = IsSectionCall step ⊎ IsNewcomer step
 
 -- an update is accepted exactly where none is under way and its goal has no fault
 abbrev pub AcceptedWhereIdleAndWhole : Type 0
 AcceptedWhereIdleAndWhole =
-    (text : List ℕ) (front rest : List Step) (step : Step) → course text ≡ front ++ step ∷ rest → step.command ≡ command.End
+    (text : List ℕ) (front rest : List ScriptStep) (step : ScriptStep) → course text ≡ front ++ step ∷ rest → step.command ≡ command.End
     → IsCall step ↔ ((step.before.machine.order ≡ None) × IsAccepted step.before.goal)
 
 -- that of a newcomer exactly where none is under way and fewer than sixteen processors stand; its number is the next
 abbrev pub NewcomersWhereIdle : Type 0
 NewcomersWhereIdle =
-    (text : List ℕ) (front rest : List Step) (step : Step) → course text ≡ front ++ step ∷ rest → BringsUp step.command
+    (text : List ℕ) (front rest : List ScriptStep) (step : ScriptStep) → course text ≡ front ++ step ∷ rest → BringsUp step.command
     → IsCall step ↔ ((step.before.machine.order ≡ None) × (length step.before.machine.system.processors < 16))
 
 -- ---- "until the next is called"
 
 -- of no step it holds
-abbrev pub NoneOf : (Step → Type 0) → List Step → Type 0
+abbrev pub NoneOf : (ScriptStep → Type 0) → List ScriptStep → Type 0
 NoneOf P [] = ⊤
 NoneOf P (step ∷ steps) = (P step → ⊥) × NoneOf P steps
 
-abbrev pub NoneWrote : List ℕ → List Step → Type 0
+abbrev pub NoneWrote : List ℕ → List ScriptStep → Type 0
 NoneWrote text steps = NoneOf (λ step. wrote step ≡ text) steps
 
 -- the era of the processors after an update that this step begins
-abbrev pub next_era : Step → ℕ
+abbrev pub next_era : ScriptStep → ℕ
 next_era step = common_era step.before.machine.system.processors + 1
 
 -- ---- "those register values"
@@ -147,16 +147,16 @@ abbrev pub given : RegisterFile → Command → RegisterFile
 given goal (command.Register number value) = with_register goal number value
 given goal other = goal
 
-abbrev pub goal_of : RegisterFile → List Step → RegisterFile
+abbrev pub goal_of : RegisterFile → List ScriptStep → RegisterFile
 goal_of goal [] = goal
 goal_of goal (step ∷ steps) = goal_of (given goal step.command) steps
 
 -- The section that a call ends: the step that begins it, and its lines. The goal is processor 0's registers where it begins,
 -- with those that its lines give.
-pub record SectionOf (front : List Step) (call : Step) : Type 0 where
-  pub before : List Step
-  pub opens : Step
-  pub lines : List Step
+pub record SectionOf (front : List ScriptStep) (call : ScriptStep) : Type 0 where
+  pub before : List ScriptStep
+  pub opens : ScriptStep
+  pub lines : List ScriptStep
   pub stand : front ≡ before ++ opens ∷ lines
   pub begins : (opens.command ≡ command.Update) ⊎ (opens.command ≡ command.Begin)
   pub no_other_end : NoneOf (λ step. step.command ≡ command.End) lines
@@ -166,7 +166,7 @@ pub record SectionOf (front : List Step) (call : Step) : Type 0 where
 -- each call but for a newcomer ends a section of this script, which gives its goal
 abbrev pub GoalsAreOfTheirSections : Type 0
 GoalsAreOfTheirSections =
-    (text : List ℕ) (front rest : List Step) (call : Step) → course text ≡ front ++ call ∷ rest → IsSectionCall call → SectionOf front call
+    (text : List ℕ) (front rest : List ScriptStep) (call : ScriptStep) → course text ≡ front ++ call ∷ rest → IsSectionCall call → SectionOf front call
 
 -- for a newcomer the goal is processor 0's registers
 abbrev pub goal_by : Command → ReplayState → RegisterFile
@@ -174,7 +174,7 @@ goal_by command.Up s = first_file s
 goal_by command.Join s = first_file s
 goal_by other s = s.goal
 
-abbrev pub called_goal : Step → RegisterFile
+abbrev pub called_goal : ScriptStep → RegisterFile
 called_goal step = goal_by step.command step.before
 
 -- ---- "every processor holds those register values, no cache, buffer or TLB entry is older than the update,
@@ -186,7 +186,7 @@ pub record Keeps (goal : RegisterFile) (era : ℕ) (value : ℕ → ℕ) (stored
   pub held : (address : ℕ) → IsSome (place m.system.memory address) → (Contains stored address → ⊥) → word_at m.system.memory address ≡ value address
 
 -- the words for which a store of these steps was answered `stored`
-abbrev pub stored_in : List Step → List ℕ
+abbrev pub stored_in : List ScriptStep → List ℕ
 stored_in [] = []
 stored_in (step ∷ steps) = option_map_or (λ a. a ∷ stored_in steps) (stored_by step.before step.command) (stored_in steps)
 
@@ -195,7 +195,7 @@ stored_in (step ∷ steps) = option_map_or (λ a. a ∷ stored_in steps) (stored
 -- the value of a word is what it had, cached or not, once the buffers were emptied
 abbrev pub CompleteUpdatesAreKept : Type 0
 CompleteUpdatesAreKept =
-    (text : List ℕ) (front since rest : List Step) (update : Step) (era : ℕ)
+    (text : List ℕ) (front since rest : List ScriptStep) (update : ScriptStep) (era : ℕ)
     → course text ≡ front ++ update ∷ (since ++ rest) → wrote update ≡ complete_line era → NoneOf IsCall since
     → (wrote update ≡ complete_line (next_era update))
     × Keeps update.before.goal (next_era update) (emptied_now update.before.machine) (stored_in since) (last_of (left update) since).machine
@@ -203,14 +203,14 @@ CompleteUpdatesAreKept =
 -- ---- the same, by `joined K`
 
 -- the newcomer's number is the next, and it stands behind the others
-pub record HasNewcomer (step : Step) : Type 0 where
+pub record HasNewcomer (step : ScriptStep) : Type 0 where
   pub number : wrote step ≡ joined_line (length step.before.machine.system.processors)
   pub one_more : length (left step).machine.system.processors ≡ length step.before.machine.system.processors + 1
 
 -- all processors hold the registers that the first one had, the newcomer among them
 abbrev pub JoinsAreKept : Type 0
 JoinsAreKept =
-    (text : List ℕ) (front since rest : List Step) (join : Step) (k : ℕ)
+    (text : List ℕ) (front since rest : List ScriptStep) (join : ScriptStep) (k : ℕ)
     → course text ≡ front ++ join ∷ (since ++ rest) → Joins join k → NoneOf IsCall since
     → HasNewcomer join
     × Keeps (first_file join.before) (next_era join) (emptied_now (with_newcomer join.before.machine)) (stored_in since) (last_of (left join) since).machine
@@ -224,19 +224,19 @@ abbrev pub release_line : List ℕ
 release_line = line (codes "release")
 
 -- by the end of a section of `begin`, or for a processor that comes up
-abbrev pub IsCalled : Step → Type 0
+abbrev pub IsCalled : ScriptStep → Type 0
 IsCalled step = (wrote step ≡ called_line) ⊎ ((k : ℕ) × ComesUp step k)
 
 -- The update of which a release tells. In this order stand in the course: its call, its first pass, its first release, and this
 -- release, which may be the first itself.
-pub record UpdateOf (front : List Step) (release : Step) : Type 0 where
-  pub before : List Step
-  pub call : Step
-  pub waiting : List Step
-  pub pass : Step
-  pub between : List Step
-  pub first : Step
-  pub again : List Step  -- from behind the first release to this one
+pub record UpdateOf (front : List ScriptStep) (release : ScriptStep) : Type 0 where
+  pub before : List ScriptStep
+  pub call : ScriptStep
+  pub waiting : List ScriptStep
+  pub pass : ScriptStep
+  pub between : List ScriptStep
+  pub first : ScriptStep
+  pub again : List ScriptStep  -- from behind the first release to this one
   pub stand : front ++ release ∷ [] ≡ before ++ call ∷ (waiting ++ pass ∷ (between ++ first ∷ again))
   pub calls : IsCalled call
   pub passes : wrote pass ≡ pass_line
@@ -249,17 +249,17 @@ pub record UpdateOf (front : List Step) (release : Step) : Type 0 where
 -- the value of a word is what it had, cached or not, just before the first pass
 abbrev pub ReleasedUpdatesAreKept : Type 0
 ReleasedUpdatesAreKept =
-    (text : List ℕ) (front since rest : List Step) (release : Step)
+    (text : List ℕ) (front since rest : List ScriptStep) (release : ScriptStep)
     → course text ≡ front ++ release ∷ (since ++ rest) → wrote release ≡ release_line → NoneOf IsCall since
     → (u : UpdateOf front release)
     × Keeps (called_goal u.call) (next_era u.call) (now u.pass.before.machine.system) (stored_in (u.again ++ since)) (last_of (left release) since).machine
 
 -- ---- "a refused update changes no processor"
 
-abbrev pub IsRefused : Step → Type 0
+abbrev pub IsRefused : ScriptStep → Type 0
 IsRefused step = ((fault : Fault) × (wrote step ≡ refused_line fault)) ⊎ (wrote step ≡ under_way_line)
 
 -- nor memory, nor an update under way; nor does a processor come or go
 abbrev pub RefusedUpdatesChangeNothing : Type 0
 RefusedUpdatesChangeNothing =
-    (text : List ℕ) (front rest : List Step) (step : Step) → course text ≡ front ++ step ∷ rest → IsRefused step → (left step).machine ≡ step.before.machine
+    (text : List ℕ) (front rest : List ScriptStep) (step : ScriptStep) → course text ≡ front ++ step ∷ rest → IsRefused step → (left step).machine ≡ step.before.machine

@@ -5,31 +5,31 @@
 use Rattle.std.specs.Prelude.{ℕ, ◌≡◌, ◌<◌, ◌≤◌, ◌⊎◌, ◌↔◌, List, length, IsSome, None}
 use Rattle.mt_machine.specs.ComingAndGoing.{last_number, without_last}
 use Rattle.mt_script.specs.declared.command.Command.TheVariants as command
-use Rattle.mt_replay.specs.Steps.{Step, left, wrote}
+use Rattle.mt_replay.specs.Steps.{ScriptStep, left, wrote}
 use Rattle.mt_replay_laws.specs.Coming.{BringsUp}
 use Rattle.mt_replay.specs.Texts.{full_line, no_line, retired_line, under_way_line}
 
-abbrev pub count_before : Step → ℕ
+abbrev pub count_before : ScriptStep → ℕ
 count_before step = length step.before.machine.system.processors
 
-abbrev pub Stays : Step → List ℕ → Type 0
+abbrev pub Stays : ScriptStep → List ℕ → Type 0
 Stays step text = (wrote step ≡ text) × ((left step).machine ≡ step.before.machine)
 
 -- the number that is written is that of the last processor, which goes
 abbrev pub RetiresWhereIdle : Type 0
 RetiresWhereIdle =
-    (step : Step) → step.command ≡ command.Retire
+    (step : ScriptStep) → step.command ≡ command.Retire
     → ((wrote step ≡ retired_line (last_number step.before.machine.system)) ↔ ((step.before.machine.order ≡ None) × (1 < count_before step)))
     × (wrote step ≡ retired_line (last_number step.before.machine.system) → (left step).machine ≡ without_last step.before.machine)
 
 -- none comes or goes while an update is under way
 abbrev pub StaysUnderWay : Type 0
-StaysUnderWay = (step : Step) → BringsUp step.command ⊎ (step.command ≡ command.Retire) → IsSome step.before.machine.order → Stays step under_way_line
+StaysUnderWay = (step : ScriptStep) → BringsUp step.command ⊎ (step.command ≡ command.Retire) → IsSome step.before.machine.order → Stays step under_way_line
 
 -- none comes beside sixteen
 abbrev pub StaysFull : Type 0
-StaysFull = (step : Step) → BringsUp step.command → step.before.machine.order ≡ None → 16 ≤ count_before step → Stays step full_line
+StaysFull = (step : ScriptStep) → BringsUp step.command → step.before.machine.order ≡ None → 16 ≤ count_before step → Stays step full_line
 
 -- the only one doesn't go
 abbrev pub StaysAlone : Type 0
-StaysAlone = (step : Step) → step.command ≡ command.Retire → step.before.machine.order ≡ None → count_before step ≤ 1 → Stays step no_line
+StaysAlone = (step : ScriptStep) → step.command ≡ command.Retire → step.before.machine.order ≡ None → count_before step ≤ 1 → Stays step no_line

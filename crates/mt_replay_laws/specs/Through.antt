@@ -4,13 +4,13 @@ use Rattle.std.specs.Prelude.{ℕ, ◌≡◌, List, Some, IfSome}
 use Rattle.std.specs.List.{All, AllByRecursion}
 use Rattle.mt_dump.specs.Dumps.{Dump}
 use Rattle.mt_replay.specs.ReplayState.{ReplayState}
-use Rattle.mt_replay.specs.Steps.{Step, beginning, left, steps_in}
+use Rattle.mt_replay.specs.Steps.{ScriptStep, beginning, left, steps_in}
 use Rattle.mt_replay.specs.Texts.{stale_count}
 use Rattle.mt_replay.specs.Kept.{IsReplayState}
 use Rattle.mt_replay.specs.Statuses.{ShowsDump}
 
 -- it holds of this state, and of each that these steps leave
-abbrev pub HoldsAlong : (ReplayState → Type 0) → ReplayState → List Step → Type 0
+abbrev pub HoldsAlong : (ReplayState → Type 0) → ReplayState → List ScriptStep → Type 0
 HoldsAlong P s steps = P s × AllByRecursion (λ step. P (left step)) steps
 
 -- it holds of each state that a text comes to, where steps begin

@@ -7,14 +7,14 @@ use Rattle.mt_machine.specs.System.{now}
 use Rattle.mt_script.specs.Situation.{at_start}
 use Rattle.mt_script.specs.declared.command.Command.TheVariants as command
 use Rattle.mt_replay_laws.specs.Headline.{Keeps, UpdateOf, called_goal, next_era, stored_in}
-use Rattle.mt_replay.specs.Steps.{Step, course, last_of, left}
+use Rattle.mt_replay.specs.Steps.{ScriptStep, course, last_of, left}
 use Rattle.mt_replay.specs.ReplayState.{ReplayState, first_state}
 
-abbrev pub no_step : Step
+abbrev pub no_step : ScriptStep
 no_step = record { number = 0; command = command.Blank; before = first_state at_start (dump_of (blank_file 36 0)) }
 
 -- these values and registers are kept from a step on, through steps behind it
-abbrev pub KeptFrom : RegisterFile → ℕ → (ℕ → ℕ) → Step → List Step → Type 0
+abbrev pub KeptFrom : RegisterFile → ℕ → (ℕ → ℕ) → ScriptStep → List ScriptStep → Type 0
 KeptFrom goal era value step since = Keeps goal era value (stored_in since) (last_of (left step) since).machine
 
 -- ---- two processors: an update by steps, one all at once, a refused one, and a store behind each of the first two
@@ -42,19 +42,19 @@ abbrev pub worked_script : List ℕ
 worked_script = worked_setup ++ worked_steps ++ worked_releases ++ worked_update
 
 -- a step of it, the first being 0
-abbrev pub step_at : ℕ → Step
+abbrev pub step_at : ℕ → ScriptStep
 step_at k = slice_index_or (course worked_script) k no_step
 
 -- so many steps from one on
-abbrev pub steps_at : ℕ → ℕ → List Step
+abbrev pub steps_at : ℕ → ℕ → List ScriptStep
 steps_at k count = take count (drop k (course worked_script))
 
 -- the steps in front of one
-abbrev pub front_of : ℕ → List Step
+abbrev pub front_of : ℕ → List ScriptStep
 front_of k = take k (course worked_script)
 
 -- the steps behind the first release, and the machine behind them
-abbrev pub after_release : List Step
+abbrev pub after_release : List ScriptStep
 after_release = steps_at 38 6
 
 abbrev pub end_of_release : Machine
@@ -70,7 +70,7 @@ pub record IsReleaseOfUpdate : Type 0 where
 abbrev pub section_script : List ℕ
 section_script = codes "cpus 1\ndump\n0fe 400\n2ff 806\nend\nbegin\n2ff 800\nend\ngo\n"
 
-abbrev pub section_at : ℕ → Step
+abbrev pub section_at : ℕ → ScriptStep
 section_at k = slice_index_or (course section_script) k no_step
 
 -- ---- a processor joins, and stores to memory itself
@@ -80,10 +80,10 @@ join_script =
     codes "cpus 1\ndump\n0fe 400\n2ff 800\nend\nram 100000 1\njoin\n"
     ++ codes "map 1 1000 100000 0\nstore 1 1000 7\nload 1 1000\n"
 
-abbrev pub join_at : ℕ → Step
+abbrev pub join_at : ℕ → ScriptStep
 join_at k = slice_index_or (course join_script) k no_step
 
-abbrev pub joins_at : ℕ → ℕ → List Step
+abbrev pub joins_at : ℕ → ℕ → List ScriptStep
 joins_at k count = take count (drop k (course join_script))
 
 -- no update is under way

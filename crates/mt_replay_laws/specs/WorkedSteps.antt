@@ -11,36 +11,36 @@ use Rattle.mt_script.specs.declared.command.Command.TheVariants as command
 use Rattle.mt_script.specs.declared.command.Stage.TheVariants.{Commands, InBegin}
 use Rattle.mt_replay.specs.ReplayState.{ReplayState}
 use Rattle.mt_replay_laws.specs.Headline.{Keeps}
-use Rattle.mt_replay.specs.Steps.{Step}
+use Rattle.mt_replay.specs.Steps.{ScriptStep}
 use Rattle.mt_replay_laws.specs.WorkedStates.{busy, painted, resting, state_of}
 
-abbrev pub step_of : Command → ReplayState → Step
+abbrev pub step_of : Command → ReplayState → ScriptStep
 step_of c s = record { number = 1; command = c; before = s }
 
-abbrev pub begins : Step
+abbrev pub begins : ScriptStep
 begins = step_of command.Begin (resting Commands)
 
-abbrev pub calls : Step
+abbrev pub calls : ScriptStep
 calls = step_of command.End (resting InBegin)
 
 -- the end of a section while an update is under way
-abbrev pub is_late : Step
+abbrev pub is_late : ScriptStep
 is_late = step_of command.End (busy InBegin)
 
-abbrev pub passes_by : List Processor → Step
+abbrev pub passes_by : List Processor → ScriptStep
 passes_by ps = step_of (command.Step 0) (state_of Commands (calling pair_order ps))
 
-abbrev pub passes : Step
+abbrev pub passes : ScriptStep
 passes = passes_by (come ∷ come ∷ [])
 
 -- the other processor has a store in a buffer
-abbrev pub passes_over_a_buffer : Step
+abbrev pub passes_over_a_buffer : ScriptStep
 passes_over_a_buffer = passes_by (come ∷ record come { buffers = line_of 0x4000 0 ∷ [] } ∷ [])
 
-abbrev pub releases : Step
+abbrev pub releases : ScriptStep
 releases = passes_by (come_again ∷ come_again ∷ [])
 
-abbrev pub first_store : Step
+abbrev pub first_store : ScriptStep
 first_store = step_of (command.Store 0 0x1000 7) painted
 
 -- ---- what an update keeps

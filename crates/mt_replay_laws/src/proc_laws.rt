@@ -2,7 +2,7 @@ ghost use Rattle.std.specs.Prelude.{◌≡◌, ◌↔◌, ◌+◌, ◌++◌, ◌
 ghost use Rattle.mt_text.specs.Text.{lines_of};
 ghost use Rattle.mt_regs.specs.RegisterFile.{IsRegisterFile, RegisterFile};
 ghost use Rattle.mt_stream.specs.Known.{known_text};
-ghost use Rattle.mt_stream.specs.Told.{transcript};
+ghost use Rattle.mt_stream.specs.Transcript.{transcript};
 ghost use Rattle.mt_proc.specs.After.{Served, answer_text, asked, done_text};
 ghost use Rattle.mt_proc.specs.declared.request.Request.{Request as Asked};
 ghost use Rattle.mt_proc.specs.Proc.{LinesTellRequests, proc_told};

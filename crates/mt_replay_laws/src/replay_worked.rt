@@ -10,7 +10,7 @@ ghost use Rattle.mt_machine_laws.specs.MachineWorkedRuns.{bare_file, idle, machi
 ghost use Rattle.mt_ports.specs.declared.status.Status.TheVariants.{Done};
 ghost use Rattle.mt_script.specs.declared.command.Command.TheVariants as asks;
 ghost use Rattle.mt_script.specs.declared.command.Stage.TheVariants as stage;
-ghost use Rattle.mt_stream.specs.Told.{told};
+ghost use Rattle.mt_stream.specs.Transcript.{transcript_with};
 ghost use Rattle.mt_replay_laws.specs.Flat.{flat_done, flat_told_in};
 ghost use Rattle.mt_replay_laws.specs.Headline.{ComesUp, HasNewcomer, IsCall, IsCalled, IsRefused, Joins, NoneOf, SectionOf, UpdateOf, stored_in};
 ghost use Rattle.mt_replay.specs.Steps.{steps_in};
@@ -158,7 +158,7 @@ pub fn worked_line_ends()
 pub fn worked_flat_values()
     ensures value { flat_done palette nines 0 0x1000 (Value 0 WB) ≡ Value 9 WB }
     ensures lines { flat_told_in (record { line = 4; column = 1 }) 1 (codes "store 0 1000 7" ∷ codes "load 0 1000" ∷ codes "load 0 1008" ∷ []) painted nines
-        ≡ told (codes "stored WB\nvalue 0000000000000007 WB\nvalue 0000000000000009 WB\n") Done }
+        ≡ transcript_with (codes "stored WB\nvalue 0000000000000007 WB\nvalue 0000000000000009 WB\n") Done }
 {}
 
 /// The output that may be written when an allocation fails.

@@ -25,7 +25,7 @@ ghost use Rattle.mt_script.specs.declared.command.Stage.TheVariants as stage;
 ghost use Rattle.mt_script.specs.declared.fault.Offence.{Offence};
 ghost use Rattle.mt_script.specs.declared.fault.Offence.TheVariants as offence;
 ghost use Rattle.mt_script.specs.declared.fault.ScriptReason.TheVariants.{BadLine};
-ghost use Rattle.mt_stream.specs.Told.{told};
+ghost use Rattle.mt_stream.specs.Transcript.{transcript_with};
 ghost use Rattle.mt_text.specs.Text.{lines_of};
 ghost use Rattle.mt_replay_laws.specs.Headline.{AcceptedWhereIdleAndWhole, CompleteUpdatesAreKept, GoalsAreOfTheirSections, HasNewcomer, IsCall, JoinsAreKept, NewcomersWhereIdle, RefusedUpdatesChangeNothing, ReleasedUpdatesAreKept, ReplaysAreOfTheCourse, SectionOf, StartsAsTheDumpShows, StatesAreOfTheCourse, StepsAreOfTheirLines, StepsFollow, TranscriptIsOfTheCourse, TranscriptIsOneLine, told_by_course};
 ghost use Rattle.mt_replay.specs.Steps.{Beginning, beginning, course, left};
@@ -66,7 +66,7 @@ pub fn worked_laws_of_transcripts()
     ensures written { ReplaysAreOfTheCourse → (rest : Option (List ℕ)) (sink : Port) (status : Status) → Replays (held section_script rest) sink status
         → ReplaysAs (told_by_course section_script) (held section_script rest) sink status }
     ensures one_line { TranscriptIsOneLine → ((o : Offence) × (transcript later_refused ≡ told_offence o))
-        ⊎ ((version : ℕ) × (k : ℕ) × (fault : Fault) × (transcript later_refused ≡ told (dump_refused_line version k fault) status.Refused)) }
+        ⊎ ((version : ℕ) × (k : ℕ) × (fault : Fault) × (transcript later_refused ≡ transcript_with (dump_refused_line version k fault) status.Refused)) }
 {}
 
 /// The laws of processors that come and go.
@@ -92,7 +92,7 @@ pub fn worked_laws_of_dumps()
     ensures refused { RefusedWhereFileIsRefused → HasRefusedFile later_refused }
     ensures not_refused { RefusedWhereFileIsRefused → HasRefusedFile small_dump → ⊥ }
     ensures alone { RefusedAlone → (dump : Dump) (k : ℕ) (fault : Fault) → ShowsDump later_refused dump → IsFirstRefusal dump.files k fault
-        → transcript later_refused ≡ told (dump_refused_line dump.version k fault) status.Refused }
+        → transcript later_refused ≡ transcript_with (dump_refused_line dump.version k fault) status.Refused }
     ensures accepted { AcceptedUnlessRefused → All IsAccepted (bare_file 0x806 ∷ []) }
     ensures accepted_first { AcceptedFirst → All IsAccepted (bare_file 0x806 ∷ []) → BeginsWith (transcript small_dump).text accepted_line }
 {}

@@ -12,7 +12,7 @@ use Rattle.mt_text.proofs.Fronts.{reach}
 use Rattle.mt_text.proofs.LineSteps.{lines_of-first}
 use Rattle.mt_stream.specs.Known.{known_part, known_text}
 use Rattle.mt_stream.specs.Laws.{IsLongTold}
-use Rattle.mt_stream.specs.Told.{Step, Telling, Told, behind, told, told_from, told_step, telling, transcript}
+use Rattle.mt_stream.specs.Transcript.{LineStep, Telling, Transcript, behind, transcript_with, told_from, told_step, telling, transcript}
 use Rattle.mt_stream.proofs.Fronts.{long_lines, some_any}
 
 -- ---- lists of lines
@@ -73,16 +73,16 @@ agrees (x ∷ xs) more = by (list_any is_line_end (x ∷ xs)) refl (nat_lt 4096 
 
 -- ---- texts
 
-abbrev pub IsFrontOf : Told → Told → Type 0
+abbrev pub IsFrontOf : Transcript → Transcript → Type 0
 IsFrontOf a b = (rest : List ℕ) × (b.text ≡ a.text ++ rest)
 
-front_same : (t : Told) → IsFrontOf t t
+front_same : (t : Transcript) → IsFrontOf t t
 front_same t = ([], sym (append-nil t.text))
 
-front_behind : (text : List ℕ) (a b : Told) → IsFrontOf a b → IsFrontOf (behind text a) (behind text b)
+front_behind : (text : List ℕ) (a b : Transcript) → IsFrontOf a b → IsFrontOf (behind text a) (behind text b)
 front_behind text a b (rest, cut) = (rest, ap (λ l. text ++ l) cut ∙ sym (append_assoc text a.text rest))
 
-front_of_both : (a b t : Told) → a ≡ t → b ≡ t → IsFrontOf a b
+front_of_both : (a b t : Transcript) → a ≡ t → b ≡ t → IsFrontOf a b
 front_of_both a b t p q = subst (λ x. IsFrontOf x b) (sym p) (subst (IsFrontOf t) (sym q) (front_same t))
 
 -- ---- by points
@@ -91,11 +91,11 @@ front_of_both a b t p q = subst (λ x. IsFrontOf x b) (sym p) (subst (IsFrontOf 
 abbrev pub LeadsOn : {P : Type 0} → (P → Telling) → (P → Type 0) → P → ℕ → List ℕ → Type 0
 LeadsOn {P} tell sound p number line =
     ((text : List ℕ) × (next : P) × sound next × ((end : Option Place) (lines : List (List ℕ)) → tell p end number (line ∷ lines) ≡ behind text (tell next end (number + 1) lines)))
-    ⊎ ((last : Told) × ((end : Option Place) (lines : List (List ℕ)) → tell p end number (line ∷ lines) ≡ last))
+    ⊎ ((last : Transcript) × ((end : Option Place) (lines : List (List ℕ)) → tell p end number (line ∷ lines) ≡ last))
 
 -- what lines tell from each point on goes line by line
 pub record Walks {P : Type 0} (tell : P → Telling) (sound : P → Type 0) : Type 0 where
-  pub unknown : (p : P) (number : ℕ) → tell p None number [] ≡ told [] Done
+  pub unknown : (p : P) (number : ℕ) → tell p None number [] ≡ transcript_with [] Done
   pub leads : (p : P) (number : ℕ) (line : List ℕ) → sound p → LeadsOn tell sound p number line
   pub long : (p : P) (number : ℕ) → sound p → IsLongTold (tell p) number
 
@@ -121,22 +121,22 @@ module _ (P : Type 0) (tell : P → Telling) (sound : P → Type 0) (walks : Wal
 -- ---- by steps
 
 -- each step tells a line too long as one offence, whatever its bytes are
-pub record TellsLong {P : Type 0} (step : Step P) (offence : ℕ → P → Told) : Type 0 where
+pub record TellsLong {P : Type 0} (step : LineStep P) (offence : ℕ → P → Transcript) : Type 0 where
   pub long : (number : ℕ) (line : List ℕ) (p : P) → 4096 < length line → step number line p ≡ Err (offence number p)
   pub bad : (number : ℕ) (p : P) → (offence number p).status ≡ BadText
 
-module _ (P : Type 0) (step : Step P) (ends : Place → P → Told) where
+module _ (P : Type 0) (step : LineStep P) (ends : Place → P → Transcript) where
   -- a step that goes on, and one that ends the transcript
   pub step_goes : (number : ℕ) (line text : List ℕ) (p next : P) → step number line p ≡ Ok (text, next) → (end : Option Place) (lines : List (List ℕ))
       → telling step ends p end number (line ∷ lines) ≡ behind text (telling step ends next end (number + 1) lines)
   step_goes number line text p next is (Some end) lines = ap (told_step (told_from step (ends end) (number + 1) lines)) is
-  step_goes number line text p next is None lines = ap (told_step (told_from step (λ last. told [] Done) (number + 1) lines)) is
+  step_goes number line text p next is None lines = ap (told_step (told_from step (λ last. transcript_with [] Done) (number + 1) lines)) is
 
-  pub step_ends : (number : ℕ) (line : List ℕ) (p : P) (last : Told) → step number line p ≡ Err last → (end : Option Place) (lines : List (List ℕ)) → telling step ends p end number (line ∷ lines) ≡ last
+  pub step_ends : (number : ℕ) (line : List ℕ) (p : P) (last : Transcript) → step number line p ≡ Err last → (end : Option Place) (lines : List (List ℕ)) → telling step ends p end number (line ∷ lines) ≡ last
   step_ends number line p last is (Some end) lines = ap (told_step (told_from step (ends end) (number + 1) lines)) is
-  step_ends number line p last is None lines = ap (told_step (told_from step (λ last. told [] Done) (number + 1) lines)) is
+  step_ends number line p last is None lines = ap (told_step (told_from step (λ last. transcript_with [] Done) (number + 1) lines)) is
 
-  module _ (offence : ℕ → P → Told) (tells : TellsLong step offence) where
+  module _ (offence : ℕ → P → Transcript) (tells : TellsLong step offence) where
     pub long_told : (p : P) (number : ℕ) → IsLongTold (telling step ends p) number
     long_told p number = record {
       telling = offence number p;
@@ -147,6 +147,6 @@ module _ (P : Type 0) (step : Step P) (ends : Place → P → Told) where
     pub steps_walk : Walks (telling step ends) (λ p. Unit {0})
     steps_walk = record { unknown = λ p number. refl; leads = λ p number line good. by p number line (step number line p) refl; long = λ p number good. long_told p number }
       where
-        by : (p : P) (number : ℕ) (line : List ℕ) (answer : Result (List ℕ × P) Told) → step number line p ≡ answer → LeadsOn (telling step ends) (λ q. Unit {0}) p number line
+        by : (p : P) (number : ℕ) (line : List ℕ) (answer : Result (List ℕ × P) Transcript) → step number line p ≡ answer → LeadsOn (telling step ends) (λ q. Unit {0}) p number line
         by p number line (Ok (text, next)) is = inl (text, next, tt, step_goes number line text p next is)
         by p number line (Err last) is = inr (last, step_ends number line p last is)

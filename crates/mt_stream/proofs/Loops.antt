@@ -7,12 +7,12 @@ use Rattle.mt_ports.specs.declared.status.Status.{Status}
 use Rattle.mt_ports.specs.declared.status.Status.TheVariants.{NoMemory, TooLong}
 use Rattle.mt_output.specs.Writing.{Passes}
 use Rattle.mt_text.specs.Feed.{Feeding, Moves, is_last, taken}
-use Rattle.mt_stream.specs.Handling.{RunsOn}
+use Rattle.mt_stream.specs.Handling.{ResultsOn}
 use Rattle.mt_stream.specs.Laws.{AreLaws}
 use Rattle.mt_stream.specs.Lines.{Closes, Leaves, Path, Running, Takes, at_line, closed_run, last_line, run_status, tells_of}
 use Rattle.mt_output.specs.Ports.{change, held, read}
-use Rattle.mt_stream.specs.Runs.{RefusedAtLine}
-use Rattle.mt_stream.specs.Told.{Telling, transcript}
+use Rattle.mt_stream.specs.Results.{RefusedAtLine}
+use Rattle.mt_stream.specs.Transcript.{Telling, transcript}
 use Rattle.mt_stream.specs.declared.ending.End.{End}
 use Rattle.mt_stream.specs.declared.ending.Stop.{Stop}
 use Rattle.mt_stream.specs.declared.ending.Stop.TheVariants as stopped
@@ -33,7 +33,7 @@ module _ (R : Running) (start : Path) (laws : AreLaws R) (bytes more : List ℕ)
     pub goes_on : Does run after d (Ok None) → is_last new ≡ false → UnderWay R start bytes left new run after a d
     goes_on does going = line_goes_on R start laws bytes left new now later a c here run after d (does here.text here.point here.at) going
 
-    pub goes_last : Does run after d (Ok None) → is_last new ≡ true → (e : Option (List ℕ)) (result : Result End Failed) → Closes (R.ends run new.place) after (change d e) result → RunsOn start (held bytes left) (change a e) (run_status (closed_run result))
+    pub goes_last : Does run after d (Ok None) → is_last new ≡ true → (e : Option (List ℕ)) (result : Result End Failed) → Closes (R.ends run new.place) after (change d e) result → ResultsOn start (held bytes left) (change a e) (run_status (closed_run result))
     goes_last does last e result put =
         closes R start laws bytes left new.place run after a d e result (line_goes_last R start laws bytes left new now later a c here run after d (does here.text here.point here.at) last) put
 
@@ -43,7 +43,7 @@ module _ (R : Running) (start : Path) (laws : AreLaws R) (bytes more : List ℕ)
     -- it ends with that line
     module _ (stop : Stop) (result : Status) (dropped : List ℕ) (source_after e : Option (List ℕ)) (drains : Consumes left source_after dropped) (long : result ≡ TooLong → 16777216 < taken new + length dropped)
         (leaves : Leaves (last_line stop (is_last new)) (read dropped source_after) after (change d e) result) (does : Does run after d (Ok (Some stop))) where
-      pub ends : RunsOn start (held bytes source_after) (change a e) result
+      pub ends : ResultsOn start (held bytes source_after) (change a e) result
       ends = elim (does here.text here.point here.at) [
         | inl ended ↦ line_ends R start laws bytes left new now later a c here stop result dropped after source_after d e drains long leaves ended
         | inr wants ↦ line_wants R start laws bytes left new now later a c here stop result dropped after source_after d e drains long leaves wants

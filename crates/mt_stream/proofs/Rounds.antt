@@ -14,8 +14,8 @@ use Rattle.mt_text.proofs.Feeding.{front_within}
 use Rattle.mt_text.proofs.Fronts.{long_front}
 use Rattle.mt_stream.specs.Lines.{CutShort, Leads, SinkHasCause, SourceHasCause, closed_run, cut_status, run_status}
 use Rattle.mt_output.specs.Ports.{Held, Port, Waiting, change, read}
-use Rattle.mt_stream.specs.Runs.{EndsAs, RunsAs}
-use Rattle.mt_stream.specs.Told.{Telling}
+use Rattle.mt_stream.specs.Results.{EndsAs, ResultsAs}
+use Rattle.mt_stream.specs.Transcript.{Telling}
 use Rattle.mt_stream.specs.declared.ending.End.{End}
 use Rattle.mt_stream.specs.declared.ending.End.TheVariants as text_end
 use Rattle.mt_stream.specs.declared.ending.Cut.{Cut}
@@ -86,7 +86,7 @@ cut_sink T U (cut.Feed why) before now cause = cause
 cut_sink T U cut.Write before now cause = cause
 
 -- which statuses a run ends with
-pub ends_as : (leads : Leads) (start : Telling) (source : Held) (sink : Port) (status : Status) → RunsAs leads start source sink status → EndsAs leads.tells.status status
+pub ends_as : (leads : Leads) (start : Telling) (source : Held) (sink : Port) (status : Status) → ResultsAs leads start source sink status → EndsAs leads.tells.status status
 ends_as leads start source sink Done runs = inl runs.status_is
 ends_as leads start source sink Refused runs = inl runs.status_is
 ends_as leads start source sink Usage runs = absurd runs

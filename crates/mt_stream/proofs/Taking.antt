@@ -11,22 +11,22 @@ use Rattle.mt_text.specs.declared.place.Place.{Place}
 use Rattle.mt_stream.specs.Laws.{IsLongLed, IsLongTold}
 use Rattle.mt_stream.specs.Lines.{AtLine, Closes, Leading, Leads, Path, Takes, early_at, stop_status}
 use Rattle.mt_output.specs.Ports.{Port, Waiting, change}
-use Rattle.mt_stream.specs.Told.{Telling, Told, told}
+use Rattle.mt_stream.specs.Transcript.{Telling, Transcript, transcript_with}
 use Rattle.mt_stream.specs.declared.ending.End.{End}
 use Rattle.mt_stream.specs.declared.ending.Stop.{Stop}
 use Rattle.mt_stream.specs.declared.ending.Stop.TheVariants.{NoMemory}
 
 -- a last text was written, or failed
 pub takes_last : (At : List ℕ → Path → Type 0) (here : AtLine) (text : List ℕ) (writer : Waiting) (sink : Port) (stop : Stop) (result : Result (Option Stop) Failed)
-    → ((end : Option Place) (lines : List (List ℕ)) → (here.leads end lines).tells ≡ told text (stop_status stop)) → stop ≢ NoMemory → Adds writer.old text writer.new sink.old sink.new result
+    → ((end : Option Place) (lines : List (List ℕ)) → (here.leads end lines).tells ≡ transcript_with text (stop_status stop)) → stop ≢ NoMemory → Adds writer.old text writer.new sink.old sink.new result
     → IfOk result (λ ended. ended ≡ Some stop) → Takes At here writer sink result
 takes_last At here text writer sink stop (Ok None) stops last adds is = absurd (cc is)
 takes_last At here text writer sink stop (Ok (Some answer)) stops last adds is =
     let same : answer ≡ stop = cc is in
-    inl (record { telling = told text (stop_status stop); stops = stops; status_is = ap stop_status same; last = λ none. last (sym same ∙ none); passed = adds })
+    inl (record { telling = transcript_with text (stop_status stop); stops = stops; status_is = ap stop_status same; last = λ none. last (sym same ∙ none); passed = adds })
 takes_last At here text writer sink stop (Err failed) stops last adds is = record {
   text = text;
-  front = λ end lines. ([], ap (λ (t : Told). t.text) (stops end lines) ∙ sym (append-nil text));
+  front = λ end lines. ([], ap (λ (t : Transcript). t.text) (stops end lines) ∙ sym (append-nil text));
   failed = adds;
 }
 
@@ -48,8 +48,8 @@ takes_same At here other writer sink (Err failed) same f = record {
 -- ---- the end
 
 -- a text was passed, and then a last one was written, or a front of it
-pub closes_after : (waiting first middle second : List ℕ) (last : Status) (result : Result End Failed) (a b c : Option (List ℕ)) → Passes waiting first middle a b → Closes (told second last) middle (change b c) result
-    → Closes (told (first ++ second) last) waiting (change a c) result
+pub closes_after : (waiting first middle second : List ℕ) (last : Status) (result : Result End Failed) (a b c : Option (List ℕ)) → Passes waiting first middle a b → Closes (transcript_with second last) middle (change b c) result
+    → Closes (transcript_with (first ++ second) last) waiting (change a c) result
 closes_after waiting first middle second last (Ok end) a b c p all =
     let joined : p.front ++ (middle ++ second) ≡ waiting ++ (first ++ second) =
     sym (append_assoc p.front middle second) ∙ ap (λ (l : List ℕ). l ++ second) (sym p.cut) ∙ append_assoc waiting first second in
@@ -60,4 +60,4 @@ closes_after waiting first middle second last (Err failed) a b c p front = adds_
 
 pub long_led : (early : List ℕ) (told : Telling) (number : ℕ) → IsLongTold told number → IsLongLed (early_at early told) number
 long_led early told number t =
-    record { leads = record { tells = t.telling; early = early }; bad = t.bad; is = λ line end lines long. ap (λ (x : Told). record { tells = x; early = early }) (t.is line end lines long) }
+    record { leads = record { tells = t.telling; early = early }; bad = t.bad; is = λ line end lines long. ap (λ (x : Transcript). record { tells = x; early = early }) (t.is line end lines long) }

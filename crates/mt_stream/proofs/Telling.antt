@@ -21,10 +21,10 @@ use Rattle.mt_text.proofs.Fronts.{last_front, long_front, place_of_front}
 use Rattle.mt_stream.specs.Known.{known_part, known_text}
 use Rattle.mt_stream.specs.Laws.{AreLaws, IsLongLed}
 use Rattle.mt_stream.specs.Lines.{AtLine, Closes, CutShort, Ends, Fails, GoesOn, LastLine, Leads, Leaves, Path, Running, Wants, at_line, closed_run, cut_status, early_of, last_line, leads_behind, run_status, stop_status, tells_of}
-use Rattle.mt_stream.specs.Handling.{RunsOn}
+use Rattle.mt_stream.specs.Handling.{ResultsOn}
 use Rattle.mt_output.specs.Ports.{Port, Read, change, held, read}
-use Rattle.mt_stream.specs.Runs.{RefusedAtLine}
-use Rattle.mt_stream.specs.Told.{Telling, Told, behind, transcript}
+use Rattle.mt_stream.specs.Results.{RefusedAtLine}
+use Rattle.mt_stream.specs.Transcript.{Telling, Transcript, behind, transcript}
 use Rattle.mt_stream.specs.declared.ending.End.{End}
 use Rattle.mt_stream.specs.declared.ending.End.TheVariants as text_end
 use Rattle.mt_stream.specs.declared.ending.Stop.{Stop}
@@ -35,7 +35,7 @@ use Rattle.mt_stream.proofs.Fronts.{ended_known, ended_lines, long_lines, unknow
 
 -- ---- texts
 
-pub told_both : (a b : List ℕ) (t : Told) → behind a (behind b t) ≡ behind (a ++ b) t
+pub told_both : (a b : List ℕ) (t : Transcript) → behind a (behind b t) ≡ behind (a ++ b) t
 told_both a b t = λ i. record { text = sym (append_assoc a b t.text) i; status = t.status }
 
 behind_both : (a b : List ℕ) (t : Leads) → leads_behind a (leads_behind b t) ≡ leads_behind (a ++ b) t
@@ -311,7 +311,7 @@ module _ (R : Running) (start : Path) (laws : AreLaws R) where
     long_never_goes : (later : R.Run) (left : List ℕ) (c : Option (List ℕ)) → GoesOn (R.At later) here (change waiting left) (change b c) → 4096 < length feed.line.bytes → ⊥
     long_never_goes later left c g long =
         let none = laws.unknown later (h.text ++ g.text) g.next (feed.line.number + 1) g.at in
-        let e : BadText ≡ Done = sym long_told.bad ∙ ap (λ (t : Leads). t.tells.status) (sym (long_told.is feed.line.bytes None [] long) ∙ g.goes None []) ∙ ap (λ (t : Told). t.status) none in
+        let e : BadText ≡ Done = sym long_told.bad ∙ ap (λ (t : Leads). t.tells.status) (sym (long_told.is feed.line.bytes None [] long) ∙ g.goes None []) ∙ ap (λ (t : Transcript). t.status) none in
         cc e
 
     -- ---- it goes on
@@ -402,29 +402,29 @@ module _ (R : Running) (start : Path) (laws : AreLaws R) where
         is_left = is_left ∙ ap Some none;
       }
 
-  module _ (bytes text : List ℕ) (left a b : Option (List ℕ)) (t : Told) (is : transcript (tells_of start) bytes ≡ behind text t) (put : Appends a b (text ++ t.text)) (read : left ≡ Some []) where
+  module _ (bytes text : List ℕ) (left a b : Option (List ℕ)) (t : Transcript) (is : transcript (tells_of start) bytes ≡ behind text t) (put : Appends a b (text ++ t.text)) (read : left ≡ Some []) where
     -- all is told, with this status
-    pub tells_all : (status : Status) → status ≡ t.status → (status ≡ Done) ⊎ (status ≡ Refused) ⊎ (status ≡ BadText) → RunsOn start (held bytes left) (change a b) status
+    pub tells_all : (status : Status) → status ≡ t.status → (status ≡ Done) ⊎ (status ≡ Refused) ⊎ (status ≡ BadText) → ResultsOn start (held bytes left) (change a b) status
     tells_all status same one = elim one [
-      | inl done ↦ subst (RunsOn start (held bytes left) (change a b)) (sym done) (record { status_is = sym done ∙ same ∙ sym (ap (λ (x : Told). x.status) is); taken = taken; read = read })
+      | inl done ↦ subst (ResultsOn start (held bytes left) (change a b)) (sym done) (record { status_is = sym done ∙ same ∙ sym (ap (λ (x : Transcript). x.status) is); taken = taken; read = read })
       | inr other ↦ elim other [
-        | inl refused ↦ subst (RunsOn start (held bytes left) (change a b)) (sym refused) (record { status_is = sym refused ∙ same ∙ sym (ap (λ (x : Told). x.status) is); taken = taken; read = read })
-        | inr bad ↦ subst (RunsOn start (held bytes left) (change a b)) (sym bad) (record { status_is = sym bad ∙ same ∙ sym (ap (λ (x : Told). x.status) is); taken = taken; read = read })
+        | inl refused ↦ subst (ResultsOn start (held bytes left) (change a b)) (sym refused) (record { status_is = sym refused ∙ same ∙ sym (ap (λ (x : Transcript). x.status) is); taken = taken; read = read })
+        | inr bad ↦ subst (ResultsOn start (held bytes left) (change a b)) (sym bad) (record { status_is = sym bad ∙ same ∙ sym (ap (λ (x : Transcript). x.status) is); taken = taken; read = read })
       ]
     ]
       where
         taken : Appends a b (transcript (tells_of start) bytes).text
-        taken = subst (Appends a b) (sym (ap (λ (x : Told). x.text) is)) put
+        taken = subst (Appends a b) (sym (ap (λ (x : Transcript). x.text) is)) put
 
   pub closes : (bytes : List ℕ) (source : Option (List ℕ)) (place : Place) (now : R.Run) (waiting : List ℕ) (a b c : Option (List ℕ)) (result : Result End Failed) → AtEnd R start bytes source place now waiting a b
-      → Closes (R.ends now place) waiting (change b c) result → RunsOn start (held bytes source) (change a c) (run_status (closed_run result))
+      → Closes (R.ends now place) waiting (change b c) result → ResultsOn start (held bytes source) (change a c) (run_status (closed_run result))
   closes bytes source place now waiting a b c (Ok text_end.Done) h all =
       tells_all bytes h.text source a c (R.ends now place) h.tells (passes_then h.text waiting (R.ends now place).text a b c h.passed all.1) h.is_left Done all.0 (inl refl)
   closes bytes source place now waiting a b c (Ok text_end.BadText) h all =
       tells_all bytes h.text source a c (R.ends now place) h.tells (passes_then h.text waiting (R.ends now place).text a b c h.passed all.1) h.is_left BadText all.0 (inr (inr refl))
   closes bytes source place now waiting a b c (Err failed) h front =
       let t = R.ends now place in
-      subst (AppendsFront a c) (ap (λ l. h.text ++ l) (append-nil t.text) ∙ sym (ap (λ (x : Told). x.text) h.tells)) (fails_then h.text waiting t.text [] a b c h.passed front)
+      subst (AppendsFront a c) (ap (λ l. h.text ++ l) (append-nil t.text) ∙ sym (ap (λ (x : Transcript). x.text) h.tells)) (fails_then h.text waiting t.text [] a b c h.passed front)
 
   -- ---- the line ends the transcript
 
@@ -462,12 +462,12 @@ module _ (R : Running) (start : Path) (laws : AreLaws R) where
           ]
 
       -- memory was refused
-      pub line_wants : Wants (at_line feed.line.number feed.line.bytes h.text h.point) (change waiting left) (change b c) stop → RunsOn start (held bytes source_after) (change a d) result
+      pub line_wants : Wants (at_line feed.line.number feed.line.bytes h.text h.point) (change waiting left) (change b c) stop → ResultsOn start (held bytes source_after) (change a d) result
       line_wants w = elim leaves [
-        | inl unwritten ↦ subst (RunsOn start (held bytes source_after) (change a d)) (sym unwritten.0) (subst (AppendsFront a d) (sym front_text.1) (fails_out h.text left front_text.0 a c d passed unwritten.1))
+        | inl unwritten ↦ subst (ResultsOn start (held bytes source_after) (change a d)) (sym unwritten.0) (subst (AppendsFront a d) (sym front_text.1) (fails_out h.text left front_text.0 a c d passed unwritten.1))
         | inr written ↦ elim written.1 [
           | inl kept ↦
-              subst (RunsOn start (held bytes source_after) (change a d)) (sym (kept.0 ∙ ap stop_status w.refused))
+              subst (ResultsOn start (held bytes source_after) (change a d)) (sym (kept.0 ∙ ap stop_status w.refused))
               (before_early (passes_out h.text left a c d passed written.0), subst (AppendsFront a d) (sym front_text.1) (front_of h.text front_text.0 a d (passes_out h.text left a c d passed written.0)))
           | inr dropped ↦ absurd (dropped.1 w.refused)
         ]
@@ -508,7 +508,7 @@ module _ (R : Running) (start : Path) (laws : AreLaws R) where
 
       -- an offence or a refused dump
       module _ (e : Ends (at_line feed.line.number feed.line.bytes h.text h.point) (change waiting left) (change b c) stop) where
-        abbrev t : Told
+        abbrev t : Transcript
         t = e.telling
 
         is : transcript (tells_of start) bytes ≡ behind h.text t
@@ -518,9 +518,9 @@ module _ (R : Running) (start : Path) (laws : AreLaws R) where
         passed = passes_both [] h.text waiting t.text left a b c h.passed e.passed
 
         unwritten : AppendsFront c d left → AppendsFront a d (transcript (tells_of start) bytes).text
-        unwritten put = subst (AppendsFront a d) (append-nil (h.text ++ t.text) ∙ sym (ap (λ (x : Told). x.text) is)) (fails_out (h.text ++ t.text) left [] a c d passed put)
+        unwritten put = subst (AppendsFront a d) (append-nil (h.text ++ t.text) ∙ sym (ap (λ (x : Transcript). x.text) is)) (fails_out (h.text ++ t.text) left [] a c d passed put)
 
-        ended : Appends c d left → result ≡ stop_status stop → source_after ≡ Some [] → RunsOn start (held bytes source_after) (change a d) result
+        ended : Appends c d left → result ≡ stop_status stop → source_after ≡ Some [] → ResultsOn start (held bytes source_after) (change a d) result
         ended put same read = tells_all bytes h.text source_after a d t is (passes_out (h.text ++ t.text) left a c d passed put) read result (same ∙ e.status_is) (subst (λ s. (s ≡ Done) ⊎ (s ≡ Refused) ⊎ (s ≡ BadText)) (sym same) (told_so stop e.last))
 
         known : is_last feed ≡ false → known_text (tells_of start) (h.lent ++ (h.seen ++ more)) ≡ h.text ++ t.text
@@ -528,16 +528,16 @@ module _ (R : Running) (start : Path) (laws : AreLaws R) where
           | inl shown ↦
               let from = first_known bytes source feed now waiting a b h shown.1 more in
               ap (λ l. (told_of start None l).tells.text) (h.whole (h.seen ++ more)) ∙ ap (λ (x : Leads). x.tells.text) (h.led None (known_part (h.seen ++ more)))
-              ∙ ap (λ (x : Told). h.text ++ x.text) (ap (λ (x : Leads). x.tells) from.1 ∙ e.stops None from.0)
+              ∙ ap (λ (x : Transcript). h.text ++ x.text) (ap (λ (x : Leads). x.tells) from.1 ∙ e.stops None from.0)
           | inr last ↦ let x : false ≡ true = sym going ∙ last.0 in absurd (cc x)
         ]
 
         pub ends_with_memory : result ≡ NoMemory → ⊥
         ends_with_memory none = e.last (refused_line (last_line stop (is_last feed)) (read more source_after) left (change c d) result leaves none)
 
-        pub line_ends : RunsOn start (held bytes source_after) (change a d) result
+        pub line_ends : ResultsOn start (held bytes source_after) (change a d) result
         line_ends = elim leaves [
-          | inl failed ↦ subst (RunsOn start (held bytes source_after) (change a d)) (sym failed.0) (unwritten failed.1)
+          | inl failed ↦ subst (ResultsOn start (held bytes source_after) (change a d)) (sym failed.0) (unwritten failed.1)
           | inr written ↦ elim written.1 [
             | inl kept ↦ elim kept.1 [
               | inl last ↦ ended written.0 kept.0 (nothing_left kept.2 last)
@@ -546,15 +546,15 @@ module _ (R : Running) (start : Path) (laws : AreLaws R) where
             | inr dropped ↦ elim dropped.2 [
               | inl all ↦ ended written.0 all.0 (took.1 ∙ ap Some (none_left source_after took.0 took.1 all.1))
               | inr cut ↦ elim cut [
-                | inl failed ↦ subst (RunsOn start (held bytes source_after) (change a d)) (sym failed) (record {
+                | inl failed ↦ subst (ResultsOn start (held bytes source_after) (change a d)) (sym failed) (record {
                   front = h.lent ++ (h.seen ++ more);
                   rest = took.0;
                   cut = h.cut ∙ ap (λ l. h.lent ++ (h.seen ++ l)) took.2 ∙ ap (λ l. h.lent ++ l) (sym (append_assoc h.seen more took.0)) ∙ sym (append_assoc h.lent (h.seen ++ more) took.0);
                   is_left = took.1;
                   taken = subst (Appends a d) (sym (known dropped.0)) (passes_out (h.text ++ t.text) left a c d passed written.0);
                 })
-                | inr much ↦ subst (RunsOn start (held bytes source_after) (change a d)) (sym much)
-                    (enough much, subst (AppendsFront a d) (append-nil (h.text ++ t.text) ∙ sym (ap (λ (x : Told). x.text) is)) (front_of (h.text ++ t.text) [] a d (passes_out (h.text ++ t.text) left a c d passed written.0)))
+                | inr much ↦ subst (ResultsOn start (held bytes source_after) (change a d)) (sym much)
+                    (enough much, subst (AppendsFront a d) (append-nil (h.text ++ t.text) ∙ sym (ap (λ (x : Transcript). x.text) is)) (front_of (h.text ++ t.text) [] a d (passes_out (h.text ++ t.text) left a c d passed written.0)))
               ]
             ]
           ]
@@ -569,7 +569,7 @@ module _ (R : Running) (start : Path) (laws : AreLaws R) where
   -- ---- there is no next line
 
   pub cuts : (bytes more : List ℕ) (source left : Option (List ℕ)) (old new : Feeding) (now : R.Run) (waiting later : List ℕ) (a b c : Option (List ℕ)) (why : Cut) → UnderWay R start bytes source old now waiting a b → Consumes source left more
-      → CutShort (change old new) (read more left) (change waiting later) (change b c) why → old.fault ≡ None → (why ≡ cut.Feed fault.TooLong → 16777216 < taken old + length more) → RunsOn start (held bytes left) (change a c) (cut_status why)
+      → CutShort (change old new) (read more left) (change waiting later) (change b c) why → old.fault ≡ None → (why ≡ cut.Feed fault.TooLong → 16777216 < taken old + length more) → ResultsOn start (held bytes left) (change a c) (cut_status why)
   cuts bytes more source left old new now waiting later a b c cut.Write h takes short none long =
       let all : told_of start (Some (end_of bytes)) bytes ≡ leads_behind h.text (told_lines (Some (end_of bytes)) old.place.line (lines_of (old.pending ++ h.rest)) h.point) = ap (told_of start (Some (end_of bytes))) h.cut ∙ h.led (Some (end_of bytes)) (old.pending ++ h.rest) in
       subst (AppendsFront a c) (sym (ap (λ (x : Leads). x.tells.text) all)) (fails_out h.text waiting (told_lines (Some (end_of bytes)) old.place.line (lines_of (old.pending ++ h.rest)) h.point).tells.text a b c h.passed short.2)
@@ -578,7 +578,7 @@ module _ (R : Running) (start : Path) (laws : AreLaws R) where
       let unknown : known_front (old.pending ++ more) ≡ None = short.0.4 refl none in
       let known : known_text (tells_of start) (h.lent ++ (old.pending ++ more)) ≡ h.text =
       ap (λ l. (told_of start None l).tells.text) (h.whole (old.pending ++ more) ∙ ap (λ l. h.lent ++ l) (unknown_part (old.pending ++ more) unknown)) ∙ ap (λ (x : Leads). x.tells.text) (h.led None [])
-      ∙ ap (λ (x : Told). h.text ++ x.text) (laws.unknown now h.text h.point old.place.line h.at) ∙ append-nil h.text in
+      ∙ ap (λ (x : Transcript). h.text ++ x.text) (laws.unknown now h.text h.point old.place.line h.at) ∙ append-nil h.text in
       record {
         front = h.lent ++ (old.pending ++ more);
         rest = rest;

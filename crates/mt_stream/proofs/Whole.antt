@@ -9,31 +9,31 @@ use Rattle.mt_ports.specs.Causes.{StatusHasCause}
 use Rattle.mt_ports.specs.declared.status.Status.{Status}
 use Rattle.mt_ports.specs.declared.status.Status.TheVariants.{Disabled, NoMemory, ReadFault, TooFew, TooLong, Usage, WriteFault}
 use Rattle.mt_output.specs.Ports.{Held, Port, SinkRun, SourceRun, held, port}
-use Rattle.mt_stream.specs.Handling.{Account, IsRunOfLines, RefusesFrom, RunsFrom, RunsOn}
+use Rattle.mt_stream.specs.Handling.{Account, IsRunOfLines, RefusesFrom, ResultsFrom, ResultsOn}
 use Rattle.mt_stream.specs.Lines.{Path, early_of, run_status, tells_of}
-use Rattle.mt_stream.specs.Runs.{RefusesMemory}
-use Rattle.mt_stream.specs.Told.{Telling, transcript}
+use Rattle.mt_stream.specs.Results.{RefusesMemory}
+use Rattle.mt_stream.specs.Transcript.{Telling, transcript}
 use Rattle.mt_stream.specs.declared.ending.Cut.{Cut}
 use Rattle.mt_stream.specs.declared.ending.Ended.{Ended}
 use Rattle.mt_stream.proofs.Rounds.{ends_as}
 
 -- what is proved of the results may be said in other words
-module _ {S K : Type 0} (start : Path) (Asks : Telling → ℕ → List ℕ → Type 0) (Results : Held → Port → Status → Type 0) (results_of : (h : Held) (p : Port) (status : Status) → RunsOn start h p status → Results h p status)
+module _ {S K : Type 0} (start : Path) (Asks : Telling → ℕ → List ℕ → Type 0) (Results : Held → Port → Status → Type 0) (results_of : (h : Held) (p : Port) (status : Status) → ResultsOn start h p status → Results h p status)
     (source : SourceRun S) (sink : SinkRun K) where
   abbrev account : Account
   account = record { told = tells_of start; Results = Results; Refused = RefusesMemory (tells_of start) Asks }
 
   -- the loop was run
   pub ran : (run : Result Ended Cut) (status : Status) → status ≡ run_status run
-      → RunsFrom start (port source.left source.old source.new) (port sink.taken sink.old sink.new) (run_status run)
+      → ResultsFrom start (port source.left source.old source.new) (port sink.taken sink.old sink.new) (run_status run)
       → (run_status run ≡ NoMemory → RefusesFrom start Asks (port source.left source.old source.new) (port sink.taken sink.old sink.new))
       → StatusHasCause ReadFault (source.faults source.old) (source.faults source.new) status
       → StatusHasCause WriteFault (sink.faults sink.old) (sink.faults sink.new) status
       → ((run_status run ≡ TooLong) ↔ GaveTooMuch (source.given source.old) (source.given source.new))
       → (status ≢ Usage) × (status ≢ TooFew) × (status ≢ Disabled) → IsRunOfLines account source sink status
   ran run status is runs refuses failed cause long others =
-      let bytes : RunsFrom start (port source.left source.old source.new) (port sink.taken sink.old sink.new) status =
-      subst (RunsFrom start (port source.left source.old source.new) (port sink.taken sink.old sink.new)) (sym is) runs in
+      let bytes : ResultsFrom start (port source.left source.old source.new) (port sink.taken sink.old sink.new) status =
+      subst (ResultsFrom start (port source.left source.old source.new) (port sink.taken sink.old sink.new)) (sym is) runs in
       record {
         bytes = λ text known. results_of (held text (source.left source.new)) (port sink.taken sink.old sink.new) status (bytes text known);
         complete = λ text known.

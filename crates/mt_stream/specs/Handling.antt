@@ -1,7 +1,7 @@
 -- What a loop over the lines of a source is given, and what it leaves (own).
 --     Taken R call result      what a line makes of a run
 --     MayTake R pre, TakesEach R taken faults post      of a function that takes each line
---     RunsFrom start source sink status      what the loop leaves, where the source tells its bytes
+--     ResultsFrom start source sink status      what the loop leaves, where the source tells its bytes
 --     RefusesFrom start asks source sink      where memory was refused
 --     IsRunOfLines account source sink status      what is proved of a whole run
 use Rattle.std.specs.Prelude.{ℕ, ◌≡◌, ◌≢◌, ◌↔◌, ◌+◌, ◌≤◌, List, Option, Some, Result, Ok}
@@ -15,8 +15,8 @@ use Rattle.mt_ports.specs.declared.status.Status.{Status}
 use Rattle.mt_ports.specs.declared.status.Status.TheVariants.{Disabled, NoMemory, ReadFault, TooFew, TooLong, Usage, WriteFault}
 use Rattle.mt_stream.specs.Lines.{IfGoesOn, Path, Running, Takes, at_line, early_of, tells_of}
 use Rattle.mt_output.specs.Ports.{Change, Held, Port, SinkRun, SourceRun, Waiting, change, held, port}
-use Rattle.mt_stream.specs.Runs.{EndsAs, RefusedAtLine, RefusesMemory, Runs}
-use Rattle.mt_stream.specs.Told.{Telling, transcript}
+use Rattle.mt_stream.specs.Results.{EndsAs, RefusedAtLine, RefusesMemory, ResultsIn}
+use Rattle.mt_stream.specs.Transcript.{Telling, transcript}
 use Rattle.mt_stream.specs.declared.ending.Stop.{Stop}
 use Rattle.mt_stream.specs.declared.ending.Stop.TheVariants as stopped
 
@@ -60,11 +60,11 @@ TakesEach R {K} taken faults post =
 -- ---- all lines
 
 -- what a run leaves whose lines lead to this
-abbrev pub RunsOn : Path → Held → Port → Status → Type 0
-RunsOn start source sink status = Runs (tells_of start) (early_of start source.bytes) source sink status
+abbrev pub ResultsOn : Path → Held → Port → Status → Type 0
+ResultsOn start source sink status = ResultsIn (tells_of start) (early_of start source.bytes) source sink status
 
-abbrev pub RunsFrom : Path → Port → Port → Status → Type 0
-RunsFrom start source sink status = (bytes : List ℕ) → source.old ≡ Some bytes → RunsOn start (held bytes source.new) sink status
+abbrev pub ResultsFrom : Path → Port → Port → Status → Type 0
+ResultsFrom start source sink status = (bytes : List ℕ) → source.old ≡ Some bytes → ResultsOn start (held bytes source.new) sink status
 
 abbrev pub RefusesFrom : Path → (Telling → ℕ → List ℕ → Type 0) → Port → Port → Type 0
 RefusesFrom start Asks source sink = (bytes : List ℕ) → source.old ≡ Some bytes → RefusedAtLine (tells_of start) Asks (held bytes source.new) sink

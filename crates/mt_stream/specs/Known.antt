@@ -4,7 +4,7 @@
 use Rattle.std.specs.Prelude.{ℕ, List, [], ◌∷◌, if◌then◌else◌, None}
 use Rattle.std.specs.List.{list_any}
 use Rattle.mt_text.specs.Text.{is_line_end, is_too_long, lines_of}
-use Rattle.mt_stream.specs.Told.{Telling}
+use Rattle.mt_stream.specs.Transcript.{Telling}
 
 abbrev pub known_part : List ℕ → List ℕ
 known_part [] = []

@@ -2,5 +2,5 @@ pub mod Handling
 pub mod Known
 pub mod Laws
 pub mod Lines
-pub mod Runs
-pub mod Told
+pub mod Results
+pub mod Transcript

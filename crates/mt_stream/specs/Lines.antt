@@ -12,7 +12,7 @@ use Rattle.mt_ports.specs.declared.status.Status.{Status}
 use Rattle.mt_ports.specs.declared.status.Status.TheVariants.{BadText, Done, NoMemory, ReadFault, Refused, TooLong, WriteFault}
 use Rattle.mt_output.specs.Writing.{Passes}
 use Rattle.mt_output.specs.Ports.{Change, Port, Read, Waiting}
-use Rattle.mt_stream.specs.Told.{Telling, Told, behind}
+use Rattle.mt_stream.specs.Transcript.{Telling, Transcript, behind}
 use Rattle.mt_stream.specs.declared.ending.End.{End}
 use Rattle.mt_stream.specs.declared.ending.End.TheVariants as text_end
 use Rattle.mt_stream.specs.declared.ending.Stop.{Stop}
@@ -24,7 +24,7 @@ use Rattle.mt_stream.specs.declared.ending.Cut.TheVariants as cut
 
 -- What is told of a text, and what may have been written of it where memory is refused.
 pub record Leads : Type 0 where
-  pub tells : Told
+  pub tells : Transcript
   pub early : List ℕ
 
 -- what the lines of a text lead to from some line on, as a `Telling`
@@ -49,11 +49,11 @@ early_of start text = (start (Some (end_of text)) 1 (lines_of text)).early
 pub record Running : Type 1 where
   pub Run : Type 0
   pub At : Run → List ℕ → Path → Type 0  -- it stands where this was written and the lines that come lead to this
-  pub ends : Run → Place → Told  -- what is told where the text ends at a place
+  pub ends : Run → Place → Transcript  -- what is told where the text ends at a place
   pub Asks : Run → Telling → ℕ → List ℕ → Type 0  -- it may ask for memory at a line of this number, where it and those behind it tell this
   pub Ready : ℕ → Run → Type 0  -- it can take a line behind this many
 
-abbrev pub running : {T : Type 0} → (T → List ℕ → Path → Type 0) → (T → Place → Told) → (T → Telling → ℕ → List ℕ → Type 0) → (ℕ → T → Type 0) → Running
+abbrev pub running : {T : Type 0} → (T → List ℕ → Path → Type 0) → (T → Place → Transcript) → (T → Telling → ℕ → List ℕ → Type 0) → (ℕ → T → Type 0) → Running
 running {T} at ends asks ready = record { Run = T; At = at; ends = ends; Asks = asks; Ready = ready }
 
 -- what a line and those behind it lead to
@@ -89,7 +89,7 @@ stop_status stopped.NoMemory = NoMemory
 
 -- The transcript ends, whatever stands behind.
 pub record Ends (here : AtLine) (writer : Waiting) (sink : Port) (stop : Stop) : Type 0 where
-  pub telling : Told
+  pub telling : Transcript
   pub stops : (end : Option Place) (lines : List (List ℕ)) → (here.leads end lines).tells ≡ telling
   pub status_is : stop_status stop ≡ telling.status
   pub last : stop ≢ stopped.NoMemory
@@ -160,7 +160,7 @@ end_status text_end.Done = Done
 end_status text_end.BadText = BadText
 
 -- the last text goes to the sink with all that waits, or a front of them
-abbrev pub Closes : Told → List ℕ → Port → Result End Failed → Type 0
+abbrev pub Closes : Transcript → List ℕ → Port → Result End Failed → Type 0
 Closes t waiting sink result =
     MatchResult result
     (λ last. (end_status last ≡ t.status) × Appends sink.old sink.new (waiting ++ t.text))

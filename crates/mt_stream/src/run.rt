@@ -3,7 +3,7 @@ ghost use Rattle.mt_ports.specs.Causes.{HasCause};
 ghost use Rattle.mt_text.specs.declared.place.Place.{Place};
 ghost use Rattle.mt_stream.specs.Lines.{Closes, Path};
 ghost use Rattle.mt_output.specs.Ports.{port};
-ghost use Rattle.mt_stream.specs.Told.{Telling, Told};
+ghost use Rattle.mt_stream.specs.Transcript.{Telling, Transcript};
 
 use crate::End;
 use mt_output::Writer;
@@ -16,7 +16,7 @@ pub trait LineRun {
     ghost at: { Self → List ℕ → Path → Type 0 };
 
     /// What is told where the text ends at a place.
-    ghost ends: { Self → Place → Told };
+    ghost ends: { Self → Place → Transcript };
 
     /// It may ask for memory at a line of this number, where it and those behind it tell this.
     ghost asks: { Self → Telling → ℕ → List ℕ → Type 0 };
@@ -25,7 +25,12 @@ pub trait LineRun {
     ghost ready: { ℕ → Self → Type 0 };
 
     /// Writes what is told where the text ends, with all that waits, and returns how it ends.
-    fn finish<K: Sink>(&self, end: Place, writer: &mut Writer, sink: &mut K) -> Result<End, Failed>
+    fn write_end<K: Sink>(
+        &self,
+        end: Place,
+        writer: &mut Writer,
+        sink: &mut K,
+    ) -> Result<End, Failed>
         ensures bytes { Closes (ends self.now end) writer.old (port K.taken sink.old sink.new) result }
         ensures cause { HasCause (K.faults sink.old) (K.faults sink.new) result };
 }

@@ -3,11 +3,11 @@ ghost use Rattle.mt_text.specs.Text.{longest_input};
 ghost use Rattle.mt_text.specs.Feed.{GaveTooMuch, IsLong, TakesMore, taken};
 ghost use Rattle.mt_ports.specs.Causes.{HasCause, StatusHasCause};
 ghost use Rattle.mt_output.specs.Writing.{Adds};
-ghost use Rattle.mt_stream.specs.Handling.{MayTake, RefusesFrom, RunsFrom, TakesEach};
+ghost use Rattle.mt_stream.specs.Handling.{MayTake, RefusesFrom, ResultsFrom, TakesEach};
 ghost use Rattle.mt_stream.specs.Laws.{AreLaws};
 ghost use Rattle.mt_stream.specs.Lines.{Closes, Leaves, Next, Path, SinkHasCause, SourceHasCause, closed_run, end_status, last_line, run_status, running};
 ghost use Rattle.mt_output.specs.Ports.{change, port, read};
-ghost use Rattle.mt_stream.specs.Told.{told};
+ghost use Rattle.mt_stream.specs.Transcript.{transcript_with};
 
 use crate::{Cut, End, Ended, LineRun, Stop};
 use mt_output::Writer;
@@ -89,7 +89,7 @@ pub fn close<K: Sink>(
     end: End,
 ) -> Result<End, Failed>
     requires { length text.now ≤ 224 }
-    ensures bytes { Closes (told text.now (end_status end)) writer.old (port K.taken sink.old sink.new) result }
+    ensures bytes { Closes (transcript_with text.now (end_status end)) writer.old (port K.taken sink.old sink.new) result }
     ensures cause { HasCause (K.faults sink.old) (K.faults sink.new) result }
 {
     if let Err(failed) = writer.write(sink, text) {
@@ -162,7 +162,7 @@ where
     requires may { MayTake (running L.at L.ends L.asks L.ready) (F.pre take_line) }
     requires takes { TakesEach (running L.at L.ends L.asks L.ready) K.taken K.faults (F.post take_line) }
     ensures bytes { (start : Path) → L.at run.old [] start
-        → RunsFrom start (port S.left source.old source.new) (port K.taken sink.old sink.new) (run_status result) }
+        → ResultsFrom start (port S.left source.old source.new) (port K.taken sink.old sink.new) (run_status result) }
     ensures memory { (start : Path) → L.at run.old [] start → run_status result ≡ Status.NoMemory
         → RefusesFrom start (L.asks run.old) (port S.left source.old source.new) (port K.taken sink.old sink.new) }
     ensures source { SourceHasCause (S.faults source.old) (S.faults source.new) result }
@@ -173,14 +173,14 @@ where
     'lines: loop {
         match next_line(&mut feed, source, writer, sink) {
             Ok(true) => {}
-            Ok(false) => return closed(run.finish(feed.end(), writer, sink)),
+            Ok(false) => return closed(run.write_end(feed.end(), writer, sink)),
             Err(cut) => return Err(cut),
         }
         let last = feed.is_last();
         match take_line(run, &feed.current(), writer, sink) {
             Ok(None) => {
                 if last {
-                    return closed(run.finish(feed.end(), writer, sink));
+                    return closed(run.write_end(feed.end(), writer, sink));
                 }
             }
             Ok(Some(stop)) => return leave(stop, last, &mut feed, source, writer, sink),

@@ -30,7 +30,7 @@ use Rattle.mt_replay.specs.Kept.{IsReplayState}
 use Rattle.mt_replay.specs.ReplayState.{ReplayState, command_text, first_state, state_after}
 use Rattle.mt_replay.specs.Statuses.{AcceptedFirst, AcceptedUnlessRefused, BadTextEndsWithOffence, BadTextWhereOffence, DoneWhereNoOffence, EndsWith, HasRefusedFile, OffenceAlone, OneDumpShown, OneOfThreeStatuses, RefusedAlone, RefusedWhereFileIsRefused, ShowsDump, ShowsNoDump}
 use Rattle.mt_replay.specs.Transcript.{body_lines, told_at_end, told_by, told_command, told_dump, told_offence, transcript}
-use Rattle.mt_stream.specs.Told.{Told, behind, told}
+use Rattle.mt_stream.specs.Transcript.{Transcript, behind, transcript_with}
 use Rattle.mt_replay.proofs.FirstRefusal.{all_accepted, none_refused, refusal_found, refused_first}
 use Rattle.mt_replay.proofs.Keeping.First.{first_kept}
 use Rattle.mt_replay.proofs.Keeping.States.{command_known, state_kept}
@@ -39,11 +39,11 @@ use Rattle.mt_replay.proofs.Heads.{Comes, IsDumped, comes}
 -- ---- the lines behind the dump
 
 -- the status says whether there is an offence, and its line is the last
-abbrev Ends : Told → Option Offence → Type 0
+abbrev Ends : Transcript → Option Offence → Type 0
 Ends t None = t.status ≡ Done
 Ends t (Some o) = (t.status ≡ BadText) × EndsWith t.text (offence_line o)
 
-ends_behind : (text : List ℕ) (t : Told) (first : Option Offence) → Ends t first → Ends (behind text t) first
+ends_behind : (text : List ℕ) (t : Transcript) (first : Option Offence) → Ends t first → Ends (behind text t) first
 ends_behind text t None h = h
 ends_behind text t (Some o) h = (h.0, (text ++ h.1.0, ap (λ rest. text ++ rest) h.1.1 ∙ sym (append_assoc text h.1.0 (offence_line o))))
 
@@ -85,7 +85,7 @@ record ToldRefused (text : List ℕ) : Type 0 where
   shows : ShowsDump text dump
   alone : (other : Dump) → ShowsDump text other → other ≡ dump
   has : first_refusal dump.files ≡ Some refusal
-  is : transcript text ≡ told (dump_refused_line dump.version refusal.0 refusal.1) Refused
+  is : transcript text ≡ transcript_with (dump_refused_line dump.version refusal.0 refusal.1) Refused
 
 -- None of them has.
 record ToldAccepted (text : List ℕ) : Type 0 where
@@ -93,7 +93,7 @@ record ToldAccepted (text : List ℕ) : Type 0 where
   shows : ShowsDump text dump
   alone : (other : Dump) → ShowsDump text other → other ≡ dump
   has : first_refusal dump.files ≡ None
-  rest : Told
+  rest : Transcript
   is : transcript text ≡ behind accepted_line rest
   ends : Ends rest (script_offence text)
 
@@ -103,7 +103,7 @@ data Outcome (text : List ℕ) : Type 0 where
   of_accepted : ToldAccepted text → Outcome text
 
 module _ (text : List ℕ) where
-  abbrev tells : HeadEnd → Told
+  abbrev tells : HeadEnd → Transcript
   tells e = told_by (λ last. told_at_end (end_fault last.stage (end_of text))) (body_lines (Some (end_of text))) e
 
   of_dump : (now : Situation) (dump : Dump) (number : ℕ) (lines : List (List ℕ)) → IsDumped (end_of text) 1 (lines_of text) (script_offence text) (ShowsDump text) now dump number lines
@@ -140,14 +140,14 @@ one_dump_shown text dump other shows also = by (outcome_of text)
 
 -- ---- statuses
 
-status_of : (text : List ℕ) (t : Told) → transcript text ≡ t → (transcript text).status ≡ t.status
-status_of text t is = ap (λ (x : Told). x.status) is
+status_of : (text : List ℕ) (t : Transcript) → transcript text ≡ t → (transcript text).status ≡ t.status
+status_of text t is = ap (λ (x : Transcript). x.status) is
 
-text_of : (text : List ℕ) (t : Told) → transcript text ≡ t → (transcript text).text ≡ t.text
-text_of text t is = ap (λ (x : Told). x.text) is
+text_of : (text : List ℕ) (t : Transcript) → transcript text ≡ t → (transcript text).text ≡ t.text
+text_of text t is = ap (λ (x : Transcript). x.text) is
 
 -- what the status of such an ending is
-ending : (status : Status) (first : Option Offence) → (t : Told) → status ≡ t.status → Ends t first
+ending : (status : Status) (first : Option Offence) → (t : Transcript) → status ≡ t.status → Ends t first
     → ((first ≡ None) × (status ≡ Done)) ⊎ (((o : Offence) × (first ≡ Some o) × EndsWith t.text (offence_line o)) × (status ≡ BadText))
 ending status None t same h = inl (refl, same ∙ h)
 ending status (Some o) t same h = inr ((o, refl, h.1), same ∙ h.0)
@@ -200,22 +200,22 @@ pub refused_where_file_is_refused : RefusedWhereFileIsRefused
 refused_where_file_is_refused text = by (said_of_outcome text)
   where
     by : ToldRefused text ⊎ IsSaid text (script_offence text) → ((transcript text).status ≡ Refused) ↔ HasRefusedFile text
-    by (inl h) = (λ refused. refused_of text h, λ has. status_of text (told (dump_refused_line h.dump.version h.refusal.0 h.refusal.1) Refused) h.is)
+    by (inl h) = (λ refused. refused_of text h, λ has. status_of text (transcript_with (dump_refused_line h.dump.version h.refusal.0 h.refusal.1) Refused) h.is)
     by (inr h) = (λ refused. absurd (h.not_refused refused), λ has. absurd (h.file has))
 
 pub refused_alone : RefusedAlone
 refused_alone text dump k fault shows first = by (said_of_outcome text)
   where
-    by : ToldRefused text ⊎ IsSaid text (script_offence text) → transcript text ≡ told (dump_refused_line dump.version k fault) Refused
+    by : ToldRefused text ⊎ IsSaid text (script_offence text) → transcript text ≡ transcript_with (dump_refused_line dump.version k fault) Refused
     by (inl h) =
         let one : dump ≡ h.dump = h.alone dump shows in
         let both : Some (k, fault) ≡ Some h.refusal = sym (refused_has h.dump dump k fault one first) ∙ h.has in
         let same : h.refusal ≡ (k, fault) = cc both in
-        h.is ∙ (λ i. told (dump_refused_line (sym one i).version (same i).0 (same i).1) Refused)
+        h.is ∙ (λ i. transcript_with (dump_refused_line (sym one i).version (same i).0 (same i).1) Refused)
     by (inr h) = absurd (h.file (dump, k, fault, shows, first))
 
 is_refused : (text : List ℕ) → ToldRefused text → (transcript text).status ≡ Refused
-is_refused text h = status_of text (told (dump_refused_line h.dump.version h.refusal.0 h.refusal.1) Refused) h.is
+is_refused text h = status_of text (transcript_with (dump_refused_line h.dump.version h.refusal.0 h.refusal.1) Refused) h.is
 
 pub bad_text_where_offence : BadTextWhereOffence
 bad_text_where_offence text = by (said_of_outcome text)
@@ -319,6 +319,6 @@ shows_none text bad = by (outcome_of text)
     by : Outcome text → ShowsNoDump text
     by (of_none h) = h.none
     by (of_refused h) =
-        let e : tells_bad (transcript text).text ≡ false = ap (λ (t : Told). tells_bad t.text) h.is ∙ refused_letter h.dump.version h.refusal.0 h.refusal.1 in
+        let e : tells_bad (transcript text).text ≡ false = ap (λ (t : Transcript). tells_bad t.text) h.is ∙ refused_letter h.dump.version h.refusal.0 h.refusal.1 in
         absurd (cc (e, bad))
-    by (of_accepted h) = absurd (let e : tells_bad (transcript text).text ≡ false = ap (λ (t : Told). tells_bad t.text) h.is in cc (e, bad))
+    by (of_accepted h) = absurd (let e : tells_bad (transcript text).text ≡ false = ap (λ (t : Transcript). tells_bad t.text) h.is in cc (e, bad))

@@ -21,7 +21,7 @@ use Rattle.mt_replay.specs.Kept.{IsReplayState}
 use Rattle.mt_replay.specs.ReplayState.{ReplayState, first_state, state_after}
 use Rattle.mt_replay.specs.Running.{CarriesOut, IsAt}
 use Rattle.mt_output.specs.Ports.{Port, Waiting, change}
-use Rattle.mt_replay.specs.Transcript.{Point, in_body, in_head}
+use Rattle.mt_replay.specs.Transcript.{ScriptState, in_body, in_head}
 use Rattle.mt_replay.specs.Summary.{last_from}
 use Rattle.mt_replay.specs.Summing.{Begins, Lasts, LastsHere, LastsOn, last_lines, state_in}
 use Rattle.mt_replay.specs.declared.line.Run.{Run}
@@ -89,7 +89,7 @@ pub fault_lasts : (s : ReplayState) (number : ℕ) (line : List ℕ) (fault : Sc
 fault_lasts s number line fault asked lines = ap (λ r. Some (last_of s (steps_of s number (steps_in (number + 1) lines) r))) asked
 
 -- a last text was written, or failed
-pub last_told : (number : ℕ) (line : List ℕ) (was : Point) (now : Run) (told : Stop) (result : Result (Option Stop) Failed) → IfOk result (λ ended. ended ≡ Some told)
+pub last_told : (number : ℕ) (line : List ℕ) (was : ScriptState) (now : Run) (told : Stop) (result : Result (Option Stop) Failed) → IfOk result (λ ended. ended ≡ Some told)
     → LastsHere number line was now → Lasts number line was now result
 last_told number line was now told (Ok None) is here = absurd (cc is)
 last_told number line was now told (Ok (Some stop)) is here = λ other. here

@@ -15,8 +15,8 @@ use Rattle.mt_stream.specs.Lines.{Ends, GoesOn, Leads, Path}
 use Rattle.mt_output.specs.Ports.{change}
 use Rattle.mt_replay.specs.Summary.{last_state, summary, totals, updates_in}
 use Rattle.mt_replay.specs.Summing.{LastsHere, LastsOn, last_lines, no_totals, state_in, with_memory, with_text}
-use Rattle.mt_replay.specs.Transcript.{Point, in_body, in_head, told_at_end, told_lines, transcript}
-use Rattle.mt_stream.specs.Told.{Told, behind, told}
+use Rattle.mt_replay.specs.Transcript.{ScriptState, in_body, in_head, told_at_end, told_lines, transcript}
+use Rattle.mt_stream.specs.Transcript.{Transcript, behind, transcript_with}
 use Rattle.mt_replay.specs.declared.line.Run.{Run}
 use Rattle.mt_replay.specs.declared.line.Run.TheVariants as run
 use Rattle.mt_replay.specs.declared.summing.Totals.{Totals}
@@ -29,13 +29,13 @@ use Rattle.mt_replay.proofs.Sums.Texts.{Writes, alone, line_writes, offence_writ
 -- The lines before a place of a script were taken, and what they write was counted.
 pub record Summed (source : List ℕ) (at number : ℕ) (now : Run) (t : Totals) : Type 0 where
   pub text : List ℕ
-  pub point : Point
+  pub point : ScriptState
   pub stands : IsAt now point
   pub led : transcript source ≡ behind text (told_lines (Some (end_of source)) number (lines_of (drop at source)) point)
   pub whole : IsWhole text
   pub few : updates_in text ≤ at
   pub counted : t ≡ with_text no_totals text
-  pub last_point : Point
+  pub last_point : ScriptState
   pub last_stands : IsAt now last_point
   pub last : last_state source ≡ last_lines number (lines_of (drop at source)) last_point
 
@@ -58,10 +58,10 @@ waits : (text waiting left : List ℕ) → waiting ≡ [] → Passes waiting tex
 waits text waiting left none p = sym (ap (λ l. l ++ text) (sym none) ∙ p.cut ∙ ap (λ l. l ++ left) (sym p.taken))
 
 -- a text with its numbers, behind which nothing is told
-ended : (source text : List ℕ) (now : Run) (t : Totals) (rest : Told) → updates_in text < 2 ^ 64 → t ≡ with_text no_totals text → transcript source ≡ rest → rest.text ≡ text → last_state source ≡ state_in now
+ended : (source text : List ℕ) (now : Run) (t : Totals) (rest : Transcript) → updates_in text < 2 ^ 64 → t ≡ with_text no_totals text → transcript source ≡ rest → rest.text ≡ text → last_state source ≡ state_in now
     → with_memory t (state_in now) ≡ summary source
 ended source text now t rest few counted led is last =
-    totals_are text (state_in now) t few counted ∙ ap (λ l. totals l (state_in now)) (sym (ap (λ (x : Told). x.text) led ∙ is)) ∙ ap (totals (transcript source).text) (sym last)
+    totals_are text (state_in now) t few counted ∙ ap (λ l. totals l (state_in now)) (sym (ap (λ (x : Transcript). x.text) led ∙ is)) ∙ ap (totals (transcript source).text) (sym last)
 
 module _ (source : List ℕ) (at next number : ℕ) (bytes : List ℕ) (now : Run) (t : Totals) (h : Summed source at number now t) (cut : lines_of (drop at source) ≡ bytes ∷ lines_of (drop next source)) (waiting left : List ℕ) (none : waiting ≡ []) where
   from_here : transcript source ≡ behind h.text (from_line number bytes h.point (Some (end_of source)) (lines_of (drop next source)))
@@ -73,8 +73,8 @@ module _ (source : List ℕ) (at next number : ℕ) (bytes : List ℕ) (now : Ru
         let (next_point, came, stands, quiet, same) = g.at in
         let goes : (end : Option Place) (lines : List (List ℕ)) → from_line number bytes h.point end lines ≡ behind g.text (told_lines end (number + 1) lines next_point) =
         λ end lines. ap (λ (x : Leads). x.tells) (g.goes end lines) ∙ ap (λ (t : Path). behind g.text (t end (number + 1) lines).tells) same in
-        let known : alone number bytes h.point ≡ behind g.text (told [] Done) = goes None [] ∙ ap (behind g.text) (none_known (number + 1) next_point) in
-        let writes : Writes 1 g.text = subst (Writes 1) (ap (λ (x : Told). x.text) known ∙ append-nil g.text) (line_writes number bytes now h.point h.stands) in
+        let known : alone number bytes h.point ≡ behind g.text (transcript_with [] Done) = goes None [] ∙ ap (behind g.text) (none_known (number + 1) next_point) in
+        let writes : Writes 1 g.text = subst (Writes 1) (ap (λ (x : Transcript). x.text) known ∙ append-nil g.text) (line_writes number bytes now h.point h.stands) in
         record {
           text = h.text ++ g.text;
           point = next_point;
@@ -92,7 +92,7 @@ module _ (source : List ℕ) (at next number : ℕ) (bytes : List ℕ) (now : Ru
     pub summed_ends : (so_far : List ℕ) (stop : Stop) → Ends (line_at false so_far number bytes h.point) (change waiting left) (change (Some []) (Some [])) stop → LastsHere number bytes h.last_point later → at + 1 < 2 ^ 64
         → with_memory (with_text t left) (state_in later) ≡ summary source
     summed_ends so_far stop e lasts low =
-        let writes : Writes 1 e.telling.text = subst (λ (x : Told). Writes 1 x.text) (e.stops None []) (line_writes number bytes now h.point h.stands) in
+        let writes : Writes 1 e.telling.text = subst (λ (x : Transcript). Writes 1 x.text) (e.stops None []) (line_writes number bytes now h.point h.stands) in
         let counted : with_text t left ≡ with_text no_totals (h.text ++ e.telling.text) =
         ap (λ l. with_text t l) (waits e.telling.text waiting left none e.passed) ∙ ap (λ (x : Totals). with_text x e.telling.text) h.counted ∙ texts_both no_totals h.text e.telling.text h.whole in
         ended source (h.text ++ e.telling.text) later (with_text t left) (behind h.text e.telling) (omega (arith, updates_both h.text e.telling.text h.whole, h.few, writes.few, low)) counted
@@ -103,7 +103,7 @@ module _ (source : List ℕ) (at number : ℕ) (now : Run) (t : Totals) (h : Sum
   at_end : transcript source ≡ behind h.text (told_at_end (end_fault (setup_of now).stage (end_of source)))
   at_end = h.led ∙ ap (λ ls. behind h.text (told_lines (Some (end_of source)) number ls h.point)) none ∙ ap (behind h.text) (none_told (end_of source) number now h.point h.stands)
 
-  state_left : (now : Run) (point : Point) → IsAt now point → last_lines number [] point ≡ state_in now
+  state_left : (now : Run) (point : ScriptState) → IsAt now point → last_lines number [] point ≡ state_in now
   state_left (run.Head r) (in_head s before) stands = refl
   state_left (run.Head r) (in_body s) stands = absurd stands
   state_left (run.Body r) (in_head s before) stands = absurd stands
@@ -114,7 +114,7 @@ module _ (source : List ℕ) (at number : ℕ) (now : Run) (t : Totals) (h : Sum
 
   pub summed_done : end_fault (setup_of now).stage (end_of source) ≡ None → with_memory t (state_in now) ≡ summary source
   summed_done good =
-      ended source h.text now t (behind h.text (told [] Done)) (omega (arith, h.few, low)) h.counted (at_end ∙ ap (λ f. behind h.text (told_at_end f)) good) (append-nil h.text) last_is
+      ended source h.text now t (behind h.text (transcript_with [] Done)) (omega (arith, h.few, low)) h.counted (at_end ∙ ap (λ f. behind h.text (told_at_end f)) good) (append-nil h.text) last_is
 
   pub summed_bad : (fault : ScriptFault) → end_fault (setup_of now).stage (end_of source) ≡ Some fault → with_memory (with_text t (offence_line (Script fault))) (state_in now) ≡ summary source
   summed_bad fault bad =

@@ -42,11 +42,11 @@ use Rattle.mt_replay.specs.declared.task.Ask.{Ask}
 use Rattle.mt_replay.specs.declared.task.Ask.TheVariants as ask
 use Rattle.mt_replay.specs.declared.task.Section.TheVariants as section
 use Rattle.mt_replay.specs.Running.{IsAt, from_line}
-use Rattle.mt_replay.specs.ReplayState.{ReplayState, after_update, call_fault, call_line, command_text, file_at, is_undecided, is_update, memory_word, register_value, update_line, is_absent, may_come, may_go, present_text, retire_text, stays_line, acted, asked_of, outcome, task_of}
+use Rattle.mt_replay.specs.ReplayState.{ReplayState, after_update, call_fault, call_line, command_text, file_at, is_undecided, is_update, memory_word, register_value, update_line, is_absent, may_come, may_go, present_text, retire_text, stays_line, acted, asked_of, effect, task_of}
 use Rattle.mt_replay.specs.Summary.{is_complete, updates_in}
 use Rattle.mt_replay.specs.Texts.{call_fault_line, called_line, cancel_line, complete_line, done_line, event_text, go_line, have_one_file, memory_line, number_at, phase_text, processor_line, processor_lines, register_line, registers_line, report_text, ruled_line, stale_count, stepped_line, switch_text, absent_line, full_line, joined_line, no_line, retired_line, under_way_line, up_line}
-use Rattle.mt_replay.specs.Transcript.{Point, body_lines, head_lines, in_body, in_head, told_command, told_dump}
-use Rattle.mt_stream.specs.Told.{Told}
+use Rattle.mt_replay.specs.Transcript.{ScriptState, body_lines, head_lines, in_body, in_head, told_command, told_dump}
+use Rattle.mt_stream.specs.Transcript.{Transcript}
 use Rattle.mt_replay.specs.declared.line.Run.{Run}
 use Rattle.mt_replay.specs.declared.line.Run.TheVariants as run
 use Rattle.mt_replay.proofs.Walks.{from_body, head_leads, told_after}
@@ -243,7 +243,7 @@ acted_writes s act.Retire = leave_writes s.machine
 acted_writes s (act.Section section.End) = end_writes s (is_update s.now.stage)
 acted_writes s other = nothing
 
-task_writes : (s : ReplayState) (t : Task) → Writes 1 (outcome s t).text
+task_writes : (s : ReplayState) (t : Task) → Writes 1 (effect s t).text
 task_writes s task.Report = more (omega arith) (report_writes s.machine.system.processors)
 task_writes s task.Up = come_writes s.machine (up_line (length s.machine.system.processors)) (one (both (plain (codes "up ") refl) (decimal_inside (length s.machine.system.processors))))
 task_writes s task.Join = come_writes s.machine (joined_line (length s.machine.system.processors)) (one (both (plain (codes "joined ") refl) (decimal_inside (length s.machine.system.processors))))
@@ -258,7 +258,7 @@ command_writes s c = by (is_absent s.machine c)
     by false = task_writes s (task_of c)
 
 -- what a line leads to where no known line stands behind it
-abbrev pub alone : ℕ → List ℕ → Point → Told
+abbrev pub alone : ℕ → List ℕ → ScriptState → Transcript
 alone number line was = from_line number line was None []
 
 with_nothing : (text : List ℕ) → Writes 1 text → Writes 1 (text ++ [])
@@ -278,10 +278,10 @@ head_writes now number (shows d) = dump_writes now d number (first_refusal d.fil
 head_writes now number (offends o) = more (omega arith) (offence_writes o)
 
 -- what a line writes, from where a run stands
-pub line_writes : (number : ℕ) (line : List ℕ) (now : Run) (was : Point) → IsAt now was → Writes 1 (alone number line was).text
+pub line_writes : (number : ℕ) (line : List ℕ) (now : Run) (was : ScriptState) → IsAt now was → Writes 1 (alone number line was).text
 line_writes number line (run.Head h) (in_head now before) at =
-    subst (λ (t : Told). Writes 1 t.text) (sym (head_leads now before number line (head_step now before number line) refl None [])) (head_writes now (number + 1) (head_step now before number line))
+    subst (λ (t : Transcript). Writes 1 t.text) (sym (head_leads now before number line (head_step now before number line) refl None [])) (head_writes now (number + 1) (head_step now before number line))
 line_writes number line (run.Head h) (in_body s) at = absurd at
 line_writes number line (run.Body r) (in_head now before) at = absurd at
 line_writes number line (run.Body r) (in_body s) at =
-    subst (λ (t : Told). Writes 1 t.text) (sym (from_body s number line None [])) (body_writes s (number + 1) (command_of s.now number line))
+    subst (λ (t : Transcript). Writes 1 t.text) (sym (from_body s number line None [])) (body_writes s (number + 1) (command_of s.now number line))

@@ -32,7 +32,7 @@ use Rattle.mt_admit.specs.Admission.{admitted, brought_up}
 use Rattle.mt_replay_laws.specs.Settling.{IsWithoutCall}
 use Rattle.mt_replay.proofs.Keeping.Absent.{absent_machine, there_machine, there_text}
 use Rattle.mt_replay_laws.specs.Headline.{IsCall, NoneOf, NoneWrote, pass_line, release_line}
-use Rattle.mt_replay.specs.Steps.{Step, last_of, left, wrote}
+use Rattle.mt_replay.specs.Steps.{ScriptStep, last_of, left, wrote}
 use Rattle.mt_replay.specs.Kept.{IsReplayState}
 use Rattle.mt_replay.specs.ReplayState.{ReplayState, after_word, call_fault, command_text, file_at, is_undecided, machine_after, mapping, after_retire, is_absent, present_after, present_text}
 use Rattle.mt_replay.specs.Texts.{event_text, stepped_line}
@@ -127,7 +127,7 @@ acts s c h fits calls past = one (is_absent s.machine c) refl
     one false there = subst (λ (v : Machine × List ℕ). Acts s.machine v.0 v.1) (λ i. (sym (there_machine s c there) i, sym (there_text s c there) i)) (acts_there s c h fits calls past)
 
 -- of a step that is no call
-pub step_acts_in : (step : Step) → IsReplayState step.before → Fits step.before.now step.command → (IsCall step → ⊥) → takes_windows step.before.now.stage ≡ false → Acts step.before.machine (left step).machine (wrote step)
+pub step_acts_in : (step : ScriptStep) → IsReplayState step.before → Fits step.before.now step.command → (IsCall step → ⊥) → takes_windows step.before.now.stage ≡ false → Acts step.before.machine (left step).machine (wrote step)
 step_acts_in step h fits calls past = acts step.before step.command h fits (no_call step h calls) (is_no_window step.before.now step.command fits past)
 
 -- ---- what the text excludes
@@ -146,10 +146,10 @@ pub record Stands (s : ReplayState) : Type 0 where
   pub is : IsReplayState s
   pub past : takes_windows s.now.stage ≡ false
 
-pub stands_after : (step : Step) → Stands step.before → Fits step.before.now step.command → Stands (left step)
+pub stands_after : (step : ScriptStep) → Stands step.before → Fits step.before.now step.command → Stands (left step)
 stands_after step h fits = record { is = state_kept step.before step.command h.is fits; past = stays_past step.before.now step.command h.past }
 
-pub stands_behind : (steps : List Step) (s : ReplayState) → Stands s → GoesOn s steps → Stands (last_of s steps)
+pub stands_behind : (steps : List ScriptStep) (s : ReplayState) → Stands s → GoesOn s steps → Stands (last_of s steps)
 stands_behind [] s h on = h
 stands_behind (step ∷ steps) s h on = stands_behind steps (left step) (stands_after step (subst Stands (sym on.0) h) on.1) on.2
 
@@ -160,7 +160,7 @@ order_acts goal era m n text (inr (inl (e, enabled, quiet, same, tells))) h =
 order_acts goal era m n text (inr (inr goes)) h = subst (λ (x : Machine). IsOf goal era x.order) (sym goes.2) (subst (IsOf goal era) (sym goes.0) tt)
 
 -- the order that stands behind steps without a call is the one before them
-pub order_stays : (goal : RegisterFile) (era : ℕ) (steps : List Step) (s : ReplayState) → Stands s → GoesOn s steps → NoneOf IsCall steps → IsOf goal era s.machine.order → IsOf goal era (last_of s steps).machine.order
+pub order_stays : (goal : RegisterFile) (era : ℕ) (steps : List ScriptStep) (s : ReplayState) → Stands s → GoesOn s steps → NoneOf IsCall steps → IsOf goal era s.machine.order → IsOf goal era (last_of s steps).machine.order
 order_stays goal era [] s h on none is = is
 order_stays goal era (step ∷ steps) s h on none is =
     let here : Stands step.before = subst Stands (sym on.0) h in
@@ -182,7 +182,7 @@ none_acts m n text (inr (inl (e, enabled, quiet, same, tells))) none =
     ap (λ (x : Machine). x.order) same ∙ ap (λ (v : Option Order). (next (machine m.system v) e).order) none ∙ none_on e m.system quiet
 none_acts m n text (inr (inr goes)) none = ap (λ (x : Machine). x.order) goes.2 ∙ none
 
-none_left : (steps : List Step) (s : ReplayState) → Stands s → GoesOn s steps → NoneOf IsCall steps → s.machine.order ≡ None → (last_of s steps).machine.order ≡ None
+none_left : (steps : List ScriptStep) (s : ReplayState) → Stands s → GoesOn s steps → NoneOf IsCall steps → s.machine.order ≡ None → (last_of s steps).machine.order ≡ None
 none_left [] s h on calls none = none
 none_left (step ∷ steps) s h on calls none =
     let here : Stands step.before = subst Stands (sym on.0) h in
@@ -205,7 +205,7 @@ on_between m n r text (inr (inl (e, enabled, quiet, same, tells))) other some h 
 on_between m n r text (inr (inr goes)) other some h = absurd (some goes.0)
 
 -- while an update is under way to the end none goes
-pub none_release : (steps : List Step) (s : ReplayState) → Stands s → GoesOn s steps → NoneOf IsCall steps → NoneWrote release_line steps → ((last_of s steps).machine.order ≡ None → ⊥) → Goes_between s.machine (last_of s steps).machine
+pub none_release : (steps : List ScriptStep) (s : ReplayState) → Stands s → GoesOn s steps → NoneOf IsCall steps → NoneWrote release_line steps → ((last_of s steps).machine.order ≡ None → ⊥) → Goes_between s.machine (last_of s steps).machine
 none_release [] s h on calls releases some = record { events = []; enabled = tt; no_release = refl; is = refl }
 none_release (step ∷ steps) s h on calls releases some =
     let here : Stands step.before = subst Stands (sym on.0) h in
@@ -227,16 +227,16 @@ abbrev pub WaitsIn : RegisterFile → ℕ → ReplayState → Type 0
 WaitsIn goal era s = Waits goal era s.machine.system s.machine.order
 
 -- The first of these steps that passes, and up to it all wait.
-pub record FirstPass (goal : RegisterFile) (era : ℕ) (steps : List Step) : Type 0 where
-  pub waiting : List Step
-  pub pass : Step
-  pub between : List Step
+pub record FirstPass (goal : RegisterFile) (era : ℕ) (steps : List ScriptStep) : Type 0 where
+  pub waiting : List ScriptStep
+  pub pass : ScriptStep
+  pub between : List ScriptStep
   pub is : steps ≡ waiting ++ pass ∷ between
   pub none : NoneWrote pass_line waiting
   pub passes : wrote pass ≡ pass_line
   pub waits : WaitsIn goal era pass.before
 
-pub first_pass : (goal : RegisterFile) (era : ℕ) (steps : List Step) (s : ReplayState) → Stands s → GoesOn s steps → NoneOf IsCall steps → WaitsIn goal era s → FirstPass goal era steps ⊎ WaitsIn goal era (last_of s steps)
+pub first_pass : (goal : RegisterFile) (era : ℕ) (steps : List ScriptStep) (s : ReplayState) → Stands s → GoesOn s steps → NoneOf IsCall steps → WaitsIn goal era s → FirstPass goal era steps ⊎ WaitsIn goal era (last_of s steps)
 first_pass goal era [] s h on none waits = inr waits
 first_pass goal era (step ∷ steps) s h on none waits =
     one
@@ -252,7 +252,7 @@ first_pass goal era (step ∷ steps) s h on none waits =
 
     longer : (wrote step ≡ pass_line → ⊥) → FirstPass goal era steps ⊎ WaitsIn goal era (last_of (left step) steps) → FirstPass goal era (step ∷ steps) ⊎ WaitsIn goal era (last_of (left step) steps)
     longer other (inl f) =
-        inl (record { waiting = step ∷ f.waiting; pass = f.pass; between = f.between; is = ap (λ (rest : List Step). step ∷ rest) f.is; none = (other, f.none); passes = f.passes; waits = f.waits })
+        inl (record { waiting = step ∷ f.waiting; pass = f.pass; between = f.between; is = ap (λ (rest : List ScriptStep). step ∷ rest) f.is; none = (other, f.none); passes = f.passes; waits = f.waits })
     longer other (inr w) = inr w
 
     one : ((wrote step ≡ pass_line → ⊥) → FirstPass goal era steps ⊎ WaitsIn goal era (last_of (left step) steps)) → (wrote step ≡ pass_line) ⊎ (wrote step ≡ pass_line → ⊥)

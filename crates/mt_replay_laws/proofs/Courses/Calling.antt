@@ -18,7 +18,7 @@ use Rattle.mt_replay_laws.specs.Coming.{BringsUp}
 use Rattle.mt_admit.specs.Admission.{admitted}
 use Rattle.mt_replay_laws.proofs.Courses.Newcomers.{call_of_end, comes_as_newcomer, coming_or_not, newcomer_comes, newcomer_is_coming}
 use Rattle.mt_replay_laws.specs.Headline.{AcceptedWhereIdleAndWhole, GoalsAreOfTheirSections, IsCall, NoneOf, SectionOf, given, goal_of, release_line, IsCalled, IsNewcomer, IsSectionCall, Joins}
-use Rattle.mt_replay.specs.Steps.{Step, course, last_of, left, wrote}
+use Rattle.mt_replay.specs.Steps.{ScriptStep, course, last_of, left, wrote}
 use Rattle.mt_replay.specs.Kept.{IsReplayState}
 use Rattle.mt_replay.specs.ReplayState.{ReplayState, call_fault, command_text, first_file, goal_after, machine_after, may_come}
 use Rattle.mt_replay.specs.Texts.{called_line, complete_line}
@@ -40,7 +40,7 @@ none_stays s other h fits calls none = none_acts s.machine (machine_after s othe
 
 -- ---- calls
 
-call_or_not : (step : Step) → IsReplayState step.before → IsCall step ⊎ (IsCall step → ⊥)
+call_or_not : (step : ScriptStep) → IsReplayState step.before → IsCall step ⊎ (IsCall step → ⊥)
 call_or_not step h = by (end_or_not step.before step.command)
   where
     no_fault : IsSectionCall step → call_fault step.before.machine step.before.goal ≡ None
@@ -69,22 +69,22 @@ call_or_not step h = by (end_or_not step.before step.command)
     by (inr none) =
         ⊎_elim (λ (newcomer : IsNewcomer step). inl (inr newcomer)) (λ (no_newcomer : IsNewcomer step → ⊥). inr (other none.0 none.1 no_newcomer)) (comes (coming_or_not step.command))
 
-abbrev pub CalledIn : List Step → Type 0
+abbrev pub CalledIn : List ScriptStep → Type 0
 CalledIn steps =
-    (before : List Step) × (call : Step) × (between : List Step)
+    (before : List ScriptStep) × (call : ScriptStep) × (between : List ScriptStep)
     × (steps ≡ before ++ call ∷ between) × IsCalled call × NoneOf IsCall between
 
-abbrev StillOrCalled : ReplayState → List Step → Type 0
+abbrev StillOrCalled : ReplayState → List ScriptStep → Type 0
 StillOrCalled s steps = (IsSome s.machine.order × NoneOf IsCall steps) ⊎ CalledIn steps
 
 -- a complete update leaves no order
-none_after : (step : Step) (era : ℕ) → IsReplayState step.before → wrote step ≡ complete_line era → (left step).machine.order ≡ None
+none_after : (step : ScriptStep) (era : ℕ) → IsReplayState step.before → wrote step ≡ complete_line era → (left step).machine.order ≡ None
 none_after step era h is =
     let w = writes_complete step.before step.command era is in
     ap (λ (c : Command). (machine_after step.before c).order) w.0 ∙ (complete_updates_settle step.before h w.1 w.2).no_order
 
 -- nor does one that joins
-none_joins : (step : Step) (k : ℕ) → Joins step k → (left step).machine.order ≡ None
+none_joins : (step : ScriptStep) (k : ℕ) → Joins step k → (left step).machine.order ≡ None
 none_joins step k joins =
     ap (λ (c : Command). (machine_after step.before c).order) joins.0
     ∙ ap (λ (b : Bool). (if b then admitted step.before.machine else step.before.machine).order) (newcomer_comes step (k, inr joins))
@@ -93,8 +93,8 @@ some_is_not_none : (o : Option Order) → IsSome o → o ≡ None → ⊥
 some_is_not_none None some is = cc some
 some_is_not_none (Some order) some is = cc is
 
-one_more : (step : Step) (steps : List Step) → IsReplayState step.before → Fits step.before.now step.command → IsCall step ⊎ (IsCall step → ⊥) → StillOrCalled (left step) steps → StillOrCalled step.before (step ∷ steps)
-one_more step steps h fits decided (inr c) = inr (step ∷ c.0, c.1, c.2, ap (λ (rest : List Step). step ∷ rest) c.3, c.4, c.5)
+one_more : (step : ScriptStep) (steps : List ScriptStep) → IsReplayState step.before → Fits step.before.now step.command → IsCall step ⊎ (IsCall step → ⊥) → StillOrCalled (left step) steps → StillOrCalled step.before (step ∷ steps)
+one_more step steps h fits decided (inr c) = inr (step ∷ c.0, c.1, c.2, ap (λ (rest : List ScriptStep). step ∷ rest) c.3, c.4, c.5)
 one_more step steps h fits (inl (inl (inl called))) (inl still) = inr ([], step, steps, refl, inl called, still.1)
 one_more step steps h fits (inl (inr (k, inl up))) (inl still) = inr ([], step, steps, refl, inr (k, up), still.1)
 one_more step steps h fits (inl (inr (k, inr joins))) (inl still) = absurd (some_is_not_none (left step).machine.order still.0 (none_joins step k joins))
@@ -105,7 +105,7 @@ one_more step steps h fits (inr other) (inl still) = one step.before.machine.ord
     one None is = absurd (some_is_not_none (left step).machine.order still.0 (none_stays step.before step.command h fits (no_call step h other) is))
     one (Some o) is = inl (subst (λ (v : Option Order). IsSome v) (sym is) refl, (other, still.1))
 
-called_before : (steps : List Step) (s : ReplayState) → IsReplayState s → GoesOn s steps → IsSome (last_of s steps).machine.order → StillOrCalled s steps
+called_before : (steps : List ScriptStep) (s : ReplayState) → IsReplayState s → GoesOn s steps → IsSome (last_of s steps).machine.order → StillOrCalled s steps
 called_before [] s h on some = inl (some, tt)
 called_before (step ∷ steps) s h on some =
     let here : IsReplayState step.before = subst IsReplayState (sym on.0) h in
@@ -113,7 +113,7 @@ called_before (step ∷ steps) s h on some =
     (one_more step steps here on.1 (call_or_not step here) (called_before steps (left step) (state_kept step.before step.command here on.1) on.2 some))
 
 -- a step that releases stands behind one that called, and no other call stands between them
-pub releases_follow_calls : (text : List ℕ) (front rest : List Step) (release : Step) → course text ≡ front ++ release ∷ rest → wrote release ≡ release_line → CalledIn front
+pub releases_follow_calls : (text : List ℕ) (front rest : List ScriptStep) (release : ScriptStep) → course text ≡ front ++ release ∷ rest → wrote release ≡ release_line → CalledIn front
 releases_follow_calls text front rest release same released =
     let c = course_is text front rest release same in
     let on = behind_front front (release ∷ rest) c.first c.goes_on in
@@ -189,7 +189,7 @@ in_section s command.DumpLine is h fits other = goes_wrong (is_in_dump s.now.sta
 in_section s (command.Register number value) is h fits other = (is, refl)
 in_section s command.End is h fits other = absurd (other refl)
 
-section_goal : (lines : List Step) (s : ReplayState) → takes_registers s.now.stage ≡ true → GoesOn s lines → NoneOf (λ step. step.command ≡ command.End) lines → (last_of s lines).goal ≡ goal_of s.goal lines
+section_goal : (lines : List ScriptStep) (s : ReplayState) → takes_registers s.now.stage ≡ true → GoesOn s lines → NoneOf (λ step. step.command ≡ command.End) lines → (last_of s lines).goal ≡ goal_of s.goal lines
 section_goal [] s is on none = refl
 section_goal (step ∷ lines) s is on none =
     let here : takes_registers step.before.now.stage ≡ true = ap (λ (x : ReplayState). takes_registers x.now.stage) on.0 ∙ is in
@@ -198,7 +198,7 @@ section_goal (step ∷ lines) s is on none =
     ∙ ap (λ (g : RegisterFile). goal_of g lines) line.1
     ∙ ap (λ (x : ReplayState). goal_of (given x.goal step.command) lines) on.0
 
-goal_of_section : (text : List ℕ) (front lines rest : List Step) (opens ends : Step) → course text ≡ front ++ opens ∷ (lines ++ ends ∷ rest)
+goal_of_section : (text : List ℕ) (front lines rest : List ScriptStep) (opens ends : ScriptStep) → course text ≡ front ++ opens ∷ (lines ++ ends ∷ rest)
     → (opens.command ≡ command.Update) ⊎ (opens.command ≡ command.Begin) → NoneOf (λ step. step.command ≡ command.End) lines
     → ends.before.goal ≡ goal_of (first_file opens.before) lines
 goal_of_section text front lines rest opens ends same begun none =
@@ -227,21 +227,21 @@ opens_or_stays now command.DumpLine is = inr (is, λ e. cc e)
 opens_or_stays now (command.Register number value) is = inr (is, λ e. cc e)
 opens_or_stays now other is = absurd (cc is)
 
-abbrev OpenedIn : List Step → Type 0
+abbrev OpenedIn : List ScriptStep → Type 0
 OpenedIn steps =
-    (before : List Step) × (opens : Step) × (lines : List Step)
+    (before : List ScriptStep) × (opens : ScriptStep) × (lines : List ScriptStep)
     × (steps ≡ before ++ opens ∷ lines) × ((opens.command ≡ command.Update) ⊎ (opens.command ≡ command.Begin)) × NoneOf (λ step. step.command ≡ command.End) lines
 
-abbrev InsideOrOpened : ReplayState → List Step → Type 0
+abbrev InsideOrOpened : ReplayState → List ScriptStep → Type 0
 InsideOrOpened s steps = ((takes_registers s.now.stage ≡ true) × NoneOf (λ step. step.command ≡ command.End) steps) ⊎ OpenedIn steps
 
-opened_before : (steps : List Step) (s : ReplayState) → GoesOn s steps → takes_registers (last_of s steps).now.stage ≡ true → InsideOrOpened s steps
+opened_before : (steps : List ScriptStep) (s : ReplayState) → GoesOn s steps → takes_registers (last_of s steps).now.stage ≡ true → InsideOrOpened s steps
 opened_before [] s on is = inl (is, tt)
 opened_before (step ∷ steps) s on is =
     subst (λ (x : ReplayState). InsideOrOpened x (step ∷ steps)) on.0 (one (opened_before steps (left step) on.2 is))
   where
     one : InsideOrOpened (left step) steps → InsideOrOpened step.before (step ∷ steps)
-    one (inr o) = inr (step ∷ o.0, o.1, o.2, ap (λ (rest : List Step). step ∷ rest) o.3, o.4, o.5)
+    one (inr o) = inr (step ∷ o.0, o.1, o.2, ap (λ (rest : List ScriptStep). step ∷ rest) o.3, o.4, o.5)
     one (inl inside) = by (opens_or_stays step.before.now step.command inside.0)
       where
         by : ((step.command ≡ command.Update) ⊎ (step.command ≡ command.Begin)) ⊎ ((takes_registers step.before.now.stage ≡ true) × (step.command ≡ command.End → ⊥)) → InsideOrOpened step.before (step ∷ steps)
@@ -280,7 +280,7 @@ goals_are_of_their_sections text front rest call same called =
       begins = o.4;
       no_other_end = o.5;
       ends = ends called;
-      goal = goal_of_section text o.0 o.2 rest o.1 call (same ∙ ap (λ (steps : List Step). steps ++ call ∷ rest) o.3 ∙ append_assoc o.0 (o.1 ∷ o.2) (call ∷ rest)) o.4 o.5;
+      goal = goal_of_section text o.0 o.2 rest o.1 call (same ∙ ap (λ (steps : List ScriptStep). steps ++ call ∷ rest) o.3 ∙ append_assoc o.0 (o.1 ∷ o.2) (call ∷ rest)) o.4 o.5;
     }
 
     one : (s : ReplayState) → takes_windows s.now.stage ≡ true → InsideOrOpened s front → SectionOf front call

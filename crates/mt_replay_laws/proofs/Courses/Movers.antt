@@ -7,7 +7,7 @@ use Rattle.mt_machine.specs.ComingAndGoing.{last_number, without_last}
 use Rattle.mt_admit.specs.Admission.{admitted, brought_up}
 use Rattle.mt_script.specs.declared.command.Command.{Command}
 use Rattle.mt_script.specs.declared.command.Command.TheVariants as command
-use Rattle.mt_replay.specs.Steps.{Step, wrote}
+use Rattle.mt_replay.specs.Steps.{ScriptStep, wrote}
 use Rattle.mt_replay_laws.specs.Movers.{RetiresWhereIdle, Stays, StaysAlone, StaysFull, StaysUnderWay}
 use Rattle.mt_replay.specs.ReplayState.{ReplayState, command_text, machine_after, may_come, may_go, stays_line}
 use Rattle.mt_replay.specs.Texts.{full_line, joined_line, no_line, retired_line, under_way_line, up_line}
@@ -27,7 +27,7 @@ goes_by m = one (may_go m)
     one true is = refl
     one false is = absurd (says_none (is_some m.order) is)
 
-goes : (step : Step) → step.command ≡ command.Retire → wrote step ≡ retired_line (last_number step.before.machine.system) → may_go step.before.machine ≡ true
+goes : (step : ScriptStep) → step.command ≡ command.Retire → wrote step ≡ retired_line (last_number step.before.machine.system) → may_go step.before.machine ≡ true
 goes step retire is = goes_by step.before.machine (ap (λ (c : Command). has_third 116 (command_text step.before c)) (sym retire) ∙ ap (has_third 116) is)
 
 may_go_where : (m : Machine) → m.order ≡ None → 1 < length m.system.processors → may_go m ≡ true
@@ -50,7 +50,7 @@ retires_where_idle step retire = (
 abbrev Rests : ReplayState → Command → List ℕ → Type 0
 Rests s c text = (command_text s c ≡ text) × (machine_after s c ≡ s.machine)
 
-stays_by : (step : Step) (c : Command) (text : List ℕ) → step.command ≡ c → Rests step.before c text → Stays step text
+stays_by : (step : ScriptStep) (c : Command) (text : List ℕ) → step.command ≡ c → Rests step.before c text → Stays step text
 stays_by step c text is rests = (ap (command_text step.before) is ∙ rests.0, ap (machine_after step.before) is ∙ rests.1)
 
 up_rests : (s : ReplayState) → may_come s.machine ≡ false → Rests s command.Up (stays_line s.machine full_line)

@@ -6,7 +6,7 @@ use Rattle.mt_machine.specs.Machine.{Machine, Order}
 use Rattle.mt_script.specs.declared.command.Command.{Command}
 use Rattle.mt_script.specs.declared.command.Command.TheVariants as command
 use Rattle.mt_replay_laws.specs.Headline.{IsCall, IsNewcomer, IsSectionCall, NewcomersWhereIdle}
-use Rattle.mt_replay.specs.Steps.{Step}
+use Rattle.mt_replay.specs.Steps.{ScriptStep}
 use Rattle.mt_replay_laws.specs.Coming.{BringsUp}
 use Rattle.mt_replay.specs.ReplayState.{ReplayState, command_text, may_come, stays_line}
 use Rattle.mt_replay.specs.Texts.{full_line, joined_line, under_way_line, up_line}
@@ -32,15 +32,15 @@ up_comes s k is = comes_by 32 s.machine (up_line (length s.machine.system.proces
 join_comes : (s : ReplayState) (k : ℕ) → command_text s command.Join ≡ joined_line k → may_come s.machine ≡ true
 join_comes s k is = comes_by 105 s.machine (joined_line (length s.machine.system.processors)) refl refl (ap (has_third 105) is)
 
-pub newcomer_comes : (step : Step) → IsNewcomer step → may_come step.before.machine ≡ true
+pub newcomer_comes : (step : ScriptStep) → IsNewcomer step → may_come step.before.machine ≡ true
 newcomer_comes step (k, inl up) = up_comes step.before k (subst (λ (c : Command). command_text step.before c ≡ up_line k) up.0 up.1)
 newcomer_comes step (k, inr joins) = join_comes step.before k (subst (λ (c : Command). command_text step.before c ≡ joined_line k) joins.0 joins.1)
 
-pub newcomer_is_coming : (step : Step) → IsNewcomer step → BringsUp step.command
+pub newcomer_is_coming : (step : ScriptStep) → IsNewcomer step → BringsUp step.command
 newcomer_is_coming step (k, inl up) = inl up.0
 newcomer_is_coming step (k, inr joins) = inr joins.0
 
-pub comes_as_newcomer : (step : Step) → BringsUp step.command → may_come step.before.machine ≡ true → IsNewcomer step
+pub comes_as_newcomer : (step : ScriptStep) → BringsUp step.command → may_come step.before.machine ≡ true → IsNewcomer step
 comes_as_newcomer step (inl up) may =
     let n : ℕ = length step.before.machine.system.processors in
     (n, inl (up, ap (command_text step.before) up ∙ ap (λ (b : Bool). if b then up_line n else stays_line step.before.machine full_line) may))
@@ -55,11 +55,11 @@ coming_or_not other = inr (not_coming other refl)
 
 -- ---- the end of a section brings none up
 
-pub section_ends : (step : Step) → IsSectionCall step → step.command ≡ command.End
+pub section_ends : (step : ScriptStep) → IsSectionCall step → step.command ≡ command.End
 section_ends step (inl is) = (writes_called step.before step.command is).0
 section_ends step (inr is) = (writes_complete step.before step.command is.0 is.1).0
 
-pub end_comes_not : (step : Step) → step.command ≡ command.End → IsNewcomer step → ⊥
+pub end_comes_not : (step : ScriptStep) → step.command ≡ command.End → IsNewcomer step → ⊥
 end_comes_not step ends (k, inl up) = let e : false ≡ true = ap is_end (sym up.0 ∙ ends) in cc e
   where
     is_end : Command → Bool
@@ -71,11 +71,11 @@ end_comes_not step ends (k, inr joins) = let e : false ≡ true = ap is_end (sym
     is_end command.End = true
     is_end other = false
 
-pub call_of_end : (step : Step) → step.command ≡ command.End → IsCall step → IsSectionCall step
+pub call_of_end : (step : ScriptStep) → step.command ≡ command.End → IsCall step → IsSectionCall step
 call_of_end step ends (inl section) = section
 call_of_end step ends (inr newcomer) = absurd (end_comes_not step ends newcomer)
 
-pub call_of_newcomer : (step : Step) → BringsUp step.command → IsCall step → IsNewcomer step
+pub call_of_newcomer : (step : ScriptStep) → BringsUp step.command → IsCall step → IsNewcomer step
 call_of_newcomer step coming (inr newcomer) = newcomer
 call_of_newcomer step coming (inl section) =
     absurd (⊎_elim

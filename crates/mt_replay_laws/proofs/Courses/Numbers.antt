@@ -12,7 +12,7 @@ use Rattle.mt_script.specs.Script.{script_offence}
 use Rattle.mt_script.specs.declared.command.Command.{Command}
 use Rattle.mt_script.specs.declared.fault.ScriptFault.{ScriptFault}
 use Rattle.mt_replay_laws.specs.Headline.{StepsAreOfTheirLines}
-use Rattle.mt_replay.specs.Steps.{Beginning, Step, beginning, begins_by, begins_with, steps_in, steps_of}
+use Rattle.mt_replay.specs.Steps.{Beginning, ScriptStep, beginning, begins_by, begins_with, steps_in, steps_of}
 use Rattle.mt_replay.specs.Heads.{HeadEnd, head_of, has_offence, shows_dump, stays_open}
 use Rattle.mt_replay.specs.ReplayState.{ReplayState, first_state, state_after}
 use Rattle.mt_replay.specs.Statuses.{ShowsDump}
@@ -40,19 +40,19 @@ module _ (text : List ℕ) (b : Beginning) where
 
 -- ---- the steps
 
-abbrev IsLineOf : ℕ → List (List ℕ) → Step → Type 0
+abbrev IsLineOf : ℕ → List (List ℕ) → ScriptStep → Type 0
 IsLineOf number lines step =
     (above : List (List ℕ)) × (line : List ℕ) × (below : List (List ℕ))
     × (lines ≡ above ++ line ∷ below) × (step.number ≡ number + length above) × (command_of step.before.now step.number line ≡ Ok step.command)
 
 abbrev HasLine : ℕ → List (List ℕ) → Type 0
-HasLine number lines = (s : ReplayState) (front rest : List Step) (step : Step) → steps_in number lines s ≡ front ++ step ∷ rest → IsLineOf number lines step
+HasLine number lines = (s : ReplayState) (front rest : List ScriptStep) (step : ScriptStep) → steps_in number lines s ≡ front ++ step ∷ rest → IsLineOf number lines step
 
-no_steps : (front rest : List Step) (step : Step) → [] ≡ front ++ step ∷ rest → ⊥
+no_steps : (front rest : List ScriptStep) (step : ScriptStep) → [] ≡ front ++ step ∷ rest → ⊥
 no_steps [] rest step e = cc e
 no_steps (other ∷ front) rest step e = cc e
 
-below_line : (number : ℕ) (line : List ℕ) (lines : List (List ℕ)) (step : Step) → IsLineOf (number + 1) lines step → IsLineOf number (line ∷ lines) step
+below_line : (number : ℕ) (line : List ℕ) (lines : List (List ℕ)) (step : ScriptStep) → IsLineOf (number + 1) lines step → IsLineOf number (line ∷ lines) step
 below_line number line lines step h =
     let count = h.4 in
     (line ∷ h.0, h.1, h.2, ap (λ (rest : List (List ℕ)). line ∷ rest) h.3, omega (arith, count), h.5)
@@ -65,9 +65,9 @@ has_line number (line ∷ lines) s front rest step is = by (has_line (number + 1
     by later (Err fault) asked is = absurd (no_steps front rest step is)
     by later (Ok c) asked is = one front is
       where
-        one : (front : List Step) → record { number = number; command = c; before = s } ∷ steps_in (number + 1) lines (state_after s c) ≡ front ++ step ∷ rest → IsLineOf number (line ∷ lines) step
+        one : (front : List ScriptStep) → record { number = number; command = c; before = s } ∷ steps_in (number + 1) lines (state_after s c) ≡ front ++ step ∷ rest → IsLineOf number (line ∷ lines) step
         one [] e =
-            let first : Step = record { number = number; command = c; before = s } in
+            let first : ScriptStep = record { number = number; command = c; before = s } in
             let same : first ≡ step = cc e in
             subst (IsLineOf number (line ∷ lines)) same ([], line, lines, refl, omega arith, asked)
         one (other ∷ front) e =

@@ -27,7 +27,7 @@ use Rattle.mt_replay.proofs.Keeping.Moving.{idle_to_come}
 use Rattle.mt_replay_laws.proofs.Refusals.Joins.{first_same}
 use Rattle.mt_replay_laws.proofs.Courses.Newcomers.{newcomer_comes}
 use Rattle.mt_replay_laws.specs.Headline.{IsCall, Keeps, NoneOf, NoneWrote, ReleasedUpdatesAreKept, UpdateOf, next_era, pass_line, release_line, stored_in, IsCalled, IsNewcomer, called_goal, goal_by}
-use Rattle.mt_replay.specs.Steps.{Step, course, last_of, left, wrote}
+use Rattle.mt_replay.specs.Steps.{ScriptStep, course, last_of, left, wrote}
 use Rattle.mt_replay.specs.Kept.{IsReplayState}
 use Rattle.mt_replay.specs.ReplayState.{ReplayState, machine_after, state_after, first_file}
 use Rattle.mt_replay_laws.specs.Settling.{AreWithoutCall, state_after_all, stored_by_all}
@@ -44,16 +44,16 @@ use Rattle.mt_replay_laws.proofs.Refusals.Releases.{answered_due, due_order, rel
 use Rattle.mt_replay_laws.proofs.Paths.Settling.{Path, word_after_release, word_path}
 use Rattle.mt_replay_laws.proofs.Refusals.Since.{all_lead}
 
-none_behind : (P : Step → Type 0) (front rest : List Step) → NoneOf P (front ++ rest) → NoneOf P rest
+none_behind : (P : ScriptStep → Type 0) (front rest : List ScriptStep) → NoneOf P (front ++ rest) → NoneOf P rest
 none_behind P [] rest h = h
 none_behind P (step ∷ front) rest h = none_behind P front rest h.1
 
-last_join : (front rest : List Step) (s : ReplayState) → last_of s (front ++ rest) ≡ last_of (last_of s front) rest
+last_join : (front rest : List ScriptStep) (s : ReplayState) → last_of s (front ++ rest) ≡ last_of (last_of s front) rest
 last_join [] rest s = refl
 last_join (step ∷ front) rest s = last_join front rest (left step)
 
 -- the machine after a step that does an event
-did : (step : Step) (e : Event) (does : Does step.before step.command e) → due_at step.before.machine does.0 ≡ Some e → (left step).machine ≡ next step.before.machine (Steps does.0 e)
+did : (step : ScriptStep) (e : Event) (does : Does step.before step.command e) → due_at step.before.machine does.0 ≡ Some e → (left step).machine ≡ next step.before.machine (Steps does.0 e)
 did step e does due =
     ap (machine_after step.before) does.1
     ∙ there_machine step.before (command.Step does.0) (step_is_there step.before does.0 e due)
@@ -61,7 +61,7 @@ did step e does due =
 
 -- ---- from a release on
 
-module _ (release : Step) (since : List Step) (h : Stands release.before) (fits : Fits release.before.now release.command) (on : GoesOn (left release) since) (calls : NoneOf IsCall since)
+module _ (release : ScriptStep) (since : List ScriptStep) (h : Stands release.before) (fits : Fits release.before.now release.command) (on : GoesOn (left release) since) (calls : NoneOf IsCall since)
     (does : Does release.before release.command Release) where
   abbrev m : Machine
   m = release.before.machine
@@ -99,7 +99,7 @@ module _ (release : Step) (since : List Step) (h : Stands release.before) (fits 
 
 -- ---- from the first pass to the first release
 
-module _ (goal : RegisterFile) (era : ℕ) (pass : Step) (between : List Step) (h : Stands pass.before) (fits : Fits pass.before.now pass.command) (on : GoesOn (left pass) between)
+module _ (goal : RegisterFile) (era : ℕ) (pass : ScriptStep) (between : List ScriptStep) (h : Stands pass.before) (fits : Fits pass.before.now pass.command) (on : GoesOn (left pass) between)
     (calls : NoneOf IsCall between) (releases : NoneWrote release_line between) (waits : WaitsIn goal era pass.before) (passes : Does pass.before pass.command Pass)
     (m : Machine) (same : (last_of (left pass) between).machine ≡ m) (last : ℕ) (due : due_at m last ≡ Some Release) where
   abbrev p : Machine
@@ -134,14 +134,14 @@ module _ (goal : RegisterFile) (era : ℕ) (pass : Step) (between : List Step) (
 -- ---- the course of an update
 
 -- A call: of this machine, or of this with a newcomer.
-record WasCalled (call : Step) : Type 0 where
+record WasCalled (call : ScriptStep) : Type 0 where
   base : Machine
   quiet : IsQuiet base
   after : (left call).machine ≡ next base (Calls (called_goal call))
   era : common_era base.system.processors ≡ common_era call.before.machine.system.processors
   past : takes_windows (left call).now.stage ≡ false
 
-called_as : (call : Step) → IsReplayState call.before → IsCalled call → WasCalled call
+called_as : (call : ScriptStep) → IsReplayState call.before → IsCalled call → WasCalled call
 called_as call h (inl called) =
     let so = writes_called call.before call.command called in
     let goal : called_goal call ≡ call.before.goal = ap (λ (c : Command). goal_by c call.before) so.0 in
@@ -167,13 +167,13 @@ called_as call h (inr (k, up)) =
     }
 
 -- its first pass, and what is kept from its first release on
-abbrev Released : Step → List Step → Step → List Step → Type 0
+abbrev Released : ScriptStep → List ScriptStep → ScriptStep → List ScriptStep → Type 0
 Released call upto release since =
-    (waiting : List Step) × (pass : Step) × (between : List Step)
+    (waiting : List ScriptStep) × (pass : ScriptStep) × (between : List ScriptStep)
     × (upto ≡ waiting ++ pass ∷ between) × NoneWrote pass_line waiting × (wrote pass ≡ pass_line) × All (λ p. p.buffers ≡ []) pass.before.machine.system.processors
     × Keeps (called_goal call) (next_era call) (now pass.before.machine.system) (stored_in since) (last_of (left release) since).machine
 
-module _ (call release : Step) (upto since : List Step) (h : IsReplayState call.before) (fits : Fits call.before.now call.command)
+module _ (call release : ScriptStep) (upto since : List ScriptStep) (h : IsReplayState call.before) (fits : Fits call.before.now call.command)
     (on : GoesOn (left call) (upto ++ release ∷ since)) (called : IsCalled call) (calls : NoneOf IsCall upto) (releases : NoneWrote release_line upto)
     (released : wrote release ≡ release_line) (quiet_since : NoneOf IsCall since) where
   abbrev goal : RegisterFile
@@ -250,11 +250,11 @@ module _ (call release : Step) (upto since : List Step) (h : IsReplayState call.
           absurd (none_releases goal era does.0 release.before.machine.system release.before.machine.order (subst (WaitsIn goal era) (sym on_release.0) w)
           (answered_due release.before.machine does.0 Release does.2))
 
-shorter : (upto since rest : List Step) (release : Step) (s : ReplayState) → GoesOn s (upto ++ release ∷ (since ++ rest)) → GoesOn s (upto ++ release ∷ since)
+shorter : (upto since rest : List ScriptStep) (release : ScriptStep) (s : ReplayState) → GoesOn s (upto ++ release ∷ (since ++ rest)) → GoesOn s (upto ++ release ∷ since)
 shorter [] since rest release s on = (on.0, on.1, in_front since rest (left release) on.2)
 shorter (step ∷ upto) since rest release s on = (on.0, on.1, shorter upto since rest release (left step) on.2)
 
-released_in : (text : List ℕ) (front upto since rest : List Step) (call release : Step) → course text ≡ front ++ call ∷ (upto ++ release ∷ (since ++ rest))
+released_in : (text : List ℕ) (front upto since rest : List ScriptStep) (call release : ScriptStep) → course text ≡ front ++ call ∷ (upto ++ release ∷ (since ++ rest))
     → IsCalled call → NoneOf IsCall upto → NoneWrote release_line upto → wrote release ≡ release_line → NoneOf IsCall since → Released call upto release since
 released_in text front upto since rest call release same called calls releases released quiet =
     let there = stands_in front (upto ++ release ∷ (since ++ rest)) call (course_is text front (upto ++ release ∷ (since ++ rest)) call same) in
@@ -263,69 +263,69 @@ released_in text front upto since rest call release same called calls releases r
 -- ---- the first release
 
 -- The first of these steps that releases.
-record FirstRelease (steps : List Step) : Type 0 where
-  upto : List Step
-  first : Step
-  again : List Step
+record FirstRelease (steps : List ScriptStep) : Type 0 where
+  upto : List ScriptStep
+  first : ScriptStep
+  again : List ScriptStep
   is : steps ≡ upto ++ first ∷ again
   none : NoneWrote release_line upto
   releases : wrote first ≡ release_line
 
-first_release : (steps : List Step) → FirstRelease steps ⊎ NoneWrote release_line steps
+first_release : (steps : List ScriptStep) → FirstRelease steps ⊎ NoneWrote release_line steps
 first_release [] = inr tt
 first_release (step ∷ steps) = one (first_release steps) (release_or_not step.before step.command)
   where
     one : FirstRelease steps ⊎ NoneWrote release_line steps → (wrote step ≡ release_line) ⊎ (wrote step ≡ release_line → ⊥) → FirstRelease (step ∷ steps) ⊎ NoneWrote release_line (step ∷ steps)
     one later (inl is) = inl (record { upto = []; first = step; again = steps; is = refl; none = tt; releases = is })
-    one (inl f) (inr other) = inl (record { upto = step ∷ f.upto; first = f.first; again = f.again; is = ap (λ (rest : List Step). step ∷ rest) f.is; none = (other, f.none); releases = f.releases })
+    one (inl f) (inr other) = inl (record { upto = step ∷ f.upto; first = f.first; again = f.again; is = ap (λ (rest : List ScriptStep). step ∷ rest) f.is; none = (other, f.none); releases = f.releases })
     one (inr none) (inr other) = inr (other, none)
 
-none_joined : (P : Step → Type 0) (front rest : List Step) → NoneOf P front → NoneOf P rest → NoneOf P (front ++ rest)
+none_joined : (P : ScriptStep → Type 0) (front rest : List ScriptStep) → NoneOf P front → NoneOf P rest → NoneOf P (front ++ rest)
 none_joined P [] rest f r = r
 none_joined P (step ∷ front) rest f r = (f.0, none_joined P front rest f.1 r)
 
-none_before : (P : Step → Type 0) (front rest : List Step) → NoneOf P (front ++ rest) → NoneOf P front
+none_before : (P : ScriptStep → Type 0) (front rest : List ScriptStep) → NoneOf P (front ++ rest) → NoneOf P front
 none_before P [] rest h = tt
 none_before P (step ∷ front) rest h = (h.0, none_before P front rest h.1)
 
 -- no newcomer's line is one of a release
-newcomer_is_no_release : (step : Step) → IsNewcomer step → wrote step ≡ release_line → ⊥
+newcomer_is_no_release : (step : ScriptStep) → IsNewcomer step → wrote step ≡ release_line → ⊥
 newcomer_is_no_release step (k, inl up) is = let e : false ≡ true = ap (has_third 108) (sym up.1 ∙ is) in cc e
 newcomer_is_no_release step (k, inr joins) is = let e : false ≡ true = ap (has_third 108) (sym joins.1 ∙ is) in cc e
 
 -- this release stands behind these steps, or is the first
-no_call_of : (step : Step) (text : List ℕ) → wrote step ≡ release_line → IsCall step → ⊥
+no_call_of : (step : ScriptStep) (text : List ℕ) → wrote step ≡ release_line → IsCall step → ⊥
 no_call_of step text is (inr newcomer) = absurd (newcomer_is_no_release step newcomer is)
 no_call_of step text is (inl (inl called)) = let same : called_line ≡ release_line = sym called ∙ is in call_is_no_release same
 no_call_of step text is (inl (inr complete)) = let same : complete_line complete.0 ≡ release_line = sym complete.1 ∙ is in complete_is_no_release complete.0 same
 
-abbrev Told : List Step → Step → List Step → Type 0
+abbrev Told : List ScriptStep → ScriptStep → List ScriptStep → Type 0
 Told front release since =
     (u : UpdateOf front release)
     × Keeps (called_goal u.call) (next_era u.call) (now u.pass.before.machine.system) (stored_in (u.again ++ since)) (last_of (left release) since).machine
 
-module _ (text : List ℕ) (front since rest : List Step) (release : Step) (same : course text ≡ front ++ release ∷ (since ++ rest)) (released : wrote release ≡ release_line) (quiet : NoneOf IsCall since)
-    (before : List Step) (call : Step) (behind : List Step) (split : front ≡ before ++ call ∷ behind) (called : IsCalled call) (none : NoneOf IsCall behind) where
+module _ (text : List ℕ) (front since rest : List ScriptStep) (release : ScriptStep) (same : course text ≡ front ++ release ∷ (since ++ rest)) (released : wrote release ≡ release_line) (quiet : NoneOf IsCall since)
+    (before : List ScriptStep) (call : ScriptStep) (behind : List ScriptStep) (split : front ≡ before ++ call ∷ behind) (called : IsCalled call) (none : NoneOf IsCall behind) where
   -- the steps from the call to this release, by its first release
-  module _ (upto : List Step) (first : Step) (again : List Step) (is : behind ++ release ∷ [] ≡ upto ++ first ∷ again) (silent : NoneWrote release_line upto) (releases : wrote first ≡ release_line)
+  module _ (upto : List ScriptStep) (first : ScriptStep) (again : List ScriptStep) (is : behind ++ release ∷ [] ≡ upto ++ first ∷ again) (silent : NoneWrote release_line upto) (releases : wrote first ≡ release_line)
       (last : last_of (left first) again ≡ left release) where
     all : NoneOf IsCall (upto ++ first ∷ again)
     all = subst (NoneOf IsCall) is (none_joined IsCall behind (release ∷ []) none (no_call_of release text released, tt))
 
     course_so : course text ≡ before ++ call ∷ (upto ++ first ∷ ((again ++ since) ++ rest))
     course_so =
-        same ∙ ap (λ (xs : List Step). xs ++ release ∷ (since ++ rest)) split
+        same ∙ ap (λ (xs : List ScriptStep). xs ++ release ∷ (since ++ rest)) split
         ∙ append_assoc before (call ∷ behind) (release ∷ (since ++ rest))
-        ∙ ap (λ (xs : List Step). before ++ call ∷ xs)
-        (sym (append_assoc behind (release ∷ []) (since ++ rest)) ∙ ap (λ (xs : List Step). xs ++ (since ++ rest)) is ∙ append_assoc upto (first ∷ again) (since ++ rest)
-        ∙ ap (λ (xs : List Step). upto ++ first ∷ xs) (sym (append_assoc again since rest)))
+        ∙ ap (λ (xs : List ScriptStep). before ++ call ∷ xs)
+        (sym (append_assoc behind (release ∷ []) (since ++ rest)) ∙ ap (λ (xs : List ScriptStep). xs ++ (since ++ rest)) is ∙ append_assoc upto (first ∷ again) (since ++ rest)
+        ∙ ap (λ (xs : List ScriptStep). upto ++ first ∷ xs) (sym (append_assoc again since rest)))
 
     end : last_of (left first) (again ++ since) ≡ last_of (left release) since
     end = last_join again since (left first) ∙ ap (λ (x : ReplayState). last_of x since) last
 
     tell : Released call upto first (again ++ since) → Told front release since
     tell r =
-        let inside : upto ++ first ∷ again ≡ r.0 ++ r.1 ∷ (r.2 ++ first ∷ again) = ap (λ (xs : List Step). xs ++ first ∷ again) r.3 ∙ append_assoc r.0 (r.1 ∷ r.2) (first ∷ again) in (
+        let inside : upto ++ first ∷ again ≡ r.0 ++ r.1 ∷ (r.2 ++ first ∷ again) = ap (λ (xs : List ScriptStep). xs ++ first ∷ again) r.3 ∙ append_assoc r.0 (r.1 ∷ r.2) (first ∷ again) in (
           record {
             before = before;
             call = call;
@@ -334,7 +334,7 @@ module _ (text : List ℕ) (front since rest : List Step) (release : Step) (same
             between = r.2;
             first = first;
             again = again;
-            stand = ap (λ (xs : List Step). xs ++ release ∷ []) split ∙ append_assoc before (call ∷ behind) (release ∷ []) ∙ ap (λ (xs : List Step). before ++ call ∷ xs) (is ∙ inside);
+            stand = ap (λ (xs : List ScriptStep). xs ++ release ∷ []) split ∙ append_assoc before (call ∷ behind) (release ∷ []) ∙ ap (λ (xs : List ScriptStep). before ++ call ∷ xs) (is ∙ inside);
             calls = called;
             passes = r.5;
             releases = releases;
@@ -353,7 +353,7 @@ module _ (text : List ℕ) (front since rest : List Step) (release : Step) (same
 
   told_of : FirstRelease behind ⊎ NoneWrote release_line behind → Told front release since
   told_of (inl f) =
-      told f.upto f.first (f.again ++ release ∷ []) (ap (λ (xs : List Step). xs ++ release ∷ []) f.is ∙ append_assoc f.upto (f.first ∷ f.again) (release ∷ [])) f.none f.releases
+      told f.upto f.first (f.again ++ release ∷ []) (ap (λ (xs : List ScriptStep). xs ++ release ∷ []) f.is ∙ append_assoc f.upto (f.first ∷ f.again) (release ∷ [])) f.none f.releases
       (last_join f.again (release ∷ []) (left f.first))
   told_of (inr silent) = told behind release [] refl silent released refl
 

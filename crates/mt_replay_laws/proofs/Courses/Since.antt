@@ -15,7 +15,7 @@ use Rattle.mt_script.specs.Accept.{Fits, accepted}
 use Rattle.mt_script.specs.declared.command.Command.{Command}
 use Rattle.mt_script.specs.declared.command.Command.TheVariants as command
 use Rattle.mt_replay_laws.specs.Headline.{CompleteUpdatesAreKept, IsCall, Keeps, NoneOf, RefusedUpdatesChangeNothing, next_era, stored_in, HasNewcomer, JoinsAreKept}
-use Rattle.mt_replay.specs.Steps.{Step, last_of, left, wrote}
+use Rattle.mt_replay.specs.Steps.{ScriptStep, last_of, left, wrote}
 use Rattle.mt_replay.specs.Kept.{IsReplayState, windows_of}
 use Rattle.mt_replay.specs.ReplayState.{ReplayState, call_fault, command_text, each_processor, is_update, machine_after, state_after, first_file, may_come}
 use Rattle.mt_replay_laws.specs.Coming.{BringsUp}
@@ -34,7 +34,7 @@ use Rattle.mt_replay_laws.proofs.Refusals.Updates.{aligned_place, complete_updat
 
 -- ---- refused
 
-idle_step : (step : Step) (fault : CallFault) → step.command ≡ command.End → call_fault step.before.machine step.before.goal ≡ Some fault → (left step).machine ≡ step.before.machine
+idle_step : (step : ScriptStep) (fault : CallFault) → step.command ≡ command.End → call_fault step.before.machine step.before.goal ≡ Some fault → (left step).machine ≡ step.before.machine
 idle_step step fault ends is = ap (machine_after step.before) ends ∙ (ends_idle step.before fault is).1
 
 pub refused_updates_change_nothing : RefusedUpdatesChangeNothing
@@ -47,8 +47,8 @@ refused_updates_change_nothing text front rest step same (inr h) =
 
 -- ---- no call
 
-abbrev pub commands : List Step → List Command
-commands steps = map (λ (step : Step). step.command) steps
+abbrev pub commands : List ScriptStep → List Command
+commands steps = map (λ (step : ScriptStep). step.command) steps
 
 -- an end that isn't refused writes the line of a call
 pub accepted_end : (s : ReplayState) → IsReplayState s → call_fault s.machine s.goal ≡ None → (command_text s command.End ≡ called_line) ⊎ ((era : ℕ) × (command_text s command.End ≡ complete_line era))
@@ -58,7 +58,7 @@ accepted_end s h none = one (is_update s.now.stage) refl
     one true update = let done = complete_updates_settle s h update none in inr (done.era, done.line_is)
     one false begin = inl (accepted_calls s begin none).0
 
-pub no_call : (step : Step) → IsReplayState step.before → (IsCall step → ⊥) → IsWithoutCall step.before step.command
+pub no_call : (step : ScriptStep) → IsReplayState step.before → (IsCall step → ⊥) → IsWithoutCall step.before step.command
 no_call step h calls = (λ ends. one ends (call_fault step.before.machine step.before.goal) refl, λ coming. stays coming (may_come step.before.machine) refl)
   where
     stays : BringsUp step.command → (b : Bool) → may_come step.before.machine ≡ b → may_come step.before.machine ≡ false
@@ -70,18 +70,18 @@ no_call step h calls = (λ ends. one ends (call_fault step.before.machine step.b
     one ends None is =
         absurd (calls (inl (subst (λ (c : Command). (command_text step.before c ≡ called_line) ⊎ ((era : ℕ) × (command_text step.before c ≡ complete_line era))) (sym ends) (accepted_end step.before h is))))
 
-pub same_last : (steps : List Step) (s : ReplayState) → GoesOn s steps → state_after_all s (commands steps) ≡ last_of s steps
+pub same_last : (steps : List ScriptStep) (s : ReplayState) → GoesOn s steps → state_after_all s (commands steps) ≡ last_of s steps
 same_last [] s on = refl
 same_last (step ∷ steps) s on =
     ap (λ (x : ReplayState). state_after_all (state_after x step.command) (commands steps)) (sym on.0) ∙ same_last steps (left step) on.2
 
-pub same_stored : (steps : List Step) (s : ReplayState) → GoesOn s steps → stored_by_all s (commands steps) ≡ stored_in steps
+pub same_stored : (steps : List ScriptStep) (s : ReplayState) → GoesOn s steps → stored_by_all s (commands steps) ≡ stored_in steps
 same_stored [] s on = refl
 same_stored (step ∷ steps) s on =
     ap (λ (x : ReplayState). stored_by_all x (step.command ∷ commands steps)) (sym on.0)
     ∙ ap (λ (ws : List ℕ). option_map_or (λ a. a ∷ ws) (stored_by step.before step.command) ws) (same_stored steps (left step) on.2)
 
-pub without_call : (steps : List Step) (s : ReplayState) → IsReplayState s → GoesOn s steps → NoneOf IsCall steps → AreWithoutCall s (commands steps)
+pub without_call : (steps : List ScriptStep) (s : ReplayState) → IsReplayState s → GoesOn s steps → NoneOf IsCall steps → AreWithoutCall s (commands steps)
 without_call [] s h on none = tt
 without_call (step ∷ steps) s h on none =
     let here : IsReplayState step.before = subst IsReplayState (sym on.0) h in
@@ -96,13 +96,13 @@ no_window now (command.Selfsnoop k) fits past = refl
 no_window now command.Blank fits past = refl
 no_window now other fits past = refl
 
-windows_stay : (steps : List Step) (s : ReplayState) → GoesOn s steps → takes_windows s.now.stage ≡ false → (last_of s steps).now.windows ≡ s.now.windows
+windows_stay : (steps : List ScriptStep) (s : ReplayState) → GoesOn s steps → takes_windows s.now.stage ≡ false → (last_of s steps).now.windows ≡ s.now.windows
 windows_stay [] s on past = refl
 windows_stay (step ∷ steps) s on past =
     let here : takes_windows step.before.now.stage ≡ false = ap (λ (x : ReplayState). takes_windows x.now.stage) on.0 ∙ past in
     windows_stay steps (left step) on.2 (stays_past step.before.now step.command here) ∙ no_window step.before.now step.command on.1 here ∙ ap (λ (x : ReplayState). x.now.windows) on.0
 
-pub same_windows : (steps : List Step) (s : ReplayState) → IsReplayState s → GoesOn s steps → takes_windows s.now.stage ≡ false → (last_of s steps).machine.system.memory.windows ≡ s.machine.system.memory.windows
+pub same_windows : (steps : List ScriptStep) (s : ReplayState) → IsReplayState s → GoesOn s steps → takes_windows s.now.stage ≡ false → (last_of s steps).machine.system.memory.windows ≡ s.machine.system.memory.windows
 same_windows steps s h on past =
     (kept_behind steps s h on).windows ∙ ap (λ (ws : List (ℕ × ℕ)). windows_of (record s.now { windows = ws })) (windows_stay steps s on past) ∙ sym h.windows
 
@@ -124,7 +124,7 @@ pub keeps : (goal : RegisterFile) (era : ℕ) (value : ℕ → ℕ) (stored : Li
     → Keeps goal era value stored m
 keeps goal era value stored m settled held = record { settled = settled; held = held }
 
-module _ (update : Step) (since : List Step) (h : IsReplayState update.before) (fits : Fits update.before.now update.command) (on : GoesOn (left update) since) (none : NoneOf IsCall since)
+module _ (update : ScriptStep) (since : List ScriptStep) (h : IsReplayState update.before) (fits : Fits update.before.now update.command) (on : GoesOn (left update) since) (none : NoneOf IsCall since)
     (ends : update.command ≡ command.End) (section : is_update update.before.now.stage ≡ true) (accepts : call_fault update.before.machine update.before.goal ≡ None) where
   abbrev s : ReplayState
   s = update.before
@@ -178,7 +178,7 @@ complete_updates_are_kept text front since rest update era same wrote_it none =
 
 -- ---- a processor that joins
 
-module _ (join : Step) (since : List Step) (h : IsReplayState join.before) (fits : Fits join.before.now join.command) (on : GoesOn (left join) since) (none : NoneOf IsCall since)
+module _ (join : ScriptStep) (since : List ScriptStep) (h : IsReplayState join.before) (fits : Fits join.before.now join.command) (on : GoesOn (left join) since) (none : NoneOf IsCall since)
     (is_join : join.command ≡ command.Join) (may : may_come join.before.machine ≡ true) where
   abbrev was : ReplayState
   was = join.before

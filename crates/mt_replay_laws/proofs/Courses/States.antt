@@ -16,24 +16,24 @@ use Rattle.mt_output.specs.Lines.{accepted_line, dump_refused_line, offence_line
 use Rattle.mt_script.specs.declared.command.Command.{Command}
 use Rattle.mt_script.specs.declared.fault.ScriptFault.{ScriptFault}
 use Rattle.mt_replay_laws.specs.Headline.{StartsAsTheDumpShows, StatesAreOfTheCourse}
-use Rattle.mt_replay.specs.Steps.{Beginning, Step, beginning, begins_by, begins_with, course, left, steps_in, steps_of}
+use Rattle.mt_replay.specs.Steps.{Beginning, ScriptStep, beginning, begins_by, begins_with, course, left, steps_in, steps_of}
 use Rattle.mt_replay.specs.Heads.{HeadEnd, head_of, has_offence, shows_dump, stays_open}
 use Rattle.mt_replay.specs.Kept.{start_of}
 use Rattle.mt_replay_laws.specs.Through.{HoldsAlong, HoldsThrough}
 use Rattle.mt_replay.specs.ReplayState.{ReplayState, state_after}
 use Rattle.mt_replay.specs.Statuses.{BeginsWith}
 use Rattle.mt_replay.specs.Transcript.{transcript}
-use Rattle.mt_stream.specs.Told.{Told}
+use Rattle.mt_stream.specs.Transcript.{Transcript}
 use Rattle.mt_replay_laws.proofs.Courses.Steps.{GoesOn, IsOneLine, Leads, steps_go_on, whole}
 use Rattle.mt_replay.proofs.Refusals.Outcomes.{accepted_first}
 use Rattle.mt_replay_laws.proofs.ShownDump.{states_have_the_shown_dump}
 
 module _ (P : ReplayState → Type 0) where
-  abbrev Around : Step → Type 0
+  abbrev Around : ScriptStep → Type 0
   Around step = P step.before × P (left step)
 
   abbrev EachStep : ℕ → List (List ℕ) → Type 0
-  EachStep number lines = (s : ReplayState) → HoldsAlong P s (steps_in number lines s) → (front rest : List Step) (step : Step) → steps_in number lines s ≡ front ++ step ∷ rest → Around step
+  EachStep number lines = (s : ReplayState) → HoldsAlong P s (steps_in number lines s) → (front rest : List ScriptStep) (step : ScriptStep) → steps_in number lines s ≡ front ++ step ∷ rest → Around step
 
   each_step : (number : ℕ) (lines : List (List ℕ)) → EachStep number lines
   each_step number [] s h [] rest step is = absurd (cc is)
@@ -44,28 +44,28 @@ module _ (P : ReplayState → Type 0) where
           → steps_of s number (steps_in (number + 1) lines) answer ≡ front ++ step ∷ rest → Around step
       by later (Err fault) after is = absurd (one front is)
         where
-          one : (front : List Step) → [] ≡ front ++ step ∷ rest → ⊥
+          one : (front : List ScriptStep) → [] ≡ front ++ step ∷ rest → ⊥
           one [] e = cc e
           one (other ∷ front) e = cc e
       by later (Ok c) after is = one front is
         where
-          one : (front : List Step) → record { number = number; command = c; before = s } ∷ steps_in (number + 1) lines (state_after s c) ≡ front ++ step ∷ rest → Around step
+          one : (front : List ScriptStep) → record { number = number; command = c; before = s } ∷ steps_in (number + 1) lines (state_after s c) ≡ front ++ step ∷ rest → Around step
           one [] e =
-              let here : Step = record { number = number; command = c; before = s } in
+              let here : ScriptStep = record { number = number; command = c; before = s } in
               let same : here ≡ step = cc e in
               subst Around same (h.0, after.0)
           one (other ∷ front) e = let behind : steps_in (number + 1) lines (state_after s c) ≡ front ++ step ∷ rest = cc e in later (state_after s c) after front rest step behind
 
-  around : (front rest : List Step) (step : Step) (o : Option Beginning) → IfSome o (λ b. HoldsAlong P b.state (steps_in b.number b.lines b.state))
+  around : (front rest : List ScriptStep) (step : ScriptStep) (o : Option Beginning) → IfSome o (λ b. HoldsAlong P b.state (steps_in b.number b.lines b.state))
       → option_map_or (λ b. steps_in b.number b.lines b.state) o [] ≡ front ++ step ∷ rest → Around step
   around front rest step None h is = absurd (one front is)
     where
-      one : (front : List Step) → [] ≡ front ++ step ∷ rest → ⊥
+      one : (front : List ScriptStep) → [] ≡ front ++ step ∷ rest → ⊥
       one [] e = cc e
       one (other ∷ front) e = cc e
   around front rest step (Some b) h is = each_step b.number b.lines b.state h front rest step is
 
-pub around_step : (P : ReplayState → Type 0) (text : List ℕ) → HoldsThrough P text → (front rest : List Step) (step : Step) → course text ≡ front ++ step ∷ rest → P step.before × P (left step)
+pub around_step : (P : ReplayState → Type 0) (text : List ℕ) → HoldsThrough P text → (front rest : List ScriptStep) (step : ScriptStep) → course text ≡ front ++ step ∷ rest → P step.before × P (left step)
 around_step P text h front rest step is = around P front rest step (beginning text) h is
 
 pub states_are_of_the_course : StatesAreOfTheCourse
@@ -90,16 +90,16 @@ refused_letter version k fault rest is = let e : false ≡ true = sym (first_let
     first_letter false = refl
 
 no_line : (text : List ℕ) → BeginsWith (transcript text).text accepted_line → IsOneLine (transcript text) → ⊥
-no_line text begins (inl is) = offence_letter is.0 begins.0 (ap (λ (t : Told). t.text) (sym is.1) ∙ begins.1)
-no_line text begins (inr is) = refused_letter is.0 is.1 is.2 begins.0 (ap (λ (t : Told). t.text) (sym is.3) ∙ begins.1)
+no_line text begins (inl is) = offence_letter is.0 begins.0 (ap (λ (t : Transcript). t.text) (sym is.1) ∙ begins.1)
+no_line text begins (inr is) = refused_letter is.0 is.1 is.2 begins.0 (ap (λ (t : Transcript). t.text) (sym is.3) ∙ begins.1)
 
-first_step : (b : Beginning) (step : Step) (rest : List Step) → steps_in b.number b.lines b.state ≡ step ∷ rest → step.before ≡ b.state
+first_step : (b : Beginning) (step : ScriptStep) (rest : List ScriptStep) → steps_in b.number b.lines b.state ≡ step ∷ rest → step.before ≡ b.state
 first_step b step rest is = (subst (GoesOn b.state) is (steps_go_on b.number b.lines b.state)).0
 
 pub starts_as_the_dump_shows : StartsAsTheDumpShows
 starts_as_the_dump_shows text dump shows accepted = one (beginning text) (states_have_the_shown_dump text dump shows) (whole text)
   where
     one : (o : Option Beginning) → IfSome o (λ b. HoldsAlong (λ s. s.now.dump ≡ Some dump) b.state (steps_in b.number b.lines b.state)) → Leads (end_of text) (script_offence text) (transcript text) o
-        → (b : Beginning) × (o ≡ Some b) × (b.state.machine ≡ start_of b.state.now dump) × ((step : Step) (rest : List Step) → option_map_or (λ b. steps_in b.number b.lines b.state) o [] ≡ step ∷ rest → step.before ≡ b.state)
+        → (b : Beginning) × (o ≡ Some b) × (b.state.machine ≡ start_of b.state.now dump) × ((step : ScriptStep) (rest : List ScriptStep) → option_map_or (λ b. steps_in b.number b.lines b.state) o [] ≡ step ∷ rest → step.before ≡ b.state)
     one None along h = absurd (no_line text (accepted_first text dump shows accepted) h)
     one (Some b) along h = (b, refl, (h.is.fresh dump along.0 h.windows).1 ∙ h.plain dump along.0, first_step b)

@@ -24,14 +24,14 @@ use Rattle.mt_script.specs.declared.fault.Offence.TheVariants.{Script}
 use Rattle.mt_script.proofs.Keeping.{not_past_in_dump}
 use Rattle.mt_output.specs.Lines.{accepted_line, dump_refused_line}
 use Rattle.mt_replay_laws.specs.Headline.{ReplaysAreOfTheCourse, StepsFollow, TranscriptIsOfTheCourse, TranscriptIsOneLine, ending, joined}
-use Rattle.mt_replay.specs.Steps.{Beginning, Step, beginning, begins_by, begins_with, course, last_of, left, steps_in, steps_of}
+use Rattle.mt_replay.specs.Steps.{Beginning, ScriptStep, beginning, begins_by, begins_with, course, last_of, left, steps_in, steps_of}
 use Rattle.mt_replay.specs.Heads.{HeadEnd, head_of, has_offence, shows_dump, stays_open}
 use Rattle.mt_replay.specs.Kept.{IsReplayState, start_like, start_of}
 use Rattle.mt_replay.specs.ReplayState.{ReplayState, command_text, state_after}
 use Rattle.mt_replay.specs.Running.{ReplaysAs}
 use Rattle.mt_replay.specs.Statuses.{ShowsDump}
 use Rattle.mt_replay.specs.Transcript.{body_lines, told_at_end, told_by, told_command, told_dump, told_offence, transcript}
-use Rattle.mt_stream.specs.Told.{Told, behind, told}
+use Rattle.mt_stream.specs.Transcript.{Transcript, behind, transcript_with}
 use Rattle.mt_replay.proofs.FirstRefusal.{all_accepted}
 use Rattle.mt_replay.proofs.Heads.{Comes, IsDumped, comes}
 use Rattle.mt_replay.proofs.Keeping.First.{first_kept, first_start}
@@ -40,7 +40,7 @@ use Rattle.mt_replay.proofs.Keeping.States.{command_known, state_kept}
 -- ---- chains
 
 -- these steps go on from this state, each where the one before it ended
-abbrev pub GoesOn : ReplayState → List Step → Type 0
+abbrev pub GoesOn : ReplayState → List ScriptStep → Type 0
 GoesOn s [] = Unit {0}
 GoesOn s (step ∷ steps) = (step.before ≡ s) × Fits step.before.now step.command × GoesOn (left step) steps
 
@@ -56,22 +56,22 @@ steps_go_on number (line ∷ lines) = one (steps_go_on (number + 1) lines)
         by (Ok c) asked = (refl, command_known s.now number line c asked, later (state_after s c))
 
 -- the steps behind these
-pub behind_front : (front rest : List Step) (s : ReplayState) → GoesOn s (front ++ rest) → GoesOn (last_of s front) rest
+pub behind_front : (front rest : List ScriptStep) (s : ReplayState) → GoesOn s (front ++ rest) → GoesOn (last_of s front) rest
 behind_front [] rest s h = h
 behind_front (step ∷ front) rest s h = behind_front front rest (left step) h.2
 
-pub in_front : (front rest : List Step) (s : ReplayState) → GoesOn s (front ++ rest) → GoesOn s front
+pub in_front : (front rest : List ScriptStep) (s : ReplayState) → GoesOn s (front ++ rest) → GoesOn s front
 in_front [] rest s h = tt
 in_front (step ∷ front) rest s h = (h.0, h.1, in_front front rest (left step) h.2)
 
 -- what every state keeps holds behind them
-pub kept_behind : (steps : List Step) (s : ReplayState) → IsReplayState s → GoesOn s steps → IsReplayState (last_of s steps)
+pub kept_behind : (steps : List ScriptStep) (s : ReplayState) → IsReplayState s → GoesOn s steps → IsReplayState (last_of s steps)
 kept_behind [] s h on = h
 kept_behind (step ∷ steps) s h on = kept_behind steps (left step) (state_kept step.before step.command (subst IsReplayState (sym on.0) h) on.1) on.2
 
 -- ---- what the steps write
 
-written_behind : (a b : List ℕ) (t : Told) → behind a (behind b t) ≡ behind (a ++ b) t
+written_behind : (a b : List ℕ) (t : Transcript) → behind a (behind b t) ≡ behind (a ++ b) t
 written_behind a b t = λ i. record { text = sym (append_assoc a b t.text) i; status = t.status }
 
 ends_with : (fault : Option ScriptFault) → told_at_end fault ≡ ending (option_map Script fault)
@@ -105,7 +105,7 @@ told_steps end number (line ∷ lines) = one (told_steps end (number + 1) lines)
 -- ---- where they begin
 
 -- The steps begin here: the lines before it tell `accepted` alone, and the first offence is behind it.
-pub record Begins (end : Place) (first : Option Offence) (telling : Told) (b : Beginning) : Type 0 where
+pub record Begins (end : Place) (first : Option Offence) (telling : Transcript) (b : Beginning) : Type 0 where
   pub is : IsReplayState b.state
   pub no_order : b.state.machine.order ≡ None
   pub windows : takes_windows b.state.now.stage ≡ true
@@ -113,10 +113,10 @@ pub record Begins (end : Place) (first : Option Offence) (telling : Told) (b : B
   pub follows : first ≡ offence_in end b.number b.lines b.state.now []
   pub tells : telling ≡ behind accepted_line (body_lines (Some end) b.number b.lines b.state)
 
-abbrev pub IsOneLine : Told → Type 0
-IsOneLine t = ((o : Offence) × (t ≡ told_offence o)) ⊎ ((version : ℕ) × (k : ℕ) × (fault : Fault) × (t ≡ told (dump_refused_line version k fault) Refused))
+abbrev pub IsOneLine : Transcript → Type 0
+IsOneLine t = ((o : Offence) × (t ≡ told_offence o)) ⊎ ((version : ℕ) × (k : ℕ) × (fault : Fault) × (t ≡ transcript_with (dump_refused_line version k fault) Refused))
 
-abbrev pub Leads : Place → Option Offence → Told → Option Beginning → Type 0
+abbrev pub Leads : Place → Option Offence → Transcript → Option Beginning → Type 0
 Leads end first telling None = IsOneLine telling
 Leads end first telling (Some b) = Begins end first telling b
 
@@ -124,7 +124,7 @@ module _ (text : List ℕ) where
   abbrev end : Place
   end = end_of text
 
-  abbrev Leading : Told → Option Beginning → Type 0
+  abbrev Leading : Transcript → Option Beginning → Type 0
   Leading telling o = Leads end (script_offence text) telling o
 
   dump_leads : (now : Situation) (dump : Dump) (number : ℕ) (lines : List (List ℕ)) → IsDumped end 1 (lines_of text) (script_offence text) (ShowsDump text) now dump number lines
@@ -149,7 +149,7 @@ whole text = leads_by text (head_of text) (comes text)
 
 -- ---- whole texts
 
-abbrev steps_from : Option Beginning → List Step
+abbrev steps_from : Option Beginning → List ScriptStep
 steps_from o = option_map_or (λ b. steps_in b.number b.lines b.state) o []
 
 pub transcript_is_of_the_course : TranscriptIsOfTheCourse
@@ -163,23 +163,23 @@ transcript_is_of_the_course text some = one (beginning text) (whole text) some
         ∙ ap (λ (o : Option Offence). behind accepted_line (behind (joined (steps_in b.number b.lines b.state)) (ending o))) (sym h.follows)
 
 pub replays_are_of_the_course : ReplaysAreOfTheCourse
-replays_are_of_the_course source sink status some h = subst (λ (t : Told). ReplaysAs t source sink status) (transcript_is_of_the_course source.bytes some) h
+replays_are_of_the_course source sink status some h = subst (λ (t : Transcript). ReplaysAs t source sink status) (transcript_is_of_the_course source.bytes some) h
 
 pub transcript_is_one_line : TranscriptIsOneLine
 transcript_is_one_line text none = subst (Leads (end_of text) (script_offence text) (transcript text)) none (whole text)
 
 -- The steps of a text go on from a first state, without an update under way.
-pub record IsCourse (steps : List Step) : Type 0 where
+pub record IsCourse (steps : List ScriptStep) : Type 0 where
   pub first : ReplayState
   pub is : IsReplayState first
   pub no_order : first.machine.order ≡ None
   pub windows : takes_windows first.now.stage ≡ true
   pub goes_on : GoesOn first steps
 
-pub course_is : (text : List ℕ) (front rest : List Step) (step : Step) → course text ≡ front ++ step ∷ rest → IsCourse (front ++ step ∷ rest)
+pub course_is : (text : List ℕ) (front rest : List ScriptStep) (step : ScriptStep) → course text ≡ front ++ step ∷ rest → IsCourse (front ++ step ∷ rest)
 course_is text front rest step same = one (beginning text) (whole text) same
   where
-    none : (front : List Step) → [] ≡ front ++ step ∷ rest → ⊥
+    none : (front : List ScriptStep) → [] ≡ front ++ step ∷ rest → ⊥
     none [] e = cc e
     none (other ∷ front) e = cc e
 
@@ -188,12 +188,12 @@ course_is text front rest step same = one (beginning text) (whole text) same
     one (Some b) h e = record { first = b.state; is = h.is; no_order = h.no_order; windows = h.windows; goes_on = subst (GoesOn b.state) e (steps_go_on b.number b.lines b.state) }
 
 -- a step stands in its state, which is kept, and the steps behind go on from there
-pub record StandsIn (step : Step) (rest : List Step) : Type 0 where
+pub record StandsIn (step : ScriptStep) (rest : List ScriptStep) : Type 0 where
   pub is : IsReplayState step.before
   pub fits : Fits step.before.now step.command
   pub goes_on : GoesOn (left step) rest
 
-pub stands_in : (front rest : List Step) (step : Step) → IsCourse (front ++ step ∷ rest) → StandsIn step rest
+pub stands_in : (front rest : List ScriptStep) (step : ScriptStep) → IsCourse (front ++ step ∷ rest) → StandsIn step rest
 stands_in front rest step h =
     let on = behind_front front (step ∷ rest) h.first h.goes_on in
     record { is = subst IsReplayState (sym on.0) (kept_behind front h.first h.is (in_front front (step ∷ rest) h.first h.goes_on)); fits = on.1; goes_on = on.2 }

@@ -29,7 +29,7 @@ use Rattle.mt_script.specs.declared.command.Command.{Command}
 use Rattle.mt_script.specs.declared.command.Command.TheVariants as command
 use Rattle.mt_output.specs.Lines.{line, refused_line}
 use Rattle.mt_replay_laws.specs.Headline.{IsCall, NoneOf, pass_line, release_line}
-use Rattle.mt_replay.specs.Steps.{Step, wrote}
+use Rattle.mt_replay.specs.Steps.{ScriptStep, wrote}
 use Rattle.mt_replay_laws.specs.Coming.{BringsUp}
 use Rattle.mt_replay.specs.ReplayState.{ReplayState, after_update, call_fault, command_text, file_at, is_absent, is_undecided, is_update, machine_after, mapping, may_come, may_go, memory_word, present_text, stays_line}
 use Rattle.mt_replay.specs.Texts.{absent_line, call_fault_line, called_line, cancel_line, complete_line, done_line, event_text, full_line, go_line, have_one_file, joined_line, memory_line, no_line, registers_line, report_text, retired_line, ruled_line, stepped_line, under_way_line, up_line}
@@ -342,7 +342,7 @@ end_or_not s c = one (is_of_update (command_text s c)) (is_of_call (command_text
 
 -- ---- texts that call for nothing, by computation
 
-pub no_call_there : (step : Step) → not (is_of_call (wrote step)) ≡ true → (BringsUp step.command → ⊥) → IsCall step → ⊥
+pub no_call_there : (step : ScriptStep) → not (is_of_call (wrote step)) ≡ true → (BringsUp step.command → ⊥) → IsCall step → ⊥
 no_call_there step other still (inr (k, inl up)) = still (inl up.0)
 no_call_there step other still (inr (k, inr joins)) = still (inr joins.0)
 no_call_there step other still (inl (inl called)) = let e : false ≡ true = sym (ap (λ (text : List ℕ). not (is_of_call text)) called) ∙ other in cc e
@@ -358,10 +358,10 @@ pub not_coming : (c : Command) → is_still c ≡ true → BringsUp c → ⊥
 not_coming c still (inl up) = let e : true ≡ false = sym still ∙ ap is_still up in cc e
 not_coming c still (inr join) = let e : true ≡ false = sym still ∙ ap is_still join in cc e
 
-abbrev pub calls_none : Step → Bool
+abbrev pub calls_none : ScriptStep → Bool
 calls_none step = not (is_of_call (wrote step)) && is_still step.command
 
-pub none_calls : (steps : List Step) → list_all calls_none steps ≡ true → NoneOf IsCall steps
+pub none_calls : (steps : List ScriptStep) → list_all calls_none steps ≡ true → NoneOf IsCall steps
 none_calls [] others = tt
 none_calls (step ∷ steps) others =
     let both = and_parts (calls_none step) (list_all calls_none steps) others in

@@ -6,22 +6,22 @@ use Rattle.std.specs.List.{All}
 use Rattle.std.proofs.lemmas.Bool.{lt-ltb, ltb-true}
 use Rattle.std.proofs.lemmas.List.{take-append-drop}
 use Rattle.mt_machine.specs.Memory.{Window, place, word_at}
-use Rattle.mt_replay.specs.Steps.{Step}
+use Rattle.mt_replay.specs.Steps.{ScriptStep}
 use Rattle.mt_replay_laws.specs.WorkedScript.{no_step}
 
-at_step : (steps : List Step) (k : ℕ) → nat_lt k (length steps) ≡ true → steps ≡ take k steps ++ slice_index_or steps k no_step ∷ drop (suc k) steps
+at_step : (steps : List ScriptStep) (k : ℕ) → nat_lt k (length steps) ≡ true → steps ≡ take k steps ++ slice_index_or steps k no_step ∷ drop (suc k) steps
 at_step [] k within = absurd (let none = ltb-true k 0 within in omega arith)
 at_step (step ∷ steps) zero within = refl
 at_step (step ∷ steps) (suc k) within =
     let low = ltb-true (suc k) (suc (length steps)) within in
-    ap (λ (rest : List Step). step ∷ rest) (at_step steps k (lt-ltb k (length steps) (omega arith)))
+    ap (λ (rest : List ScriptStep). step ∷ rest) (at_step steps k (lt-ltb k (length steps) (omega arith)))
 
-pub stands : (steps : List Step) (k count : ℕ) → nat_lt k (length steps) ≡ true
+pub stands : (steps : List ScriptStep) (k count : ℕ) → nat_lt k (length steps) ≡ true
     → steps ≡ take k steps ++ slice_index_or steps k no_step ∷ (take count (drop (k + 1) steps) ++ drop count (drop (k + 1) steps))
 stands steps k count within =
     let next : suc k ≡ k + 1 = omega arith in
     at_step steps k within
-    ∙ ap (λ (rest : List Step). take k steps ++ slice_index_or steps k no_step ∷ rest)
+    ∙ ap (λ (rest : List ScriptStep). take k steps ++ slice_index_or steps k no_step ∷ rest)
     (ap (λ (n : ℕ). drop n steps) next ∙ sym (take-append-drop count (drop (k + 1) steps)))
 
 -- ---- memory of zeros

@@ -35,7 +35,7 @@ use Rattle.mt_replay.specs.Kept.{IsReplayState}
 use Rattle.mt_replay.specs.ReplayState.{ReplayState, command_text, first_state, is_absent, present_text, state_after}
 use Rattle.mt_replay.specs.Statuses.{ShowsDump}
 use Rattle.mt_replay.specs.Transcript.{body_lines, told_at_end, told_by, told_command, told_dump}
-use Rattle.mt_stream.specs.Told.{Told, behind}
+use Rattle.mt_stream.specs.Transcript.{Transcript, behind}
 use Rattle.mt_replay.proofs.FirstRefusal.{all_accepted}
 use Rattle.mt_replay.proofs.Heads.{Comes, IsDumped, comes}
 use Rattle.mt_replay.proofs.Keeping.First.{first_kept}
@@ -88,7 +88,7 @@ module _ (text : List ℕ) where
   abbrev end : Place
   end = end_of text
 
-  abbrev flat_body : ℕ → List (List ℕ) → ReplayState → Told
+  abbrev flat_body : ℕ → List (List ℕ) → ReplayState → Transcript
   flat_body number lines s = flat_told_in end number lines s flat_start
 
   -- the flat machine is at its start where the machine is
@@ -99,7 +99,7 @@ module _ (text : List ℕ) where
       ap (behind accepted_line)
       (told_same end number lines (first_state now dump) flat_start (first_kept now dump h.is h.in_dump h.good h.each (all_accepted dump.files has)) (bare_is_flat (files_for now.cpus dump)))
 
-  abbrev tells : (ℕ → List (List ℕ) → ReplayState → Told) → HeadEnd → Told
+  abbrev tells : (ℕ → List (List ℕ) → ReplayState → Transcript) → HeadEnd → Transcript
   tells body e = told_by (λ last. told_at_end (end_fault last.stage end)) body e
 
   end_same : (e : HeadEnd) → Comes end 1 (lines_of text) (script_offence text) (ShowsDump text) e → tells flat_body e ≡ tells (body_lines (Some end)) e

@@ -7,8 +7,8 @@ use Rattle.mt_regs.specs.Agreement.{first_refusal}
 use Rattle.mt_script.specs.Head.{goes_on, offends}
 use Rattle.mt_stream.specs.Lines.{GoesOn, Path, Takes, at_line}
 use Rattle.mt_output.specs.Ports.{change, port}
-use Rattle.mt_proc.specs.Proc.{Point, begins, in_dump, in_requests, of_head, proc_step, situation_of}
-use Rattle.mt_proc.specs.Running.{AllServe, AsksAt, IsQuiet, StandsAt, path_from}
+use Rattle.mt_proc.specs.Proc.{RequestState, begins, in_dump, in_requests, of_head, proc_step, situation_of}
+use Rattle.mt_proc.specs.Running.{AllServe, AsksAt, HasOutput, StandsAt, path_from}
 use Rattle.mt_proc.specs.Serving.{served}
 use Rattle.mt_proc.specs.declared.running.Run.{Run}
 use Rattle.mt_proc.specs.declared.running.Run.TheVariants as run
@@ -19,7 +19,7 @@ pub returns-in-Ok-None-clause-bytes : goal.returns-in-Ok-None-clause-bytes
 returns-in-Ok-None-clause-bytes g c = λ so_far was stands.
     let (p, at, quiet, from, each) = stands in
     let (before, read, in_it) = in_the_dump c.args.run.now c.in-Dump.reader p c.in-Dump.is at in
-    let none : so_far ≡ [] = subst (λ (r : Run). IsQuiet r so_far) c.in-Dump.is quiet in
+    let none : so_far ≡ [] = subst (λ (r : Run). HasOutput r so_far) c.in-Dump.is quiet in
     let is : was ≡ path_from c.args.cpus (in_dump before) = from ∙ ap (path_from c.args.cpus) in_it in
     let (after, holds, step) = rw c.in-Ok-None.field-0-is at (c.in-Ok-None.ensures.step (situation_of c.args.cpus) before refl read) in
     let number = c.args.line.now.number in
@@ -36,7 +36,7 @@ pub returns-in-Ok-Some-clause-bytes : goal.returns-in-Ok-Some-clause-bytes
 returns-in-Ok-Some-clause-bytes g c = λ so_far was stands.
     let (p, at, quiet, from, each) = stands in
     let (before, read, in_it) = in_the_dump c.args.run.now c.in-Dump.reader p c.in-Dump.is at in
-    let none : so_far ≡ [] = subst (λ (r : Run). IsQuiet r so_far) c.in-Dump.is quiet in
+    let none : so_far ≡ [] = subst (λ (r : Run). HasOutput r so_far) c.in-Dump.is quiet in
     let is : was ≡ path_from c.args.cpus (in_dump before) = from ∙ ap (path_from c.args.cpus) in_it in
     let (holds, step) = rw c.in-Ok-Some.field-0-is at (c.in-Ok-Some.ensures.step (situation_of c.args.cpus) before refl read) in
     let number = c.args.line.now.number in
@@ -52,7 +52,7 @@ pub returns-in-Err-clause-bytes : goal.returns-in-Err-clause-bytes
 returns-in-Err-clause-bytes g c = λ so_far was stands.
     let (p, at, quiet, from, each) = stands in
     let (before, read, in_it) = in_the_dump c.args.run.now c.in-Dump.reader p c.in-Dump.is at in
-    let none : so_far ≡ [] = subst (λ (r : Run). IsQuiet r so_far) c.in-Dump.is quiet in
+    let none : so_far ≡ [] = subst (λ (r : Run). HasOutput r so_far) c.in-Dump.is quiet in
     let is : was ≡ path_from c.args.cpus (in_dump before) = from ∙ ap (path_from c.args.cpus) in_it in
     let step = c.in-Err.ensures.step (situation_of c.args.cpus) before refl read in
     let number = c.args.line.now.number in
@@ -89,7 +89,7 @@ pub returns-in-Ok-Some-clause-asks : goal.returns-in-Ok-Some-clause-asks
 returns-in-Ok-Some-clause-asks g c = λ p at wants.
     let (before, read, in_it) = in_the_dump c.args.run.now c.in-Dump.reader p c.in-Dump.is at in
     let (holds, step) = rw c.in-Ok-Some.field-0-is at (c.in-Ok-Some.ensures.step (situation_of c.args.cpus) before refl read) in
-    subst (λ (q : Point). AsksAt c.args.cpus q c.args.line.now.number c.args.line.now.bytes.now) (sym in_it) (c.in-Ok-Some.dump, step, c.begin.ensures.asks wants)
+    subst (λ (q : RequestState). AsksAt c.args.cpus q c.args.line.now.number c.args.line.now.bytes.now) (sym in_it) (c.in-Ok-Some.dump, step, c.begin.ensures.asks wants)
 
 pub returns-in-Err-clause-asks : goal.returns-in-Err-clause-asks
 returns-in-Err-clause-asks g c = λ p at wants. let e : NoMemory ≡ BadText = c.tell.ensures.answer NoMemory wants in absurd (cc e)

@@ -2,8 +2,8 @@ use Rattle.std.proofs.Common.{refl, subst, false, ℕ, List, []}
 use Rattle.mt_script.specs.Situation.{at_start}
 use Rattle.mt_ports.specs.declared.status.Status.{Status}
 use Rattle.mt_output.specs.Ports.{Held, Port, sink_run, source_run}
-use Rattle.mt_stream.specs.Handling.{RunsOn}
-use Rattle.mt_stream.specs.Runs.{AsksBy, RunsAs}
+use Rattle.mt_stream.specs.Handling.{ResultsOn}
+use Rattle.mt_stream.specs.Results.{AsksBy, ResultsAs}
 use Rattle.mt_stream.proofs.Whole.{ran, refused}
 use Rattle.mt_replay.specs.Running.{AsksAt, Replays, path_from}
 use Rattle.mt_replay.specs.Transcript.{from_point, in_head, replay_told, transcript}
@@ -12,9 +12,9 @@ use Rattle.mt_replay.proofs.RunningLaws.{replay_laws}
 use Rattle.mt_replay.proofs.running.replay_with.Goals as goal
 
 -- the early text is told by the steps of the text
-as_replays : (h : Held) (p : Port) (status : Status) → RunsOn (path_from false [] (in_head at_start [])) h p status → Replays h p status
+as_replays : (h : Held) (p : Port) (status : Status) → ResultsOn (path_from false [] (in_head at_start [])) h p status → Replays h p status
 as_replays h p status runs =
-    subst (λ (early : List ℕ). RunsAs (record { tells = transcript h.bytes; early = early }) replay_told h p status) (early_of_text h.bytes) runs
+    subst (λ (early : List ℕ). ResultsAs (record { tells = transcript h.bytes; early = early }) replay_told h p status) (early_of_text h.bytes) runs
 
 pub run_lines-requires-clause-laws : goal.run_lines-requires-clause-laws
 run_lines-requires-clause-laws g c = replay_laws

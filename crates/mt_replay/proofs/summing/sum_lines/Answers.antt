@@ -8,7 +8,7 @@ use Rattle.mt_replay.specs.Running.{setup_of}
 use Rattle.mt_replay.specs.Summing.{state_in, with_memory, with_text}
 use Rattle.mt_replay.specs.declared.line.Run.TheVariants as run
 use Rattle.mt_replay.specs.declared.summing.Totals.{Totals}
-use Rattle.mt_replay.proofs.RunningLaws.{eras_more, is_quiet, quiet_text}
+use Rattle.mt_replay.proofs.RunningLaws.{eras_more, has_output, output_so_far}
 use Rattle.mt_replay.proofs.Sums.Lines.{starts, summed_bad, summed_done, summed_ends, summed_on}
 use Rattle.mt_replay.proofs.summing.sum_lines.Goals.{in-Err-read_end, in_default-read_end}
 use Rattle.mt_replay.proofs.summing.sum_lines.Goals as goal
@@ -25,20 +25,20 @@ lines-init g c = record {
 pub returns-in-Ok-Some : goal.returns-in-Ok-Some
 returns-in-Ok-Some g c =
     let h = c.lines.invariant.summed in
-    let takes = rw (c.in-Ok-Some.field-0-is, c.in-Some.ensures.rest.1) at (c.in-Ok-Some.ensures.bytes false (quiet_text c.lines.run) h.point h.stands (is_quiet c.lines.run)) in
+    let takes = rw (c.in-Ok-Some.field-0-is, c.in-Some.ensures.rest.1) at (c.in-Ok-Some.ensures.bytes false (output_so_far c.lines.run) h.point h.stands (has_output c.lines.run)) in
     let lasts = rw (c.in-Ok-Some.field-0-is, c.in-Some.ensures.rest.1) at (c.in-Ok-Some.ensures.last h.last_point h.last_stands) in
     let other : c.in-Ok-Some.stop ≡ NoMemory → ⊥ = λ is. let same : c.eq.result ≡ true = rw is at c.eq.ensures in let e : true ≡ false = sym same ∙ c.if-eq.false in cc e in
     let low : c.lines.at + 1 < 2 ^ 64 = omega (arith, c.in-Some.ensures.rest.2) in
     elim takes [
       | inl e ↦ c.with_memory.ensures ∙ ap (λ (t : Totals). with_memory t (state_in c.take_line.new.run)) c.add_waiting-in-Ok-Some.ensures.totals
-          ∙ summed_ends c.args.source.now c.lines.at c.in-Some.line.next c.lines.number c.in-Some.line.bytes.now c.lines.run c.lines.totals h c.in-Some.ensures.lines c.lines.writer c.take_line.new.writer c.lines.invariant.waiting c.take_line.new.run (quiet_text c.lines.run) c.in-Ok-Some.stop e (lasts other) low
+          ∙ summed_ends c.args.source.now c.lines.at c.in-Some.line.next c.lines.number c.in-Some.line.bytes.now c.lines.run c.lines.totals h c.in-Some.ensures.lines c.lines.writer c.take_line.new.writer c.lines.invariant.waiting c.take_line.new.run (output_so_far c.lines.run) c.in-Ok-Some.stop e (lasts other) low
       | inr w ↦ absurd (other w.refused)
     ]
 
 pub lines-preserved : goal.lines-preserved
 lines-preserved g c =
     let h = c.lines.invariant.summed in
-    let goes = rw (c.in-Ok-None.field-0-is, c.in-Some.ensures.rest.1) at (c.in-Ok-None.ensures.bytes false (quiet_text c.lines.run) h.point h.stands (is_quiet c.lines.run)) in
+    let goes = rw (c.in-Ok-None.field-0-is, c.in-Some.ensures.rest.1) at (c.in-Ok-None.ensures.bytes false (output_so_far c.lines.run) h.point h.stands (has_output c.lines.run)) in
     let lasts = rw (c.in-Ok-None.field-0-is, c.in-Some.ensures.rest.1) at (c.in-Ok-None.ensures.last h.last_point h.last_stands) in
     record {
       within = c.in-Some.ensures.rest.3;
@@ -47,7 +47,7 @@ lines-preserved g c =
       eras = eras_more (c.lines.at + 1) c.in-Some.line.next c.take_line.new.run (omega (arith, c.in-Some.ensures.rest.2)) (rw c.in-Ok-None.field-0-is at (c.in-Ok-None.ensures.eras c.lines.at c.lines.invariant.eras));
       summed =
           rw c.add_waiting.ensures.totals
-          (summed_on c.args.source.now c.lines.at c.in-Some.line.next c.lines.number c.in-Some.line.bytes.now c.lines.run c.lines.totals h c.in-Some.ensures.lines c.lines.writer c.take_line.new.writer c.lines.invariant.waiting c.take_line.new.run (quiet_text c.lines.run) goes lasts (omega (arith, c.in-Some.ensures.rest.2)));
+          (summed_on c.args.source.now c.lines.at c.in-Some.line.next c.lines.number c.in-Some.line.bytes.now c.lines.run c.lines.totals h c.in-Some.ensures.lines c.lines.writer c.take_line.new.writer c.lines.invariant.waiting c.take_line.new.run (output_so_far c.lines.run) goes lasts (omega (arith, c.in-Some.ensures.rest.2)));
     }
 
 pub returns : goal.returns

@@ -2,7 +2,7 @@ use Rattle.std.proofs.Common.{◌≡◌, refl, rules, subst, arith, inr, [], inl
 use Rattle.std.specs.List.{All}
 use Rattle.mt_machine_laws.specs.MachineWorkedRuns.{idle}
 use Rattle.mt_replay_laws.specs.Headline.{IsCall, NoneOf}
-use Rattle.mt_replay.specs.Steps.{Step}
+use Rattle.mt_replay.specs.Steps.{ScriptStep}
 use Rattle.mt_replay_laws.specs.WorkedSteps.{begins, calls, passes, releases}
 use Rattle.mt_replay_laws.proofs.Courses.Tells.{none_calls}
 use Rattle.mt_replay_laws.proofs.replay_worked.worked_short_updates.Goals as goal
@@ -44,4 +44,4 @@ returns-clause-call_behind_the_first_release c = λ u waiting pass between first
 
 pub returns-clause-store_waits : goal.returns-clause-store_waits
 returns-clause-store_waits c = λ u pass.
-    absurd (cc (subst (λ (s : Step). All (λ p. p.buffers ≡ []) s.before.machine.system.processors) pass u.no_store_waits 1 idle (omega arith)))
+    absurd (cc (subst (λ (s : ScriptStep). All (λ p. p.buffers ≡ []) s.before.machine.system.processors) pass u.no_store_waits 1 idle (omega arith)))

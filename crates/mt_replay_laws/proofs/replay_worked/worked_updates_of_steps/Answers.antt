@@ -3,7 +3,7 @@ use Rattle.mt_machine_laws.specs.MachineWorkedRuns.{bare_file}
 use Rattle.mt_regs.specs.RegisterFile.{RegisterFile}
 use Rattle.mt_script.specs.declared.command.Command.TheVariants as command
 use Rattle.mt_replay_laws.specs.Headline.{ComesUp, IsCalled, NoneOf, NoneWrote, goal_of, pass_line, release_line}
-use Rattle.mt_replay.specs.Steps.{Step, wrote}
+use Rattle.mt_replay.specs.Steps.{ScriptStep, wrote}
 use Rattle.mt_replay.specs.ReplayState.{first_file}
 use Rattle.mt_replay.specs.Texts.{called_line}
 use Rattle.mt_replay_laws.specs.WorkedSteps.{begins}
@@ -26,7 +26,7 @@ returns-clause-two_sections c = λ u lines. (subst (NoneOf (λ step. step.comman
 pub returns-clause-begun_by_a_fence : goal.returns-clause-begun_by_a_fence
 returns-clause-begun_by_a_fence c = λ u opens.
     ⊎_elim (λ is. absurd (cc is)) (λ is. absurd (cc is))
-    (subst (λ (s : Step). (s.command ≡ command.Update) ⊎ (s.command ≡ command.Begin)) opens u.begins)
+    (subst (λ (s : ScriptStep). (s.command ≡ command.Update) ⊎ (s.command ≡ command.Begin)) opens u.begins)
 
 pub returns-clause-ended_by_a_register : goal.returns-clause-ended_by_a_register
 returns-clause-ended_by_a_register c = λ u. absurd (cc u.ends)
@@ -39,10 +39,10 @@ returns-clause-no_call c = λ u call.
     (subst IsCalled call u.calls)
 
 pub returns-clause-no_pass : goal.returns-clause-no_pass
-returns-clause-no_pass c = λ u pass. let e : 0 ≡ 112 = ap first (subst (λ (s : Step). wrote s ≡ pass_line) pass u.passes) in omega (arith, e)
+returns-clause-no_pass c = λ u pass. let e : 0 ≡ 112 = ap first (subst (λ (s : ScriptStep). wrote s ≡ pass_line) pass u.passes) in omega (arith, e)
 
 pub returns-clause-no_release : goal.returns-clause-no_release
-returns-clause-no_release c = λ u release. let e : 0 ≡ 114 = ap first (subst (λ (s : Step). wrote s ≡ release_line) release u.releases) in omega (arith, e)
+returns-clause-no_release c = λ u release. let e : 0 ≡ 114 = ap first (subst (λ (s : ScriptStep). wrote s ≡ release_line) release u.releases) in omega (arith, e)
 
 pub returns-clause-second_pass : goal.returns-clause-second_pass
 returns-clause-second_pass c = λ u waiting. (subst (NoneWrote pass_line) waiting u.first_pass).0 refl

@@ -2,7 +2,7 @@ use Rattle.std.proofs.Common.{◌∙◌, ◌+◌, ◌++◌, arith, sym, refl, su
 use Rattle.std.specs.Prelude.{Bool, Result}
 use Rattle.mt_ports.specs.Causes.{Rose}
 use Rattle.mt_text.specs.Feed.{Feeding, IsLong, Moves, taken}
-use Rattle.mt_stream.specs.Handling.{RunsOn}
+use Rattle.mt_stream.specs.Handling.{ResultsOn}
 use Rattle.mt_stream.specs.Lines.{SinkHasCause, SourceHasCause, run_status, running}
 use Rattle.mt_stream.specs.declared.ending.Cut.{Cut}
 use Rattle.mt_stream.specs.declared.ending.Ended.{Ended}
@@ -32,30 +32,30 @@ pub returns-in-Ok-false-clause-bytes : goal.returns-in-Ok-false-clause-bytes
 returns-in-Ok-false-clause-bytes g c = λ start at bytes known.
     let (more, takes, rises, next) = c.in-Ok-false.ensures.bytes in
     let moves = subst (Moves c.lines.feed c.next_line.new.feed (c.lines.feed.pending ++ more) (g.S.Source.left c.next_line.new.source)) c.in-Ok-false.field-0-test next.0 in
-    subst (λ (r : Result Ended Cut). RunsOn start (held bytes (g.S.Source.left c.next_line.new.source)) (port g.K.Sink.taken c.args.sink.now c.finish.new.sink) (run_status r)) (sym c.closed.ensures)
-    (closes _ start c.requires.laws bytes _ _ _ _ _ _ (g.K.Sink.taken c.finish.new.sink) c.finish.result
+    subst (λ (r : Result Ended Cut). ResultsOn start (held bytes (g.S.Source.left c.next_line.new.source)) (port g.K.Sink.taken c.args.sink.now c.write_end.new.sink) (run_status r)) (sym c.closed.ensures)
+    (closes _ start c.requires.laws bytes _ _ _ _ _ _ (g.K.Sink.taken c.write_end.new.sink) c.write_end.result
     (no_line _ start c.requires.laws bytes more _ (g.S.Source.left c.next_line.new.source) _ c.next_line.new.feed _ _ c.next_line.new.writer _ _ (g.K.Sink.taken c.next_line.new.sink) (c.lines.invariant.told start at bytes known) takes moves next.1)
-    (rw c.end.ensures at c.finish.ensures.bytes))
+    (rw c.end.ensures at c.write_end.ensures.bytes))
 
 pub returns-in-Ok-false-clause-memory : goal.returns-in-Ok-false-clause-memory
-returns-in-Ok-false-clause-memory g c = λ start at wants bytes known. absurd ((closed_others c.finish.result).0 (ap run_status (sym c.closed.ensures) ∙ wants))
+returns-in-Ok-false-clause-memory g c = λ start at wants bytes known. absurd ((closed_others c.write_end.result).0 (ap run_status (sym c.closed.ensures) ∙ wants))
 
 pub returns-in-Ok-false-clause-source : goal.returns-in-Ok-false-clause-source
 returns-in-Ok-false-clause-source g c =
     subst (λ (r : Result Ended Cut). SourceHasCause (g.S.Source.faults c.args.source.now) (g.S.Source.faults c.next_line.new.source) r) (sym c.closed.ensures)
-    (closed_source c.finish.result _ _ (c.in-Ok-false.ensures.source ∙ c.lines.invariant.source))
+    (closed_source c.write_end.result _ _ (c.in-Ok-false.ensures.source ∙ c.lines.invariant.source))
 
 pub returns-in-Ok-false-clause-sink : goal.returns-in-Ok-false-clause-sink
 returns-in-Ok-false-clause-sink g c =
-    subst (λ (n : ℕ). SinkHasCause n (g.K.Sink.faults c.finish.new.sink) c.closed.result) (c.in-Ok-false.ensures.sink ∙ c.lines.invariant.sink)
-    (subst (λ (r : Result Ended Cut). SinkHasCause (g.K.Sink.faults c.next_line.new.sink) (g.K.Sink.faults c.finish.new.sink) r) (sym c.closed.ensures) (closed_sink c.finish.result _ _ c.finish.ensures.cause))
+    subst (λ (n : ℕ). SinkHasCause n (g.K.Sink.faults c.write_end.new.sink) c.closed.result) (c.in-Ok-false.ensures.sink ∙ c.lines.invariant.sink)
+    (subst (λ (r : Result Ended Cut). SinkHasCause (g.K.Sink.faults c.next_line.new.sink) (g.K.Sink.faults c.write_end.new.sink) r) (sym c.closed.ensures) (closed_sink c.write_end.result _ _ c.write_end.ensures.cause))
 
 pub returns-in-Ok-false-clause-too_long : goal.returns-in-Ok-false-clause-too_long
 returns-in-Ok-false-clause-too_long g c =
     let (more, takes, rises, next) = c.in-Ok-false.ensures.bytes in
     let moves = subst (Moves c.lines.feed c.next_line.new.feed (c.lines.feed.pending ++ more) (g.S.Source.left c.next_line.new.source)) c.in-Ok-false.field-0-test next.0 in
     let same = unmoved_taken c.lines.feed c.next_line.new.feed more (g.S.Source.left c.next_line.new.source) moves in
-    never_much (run_status c.closed.result) (g.S.Source.given c.args.source.now) (g.S.Source.given c.next_line.new.source) c.next_line.new.feed (λ is. (closed_others c.finish.result).1 (ap run_status (sym c.closed.ensures) ∙ is))
+    never_much (run_status c.closed.result) (g.S.Source.given c.args.source.now) (g.S.Source.given c.next_line.new.source) c.next_line.new.feed (λ is. (closed_others c.write_end.result).1 (ap run_status (sym c.closed.ensures) ∙ is))
     (omega (arith, c.lines.invariant.given, rises, same.0)) c.in-Ok-false.ensures.long (same.1 ∙ c.lines.invariant.no_fault)
 
 pub returns-in-Err-clause-bytes : goal.returns-in-Err-clause-bytes
@@ -92,31 +92,31 @@ pub returns-then-last-clause-bytes : goal.returns-then-last-clause-bytes
 returns-then-last-clause-bytes g c = λ start at bytes known.
     let (more, takes, rises, next) = c.in-Ok-true.ensures.bytes in
     let line = c.requires.takes _ _ _ _ _ _ _ _ c.in-Ok-None.ensures in
-    subst (λ (r : Result Ended Cut). RunsOn start (held bytes (g.S.Source.left c.next_line.new.source)) (port g.K.Sink.taken c.args.sink.now c.finish-then-last.new.sink) (run_status r)) (sym c.closed-then-last.ensures)
+    subst (λ (r : Result Ended Cut). ResultsOn start (held bytes (g.S.Source.left c.next_line.new.source)) (port g.K.Sink.taken c.args.sink.now c.write_end-then-last.new.sink) (run_status r)) (sym c.closed-then-last.ensures)
     (goes_last _ start c.requires.laws bytes more _ (g.S.Source.left c.next_line.new.source) _ c.next_line.new.feed _ _ c.next_line.new.writer _ _ (g.K.Sink.taken c.next_line.new.sink) (c.lines.invariant.told start at bytes known) takes _ c.in-Ok-true.field-0-test next
     c.take_line.new.arg2 c.take_line.new.arg4 (g.K.Sink.taken c.take_line.new.arg5)
     (λ so_far was stands. rw (c.in-Ok-None.field-0-is, c.current.ensures.bytes, c.current.ensures.number) at (line.bytes so_far was stands))
-    (sym c.is_last-last.ensures ∙ c.if-last.true) (g.K.Sink.taken c.finish-then-last.new.sink) c.finish-then-last.result (rw c.end-then-last.ensures at c.finish-then-last.ensures.bytes))
+    (sym c.is_last-last.ensures ∙ c.if-last.true) (g.K.Sink.taken c.write_end-then-last.new.sink) c.write_end-then-last.result (rw c.end-then-last.ensures at c.write_end-then-last.ensures.bytes))
 
 pub returns-then-last-clause-memory : goal.returns-then-last-clause-memory
-returns-then-last-clause-memory g c = λ start at wants bytes known. absurd ((closed_others c.finish-then-last.result).0 (ap run_status (sym c.closed-then-last.ensures) ∙ wants))
+returns-then-last-clause-memory g c = λ start at wants bytes known. absurd ((closed_others c.write_end-then-last.result).0 (ap run_status (sym c.closed-then-last.ensures) ∙ wants))
 
 pub returns-then-last-clause-source : goal.returns-then-last-clause-source
 returns-then-last-clause-source g c =
     subst (λ (r : Result Ended Cut). SourceHasCause (g.S.Source.faults c.args.source.now) (g.S.Source.faults c.next_line.new.source) r) (sym c.closed-then-last.ensures)
-    (closed_source c.finish-then-last.result _ _ (c.in-Ok-true.ensures.source ∙ c.lines.invariant.source))
+    (closed_source c.write_end-then-last.result _ _ (c.in-Ok-true.ensures.source ∙ c.lines.invariant.source))
 
 pub returns-then-last-clause-sink : goal.returns-then-last-clause-sink
 returns-then-last-clause-sink g c =
     let line = c.requires.takes _ _ _ _ _ _ _ _ c.in-Ok-None.ensures in
-    subst (λ (n : ℕ). SinkHasCause n (g.K.Sink.faults c.finish-then-last.new.sink) c.closed-then-last.result) (line.cause ∙ c.in-Ok-true.ensures.sink ∙ c.lines.invariant.sink)
-    (subst (λ (r : Result Ended Cut). SinkHasCause (g.K.Sink.faults c.take_line.new.arg5) (g.K.Sink.faults c.finish-then-last.new.sink) r) (sym c.closed-then-last.ensures) (closed_sink c.finish-then-last.result _ _ c.finish-then-last.ensures.cause))
+    subst (λ (n : ℕ). SinkHasCause n (g.K.Sink.faults c.write_end-then-last.new.sink) c.closed-then-last.result) (line.cause ∙ c.in-Ok-true.ensures.sink ∙ c.lines.invariant.sink)
+    (subst (λ (r : Result Ended Cut). SinkHasCause (g.K.Sink.faults c.take_line.new.arg5) (g.K.Sink.faults c.write_end-then-last.new.sink) r) (sym c.closed-then-last.ensures) (closed_sink c.write_end-then-last.result _ _ c.write_end-then-last.ensures.cause))
 
 pub returns-then-last-clause-too_long : goal.returns-then-last-clause-too_long
 returns-then-last-clause-too_long g c =
     let (more, takes, rises, next) = c.in-Ok-true.ensures.bytes in
     let moved = moved_taken c.lines.feed c.next_line.new.feed more (g.S.Source.left c.next_line.new.source) _ c.in-Ok-true.field-0-test next.0 in
-    never_much (run_status c.closed-then-last.result) (g.S.Source.given c.args.source.now) (g.S.Source.given c.next_line.new.source) c.next_line.new.feed (λ is. (closed_others c.finish-then-last.result).1 (ap run_status (sym c.closed-then-last.ensures) ∙ is))
+    never_much (run_status c.closed-then-last.result) (g.S.Source.given c.args.source.now) (g.S.Source.given c.next_line.new.source) c.next_line.new.feed (λ is. (closed_others c.write_end-then-last.result).1 (ap run_status (sym c.closed-then-last.ensures) ∙ is))
     (omega (arith, c.lines.invariant.given, rises, moved.0)) c.in-Ok-true.ensures.long (moved.2 ∙ c.lines.invariant.no_fault)
 
 pub lines-preserved : goal.lines-preserved

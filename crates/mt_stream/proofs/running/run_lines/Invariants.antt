@@ -1,7 +1,7 @@
 use Rattle.std.proofs.Common.{◌≡◌, ◌+◌, ◌-◌, ◌≤◌, List, [], ℕ, None, Some}
 use Rattle.mt_text.specs.Feed.{IsLong, taken}
 use Rattle.mt_stream.specs.Lines.{Path, running}
-use Rattle.mt_stream.specs.Told.{Telling}
+use Rattle.mt_stream.specs.Transcript.{Telling}
 use Rattle.mt_stream.proofs.Telling.{UnderWay}
 use Rattle.mt_stream.proofs.running.run_lines.Given as goal
 

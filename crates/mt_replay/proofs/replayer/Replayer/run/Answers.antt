@@ -5,7 +5,7 @@ use Rattle.mt_replay.specs.declared.task.Task.{Task}
 use Rattle.mt_replay.specs.Doing.{CanDo}
 use Rattle.mt_replay.specs.Kept.{IsReplayState}
 use Rattle.mt_replay.specs.Parts.{state}
-use Rattle.mt_replay.specs.ReplayState.{ReplayState, command_text, done_after, done_text, outcome, state_after}
+use Rattle.mt_replay.specs.ReplayState.{ReplayState, command_text, done_after, done_text, effect, state_after}
 use Rattle.mt_replay.proofs.Doing.{can_do}
 use Rattle.mt_replay.proofs.Keeping.States.{state_kept}
 use Rattle.mt_replay.proofs.replayer.Replayer.run.Goals as goal
@@ -28,7 +28,7 @@ returns-clause-text g c =
 pub returns-clause-after : goal.returns-clause-after
 returns-clause-after g c =
     let s : ReplayState = state c.self.inside.setup c.self.inside.core c.self.inside.goal in
-    (λ i. record { now = c.accept.ensures i; machine = (c.do_act.ensures.machine ∙ ap (done_after s) (sym c.requires.asked)) i; goal = (c.do_act.ensures.goal ∙ ap (λ (t : Task). (outcome s t).goal) (sym c.requires.asked)) i })
+    (λ i. record { now = c.accept.ensures i; machine = (c.do_act.ensures.machine ∙ ap (done_after s) (sym c.requires.asked)) i; goal = (c.do_act.ensures.goal ∙ ap (λ (t : Task). (effect s t).goal) (sym c.requires.asked)) i })
     ∙ ap (λ (s : ReplayState). state_after s c.args.c.now) c.self.view_is
 
 pub invariant_of-self : goal.invariant_of-self
@@ -36,4 +36,4 @@ invariant_of-self g c =
     let s : ReplayState = state c.self.inside.setup c.self.inside.core c.self.inside.goal in
     let kept : IsReplayState (state_after s c.args.c.now) =
     state_kept s c.args.c.now c.self.invariant (subst (λ (s : ReplayState). Fits s.now c.args.c.now) (sym c.self.view_is) c.requires.fits) in
-    rw (c.accept.ensures, c.do_act.ensures.machine ∙ ap (done_after s) (sym c.requires.asked), c.do_act.ensures.goal ∙ ap (λ (t : Task). (outcome s t).goal) (sym c.requires.asked)) kept
+    rw (c.accept.ensures, c.do_act.ensures.machine ∙ ap (done_after s) (sym c.requires.asked), c.do_act.ensures.goal ∙ ap (λ (t : Task). (effect s t).goal) (sym c.requires.asked)) kept

@@ -8,7 +8,7 @@ use Rattle.mt_core.specs.Rounds.{in_order}
 use Rattle.mt_core.specs.declared.fault.CallFault.{CallFault}
 use Rattle.mt_core.specs.declared.fault.CallFault.TheVariants.{Refused}
 use Rattle.mt_replay.proofs.Calls.{call_accepted, call_fails}
-use Rattle.mt_replay.proofs.commands.lead.Goals as goal
+use Rattle.mt_replay.proofs.commands.run_update.Goals as goal
 
 pub returns-in-Ok-clause-fault : goal.returns-in-Ok-clause-fault
 returns-in-Ok-clause-fault g c =

@@ -1,6 +1,6 @@
 -- What a run over a text leaves in the source and the sink (own).
---     Runs start early source sink status      of a source that held these bytes, where no more than the early text is written before memory is asked for
---     RunsAs leads start source sink status      where this is its transcript, with the early text
+--     ResultsIn start early source sink status      of a source that held these bytes, where no more than the early text is written before memory is asked for
+--     ResultsAs leads start source sink status      where this is its transcript, with the early text
 --     RefusesMemory start asks source sink      where memory was refused, by which lines ask for some
 use Rattle.std.specs.Prelude.{ℕ, ◌≡◌, ◌⊎◌, ◌<◌, Bool, List, [], ◌++◌, length, take, Option, Some}
 use Rattle.std.specs.Io.KnownBytes.{Appends}
@@ -13,10 +13,10 @@ use Rattle.mt_ports.specs.declared.status.Status.TheVariants.{Usage, ReadFault, 
 use Rattle.mt_stream.specs.Known.{known_text}
 use Rattle.mt_stream.specs.Lines.{Leads}
 use Rattle.mt_output.specs.Ports.{Held, Port}
-use Rattle.mt_stream.specs.Told.{Telling, Told, behind, transcript}
+use Rattle.mt_stream.specs.Transcript.{Telling, Transcript, behind, transcript}
 
 -- The sink took all that is told, with its status, and nothing of the source is left.
-pub record TellsAll (t : Told) (source : Held) (sink : Port) (status : Status) : Type 0 where
+pub record TellsAll (t : Transcript) (source : Held) (sink : Port) (status : Status) : Type 0 where
   pub status_is : status ≡ t.status
   pub taken : Appends sink.old sink.new t.text
   pub read : source.left ≡ Some []
@@ -30,18 +30,18 @@ pub record TellsKnown (start : Telling) (source : Held) (sink : Port) : Type 0 w
   pub taken : Appends sink.old sink.new (known_text start front)
 
 -- What each status says. Memory is asked for before anything but the early text is written.
-abbrev pub RunsAs : Leads → Telling → Held → Port → Status → Type 0
-RunsAs leads start source sink ReadFault = TellsKnown start source sink
-RunsAs leads start source sink WriteFault = AppendsFront sink.old sink.new leads.tells.text
-RunsAs leads start source sink NoMemory = AppendsFront sink.old sink.new leads.early × AppendsFront sink.old sink.new leads.tells.text
-RunsAs leads start source sink TooLong = (longest_input < length source.bytes) × AppendsFront sink.old sink.new leads.tells.text
-RunsAs leads start source sink Usage = ⊥
-RunsAs leads start source sink TooFew = ⊥
-RunsAs leads start source sink Disabled = ⊥
-RunsAs leads start source sink status = TellsAll leads.tells source sink status
+abbrev pub ResultsAs : Leads → Telling → Held → Port → Status → Type 0
+ResultsAs leads start source sink ReadFault = TellsKnown start source sink
+ResultsAs leads start source sink WriteFault = AppendsFront sink.old sink.new leads.tells.text
+ResultsAs leads start source sink NoMemory = AppendsFront sink.old sink.new leads.early × AppendsFront sink.old sink.new leads.tells.text
+ResultsAs leads start source sink TooLong = (longest_input < length source.bytes) × AppendsFront sink.old sink.new leads.tells.text
+ResultsAs leads start source sink Usage = ⊥
+ResultsAs leads start source sink TooFew = ⊥
+ResultsAs leads start source sink Disabled = ⊥
+ResultsAs leads start source sink status = TellsAll leads.tells source sink status
 
-abbrev pub Runs : Telling → List ℕ → Held → Port → Status → Type 0
-Runs start early source sink status = RunsAs (record { tells = transcript start source.bytes; early = early }) start source sink status
+abbrev pub ResultsIn : Telling → List ℕ → Held → Port → Status → Type 0
+ResultsIn start early source sink status = ResultsAs (record { tells = transcript start source.bytes; early = early }) start source sink status
 
 -- The status is that of the text, unless a port failed, too much was read or memory was refused.
 abbrev pub EndsAs : Status → Status → Type 0

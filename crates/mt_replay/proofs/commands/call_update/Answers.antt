@@ -8,7 +8,7 @@ use Rattle.mt_core.specs.declared.fault.CallFault.{CallFault}
 use Rattle.mt_core.specs.declared.fault.CallFault.TheVariants.{Refused}
 use Rattle.mt_replay.proofs.Calls.{call_accepted, call_fails}
 use Rattle.mt_core.proofs.Settling.{is_quiet_without_order}
-use Rattle.mt_replay.proofs.commands.begin.Goals as goal
+use Rattle.mt_replay.proofs.commands.call_update.Goals as goal
 
 pub returns-in-Ok-clause-fault : goal.returns-in-Ok-clause-fault
 returns-in-Ok-clause-fault c =
