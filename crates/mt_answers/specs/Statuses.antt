@@ -2,7 +2,7 @@
 --     MayEnd command status      the statuses of a command, or of words that are none
 use Rattle.std.specs.Prelude.{◌≡◌, true, Option, Some, ⊤}
 use Rattle.mt_ports.specs.declared.status.Status.{Status}
-use Rattle.mt_ports.specs.declared.status.Status.TheVariants.{Done, Refused, Usage, BadText, ReadFault, WriteFault, NoMemory, TooLong, TooFew, Disabled}
+use Rattle.mt_ports.specs.declared.status.Status.TheVariants.{Refused, BadText, ReadFault, TooLong, TooFew, Disabled}
 use Rattle.mt_answers.specs.declared.command.Command.{Command}
 use Rattle.mt_answers.specs.declared.command.Command.TheVariants.{Serial}
 use Rattle.mt_answers.specs.declared.command.SerialCommand.TheVariants.{Dump}

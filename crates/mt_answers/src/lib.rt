@@ -6,6 +6,7 @@ mod command;
 mod generator;
 mod help;
 mod lines;
+mod program;
 mod serial;
 mod texts;
 mod words;
@@ -15,6 +16,7 @@ pub use command::{Command, DumpCommand, SerialCommand, ThreadedCommand, TidyOpti
 pub use generator::{drawn, make_text, stepped};
 pub use help::{help_text, version_text};
 pub use lines::{disabled_line, lost_line, page_text, run_line, too_few_line, used_line};
+pub use program::{answer_words, serial_status, words_from};
 pub use serial::{run_serial, wrong_usage};
 pub use texts::{grained_text, tidied_text, types_text};
 pub use words::command_of;

@@ -1,6 +1,6 @@
 -- From what the calls say to what is proved of a run.
 use Rattle.std.proofs.Common.{◌≡◌, ◌≢◌, ◌⊎◌, ◌∙◌, ℕ, Bool, true, false, List, [], Option, None, Some, ap, inl, inr, refl, sym, subst, arith}
-use Rattle.std.specs.Prelude.{◌↔◌, if◌then◌else◌, IfErr, IfSome, Result, Ok, Err}
+use Rattle.std.specs.Prelude.{◌↔◌, if◌then◌else◌, IfErr, IfOk, IfSome, Result, Ok, Err}
 use Rattle.mt_ports.specs.Causes.{StatusHasCause}
 use Rattle.mt_ports.specs.declared.status.Status.{Status}
 use Rattle.mt_ports.specs.declared.status.Status.TheVariants.{Done, Usage, ReadFault, WriteFault, NoMemory, TooLong, TooFew, Disabled}
@@ -23,6 +23,7 @@ use Rattle.mt_answers.specs.Help.{help_text, own_text, version_text}
 use Rattle.mt_answers.specs.Lines.{usage_line}
 use Rattle.mt_cli.specs.Output.{Output, printed, usage}
 use Rattle.mt_cli.specs.Runs.{IsRun, IsToolRun}
+use Rattle.mt_answers.specs.Runs.{IsAnswered, IsSerialRun, IsUsage, answered, no_command}
 use Rattle.mt_answers.specs.Statuses.{MayEnd}
 use Rattle.mt_cli.specs.Tool.{Leaves, OutOfMemory, Reads, took}
 use Rattle.mt_answers.specs.Written.{AnswersInput, Makes}
@@ -71,18 +72,16 @@ usage_keeps : (result : Status) → (result ≡ Usage) ⊎ (result ≡ WriteFaul
 usage_keeps result (inl ends) = λ is. let e : Usage ≡ NoMemory = sym ends ∙ is in cc e
 usage_keeps result (inr ends) = λ is. let e : WriteFault ≡ NoMemory = sym ends ∙ is in cc e
 
-pub usage_ran : {S K : Type 0} (words : List (List ℕ)) (source : SourceRun S) (sink : SinkRun K) (result : Status)
-    → command_of words ≡ None → source.new ≡ source.old → Writes usage_line Usage (sink.taken sink.old) (sink.taken sink.new) result
-    → (result ≡ Usage) ⊎ (result ≡ WriteFault) → StatusHasCause WriteFault (sink.faults sink.old) (sink.faults sink.new) result
-    → IsToolRun words source sink result
-usage_ran words source sink result none same wrote ends cause = record {
+usage_ran : {S K : Type 0} (words : List (List ℕ)) (source : SourceRun S) (sink : SinkRun K) (result : Status)
+    → command_of words ≡ None → IsUsage source sink result → IsToolRun words source sink result
+usage_ran words source sink result none run = record {
   run =
-      unread_run words source sink result (ap reads_input none) same
-      (λ bytes before left is taken. written_leaves words bytes usage_line Usage result left before (sink.taken sink.old) (sink.taken sink.new) (usage none) (left_by words bytes left None none is) taken wrote)
-      (λ bytes left is. usage_reads words bytes left result is ends) (usage_ends words result ends) (λ is. none) cause;
-  no_command = λ is. ends;
-  no_memory = λ is. absurd (usage_keeps result ends is);
-  memory = λ bytes is no. absurd (usage_keeps result ends no);
+      unread_run words source sink result (ap reads_input none) run.unread
+      (λ bytes before left is taken. written_leaves words bytes usage_line Usage result left before (sink.taken sink.old) (sink.taken sink.new) (usage none) (left_by words bytes left None none is) taken run.bytes)
+      (λ bytes left is. usage_reads words bytes left result is run.ends) (usage_ends words result run.ends) (λ is. none) run.cause;
+  no_command = λ is. run.ends;
+  no_memory = λ is. absurd (usage_keeps result run.ends is);
+  memory = λ bytes is no. absurd (usage_keeps result run.ends no);
 }
 
 all_left : (command : Command) (bytes : List ℕ) (left : Option (List ℕ)) → reads_input (Some command) ≡ false → left ≡ Some bytes → left ≡ Some (left_of (Some command) bytes)
@@ -163,24 +162,21 @@ input_ran words command source sink result says answers never ends memory failed
     (subst (λ (o : Option Command). MayEnd o result) (sym says) ends) never memory (λ bytes is no. tt) failed cause long
 
 -- a serial command
-pub serial_ran : {S K : Type 0} (words : List (List ℕ)) (command : SerialCommand) (source : SourceRun S) (sink : SinkRun K) (result : Status)
-    → command_of words ≡ Some (Serial command)
-    → ((asked : DumpCommand) (bytes : List ℕ) → command ≡ Dump asked → source.left source.old ≡ Some bytes → AnswersInput asked (held bytes (source.left source.new)) (port sink.taken sink.old sink.new) result)
-    → IfSome (own_text command) (λ text. Makes text (sink.taken sink.old) (sink.taken sink.new) result)
-    → (reads_input (Some (Serial command)) ≡ false → source.new ≡ source.old)
-    → result ≢ Usage → MayEnd (Some (Serial command)) result → (result ≡ NoMemory → MayTakeMemory (Serial command))
-    → StatusHasCause ReadFault (source.faults source.old) (source.faults source.new) result
-    → StatusHasCause WriteFault (sink.faults sink.old) (sink.faults sink.new) result
-    → ((result ≡ TooLong) ↔ GaveTooMuch (source.given source.old) (source.given source.new))
-    → IsToolRun words source sink result
-serial_ran words (Dump asked) source sink result says answers makes unread never ends memory failed cause long =
-    input_ran words asked source sink result says (λ bytes. answers asked bytes refl) never ends memory failed cause long
-serial_ran words (Make n) source sink result says answers makes unread never ends memory failed cause long =
-    makes_ran words (make_text n) (Serial (Make n)) source sink result says refl memory (λ bytes. printed (Make n) (make_text n) says refl) (unread refl) makes cause
-serial_ran words Help source sink result says answers makes unread never ends memory failed cause long =
-    makes_ran words help_text (Serial Help) source sink result says refl memory (λ bytes. printed Help help_text says refl) (unread refl) makes cause
-serial_ran words Version source sink result says answers makes unread never ends memory failed cause long =
-    makes_ran words version_text (Serial Version) source sink result says refl memory (λ bytes. printed Version version_text says refl) (unread refl) makes cause
+serial_ran : {S K : Type 0} (words : List (List ℕ)) (command : SerialCommand) (source : SourceRun S) (sink : SinkRun K) (result : Status)
+    → command_of words ≡ Some (Serial command) → IsSerialRun command source sink result → IsToolRun words source sink result
+serial_ran words (Dump asked) source sink result says run =
+    input_ran words asked source sink result says (λ bytes. run.bytes asked bytes refl) run.usage run.statuses run.no_memory run.read_fault run.write_fault run.too_long
+serial_ran words (Make n) source sink result says run =
+    makes_ran words (make_text n) (Serial (Make n)) source sink result says refl run.no_memory (λ bytes. printed (Make n) (make_text n) says refl) (run.unread refl) run.text run.write_fault
+serial_ran words Help source sink result says run =
+    makes_ran words help_text (Serial Help) source sink result says refl run.no_memory (λ bytes. printed Help help_text says refl) (run.unread refl) run.text run.write_fault
+serial_ran words Version source sink result says run =
+    makes_ran words version_text (Serial Version) source sink result says refl run.no_memory (λ bytes. printed Version version_text says refl) (run.unread refl) run.text run.write_fault
+
+-- words that ask for no thread
+pub answered_ran : {S K : Type 0} (words : List (List ℕ)) (source : SourceRun S) (sink : SinkRun K) (result : Status) → IsAnswered words source sink result → IsToolRun words source sink result
+answered_ran words source sink result (answered command says run) = serial_ran words command source sink result says run
+answered_ran words source sink result (no_command none run) = usage_ran words source sink result none run
 
 -- a script
 pub replay_ran : {S K : Type 0} (words : List (List ℕ)) (source : SourceRun S) (sink : SinkRun K) (result : Status)
@@ -232,7 +228,11 @@ starved_run words source sink same_source same_sink = record {
   );
 }
 
--- what follows of an error
+-- what follows of a value, and of an error
+pub if_ok : {A E : Type 0} (P Q : A → Type 0) (r : Result A E) → ((a : A) → P a → Q a) → IfOk r P → IfOk r Q
+if_ok P Q (Ok a) follows holds = follows a holds
+if_ok P Q (Err e) follows holds = tt
+
 pub of_error : {A E : Type 0} (P Q : E → Type 0) (r : Result A E) → ((e : E) → P e → Q e) → IfErr r P → IfErr r Q
 of_error P Q (Ok a) follows holds = tt
 of_error P Q (Err e) follows holds = follows e holds

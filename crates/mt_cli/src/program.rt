@@ -8,31 +8,14 @@ ghost use Rattle.mt_output.specs.Ports.{sink_run, source_run};
 ghost use Rattle.mt_cli.specs.Runs.{IsRun};
 
 use crate::tool;
-use mt_output::{exit_code, words_behind_name};
-use mt_ports::{Gate, NoMemory, Sink, Source, Status};
-use std::alloc::Global;
+use mt_answers::words_from;
+use mt_output::exit_code;
+use mt_ports::{Gate, Sink, Source, Status};
 use std::env::Args;
 use std::io::{self, ErrorKind};
 use std::process::ExitCode;
 use std::sync::Wait;
 use std::thread::Threads;
-
-// The words of the command line. There are none where an argument is no text, which is wrong usage. Fails exactly where
-// the arguments find no memory, or the list of words none.
-fn words_from(alloc: Global, args: io::Result<Args>) -> Result<Vec<String>, NoMemory>
-    ensures words { IfOk result (λ words. map string_bytes words.items ≡ words_of args) }
-    ensures no_memory { IfErr args (λ error. error_kind error ≡ ErrorKind.OutOfMemory → IsErr result) }
-    ensures no_text { IfErr args (λ error. error_kind error ≢ ErrorKind.OutOfMemory → IsOkAnd result (λ words. words.items ≡ [])) }
-{
-    match args {
-        Ok(args) => match words_behind_name(alloc, args) {
-            Ok(words) => Ok(words),
-            Err(_) => Err(NoMemory),
-        },
-        Err(error) if error.kind() == ErrorKind::OutOfMemory => Err(NoMemory),
-        Err(_) => Ok(Vec::new(alloc)),
-    }
-}
 
 // Runs the tool. Arguments that find no memory end the program before the run.
 fn run<R: AllocGlobal + Threads + Wait + Sync, S: Source, K: Sink, G: Gate>(

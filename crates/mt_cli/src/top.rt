@@ -6,7 +6,7 @@ ghost use Rattle.mt_cli.specs.Runs.{IsToolRun};
 
 use crate::callers::Callers;
 use crate::sums::{big, private};
-use mt_answers::{Command, ThreadedCommand, command_of, run_serial, wrong_usage};
+use mt_answers::ThreadedCommand;
 use mt_ports::{Gate, Sink, Source, Status};
 use mt_proc::proc_with;
 use mt_replay::replay_with;
@@ -54,13 +54,7 @@ pub fn answer_words<S: Source, K: Sink>(
         MatchResult result (λ _. asked ≡ None) (λ command. asked ≡ Some command) }
     ensures untouched { OnErr result ((source.new ≡ source.old) × (sink.new ≡ sink.old)) }
 {
-    let Some(command) = command_of(words) else {
-        return Ok(wrong_usage(sink));
-    };
-    match command {
-        Command::Serial(command) => Ok(run_serial(alloc, command, source, sink)),
-        Command::Threaded(command) => Err(command),
-    }
+    mt_answers::answer_words(alloc, words, source, sink)
 }
 
 /// Does what `tool` does, for a caller with a runtime and a gate. None of its lines waits but those of an update and of jobs.

@@ -1,0 +1,4 @@
+use Rattle.mt_answers.proofs.program.serial_status.Goals as goal
+
+pub returns-clause-ends : goal.returns-clause-ends
+returns-clause-ends g c = (c.run.result, c.exit_code.ensures, c.run.ensures.ends)
