@@ -1,6 +1,6 @@
 -- The canonical text and what it says.
 use Rattle.std.proofs.Common.{◌≡◌, ◌∙◌, ◌+◌, ◌-◌, ◌*◌, ◌/◌, ◌%◌, ◌^◌, ◌<◌, ◌≤◌, ℕ, suc, zero, Bool, true, false, ◌==◌, ◌&&◌, nat_lt, nat_eq, List, [], ◌∷◌, ◌++◌, length, Some, None, Ok, Err, refl, sym, ap, arith, slice_index}
-use Rattle.std.specs.Prelude.{if◌then◌else◌}
+use Rattle.std.specs.Prelude.{codes, if◌then◌else◌}
 use Rattle.std.specs.List.{slice_get, list_all, AllByRecursion}
 use Rattle.std.specs.Option.{option_map, option_and_then}
 use Rattle.std.specs.Int.{to_be_bytes, w64}
@@ -19,7 +19,7 @@ use Rattle.mt_text.proofs.Plain.{is_plain, plain_content, two_words_from, digits
 use Rattle.mt_regs.specs.RegisterFile.{RegisterFile, blank_file, low_byte}
 use Rattle.mt_regs.specs.Registers.{number_of, value_of, writable}
 use Rattle.mt_dump.specs.Dumps.{Dump, IsDump, first_file}
-use Rattle.mt_dump.specs.Line.{said_of, said_words, said_pair, said_register, said_width, is_width_name, is_version_name, is_section_name, fault_at, place_of}
+use Rattle.mt_dump.specs.Line.{said_of, said_words, said_pair, said_register, said_width, is_word, fault_at, place_of}
 use Rattle.mt_text.specs.declared.place.Place.{Place}
 use Rattle.mt_dump.specs.declared.fault.DumpReason.TheVariants.{TooManyPairs}
 use Rattle.mt_dump.specs.declared.said.Said.TheVariants.{Section, Width, Register}
@@ -89,13 +89,13 @@ module _ (number : ℕ) (small : number < 0x1000) where
   no_colon : without_ending 58 (number_text number) ≡ number_text number
   no_colon = rw (digit_test (slice_index lower_digits (number % 16)) (rw low refl)).0 refl
 
-  no_width_name : is_width_name (number_text number) ≡ false
+  no_width_name : is_word (codes "maxphyaddr") (number_text number) ≡ false
   no_width_name = rw (digit_test (slice_index lower_digits (number / 256)) (rw high refl)).1 refl
 
-  no_version_name : is_version_name (number_text number) ≡ false
+  no_version_name : is_word (codes "version") (number_text number) ≡ false
   no_version_name = rw (digit_test (slice_index lower_digits (number / 256)) (rw high refl)).2 refl
 
-  no_section_name : is_section_name (number_text number) ≡ false
+  no_section_name : is_word (codes "cpu") (number_text number) ≡ false
   no_section_name = by (nat_eq (slice_index lower_digits (number / 256)) 99) (nat_eq (slice_index lower_digits (number / 16 % 16)) 112) (digit_test (slice_index lower_digits (number / 16 % 16)) (rw middle refl)).3
     where
       by : (first second : Bool) → second ≡ false → (first && (second && (nat_eq (slice_index lower_digits (number % 16)) 117 && true))) ≡ false
@@ -113,7 +113,7 @@ register_plain number value small =
 said_short : (line : ℕ) (text : List ℕ) → nat_lt 4096 (length text) ≡ false → said_of line text ≡ said_words line (words_of text)
 said_short line text short = rw short refl
 
-said_numbers : (first second : Place) (name text : List ℕ) (number value : ℕ) → is_width_name name ≡ false → is_version_name name ≡ false → is_section_name name ≡ false → hex_number name ≡ Ok number → hex_number text ≡ Ok value
+said_numbers : (first second : Place) (name text : List ℕ) (number value : ℕ) → is_word (codes "maxphyaddr") name ≡ false → is_word (codes "version") name ≡ false → is_word (codes "cpu") name ≡ false → hex_number name ≡ Ok number → hex_number text ≡ Ok value
     → said_pair first second name text ≡ said_register first second (Ok number) (Ok value)
 said_numbers first second name text number value no_width no_version no_section is_number is_value = rw (no_width, no_version, no_section, is_number, is_value) refl
 

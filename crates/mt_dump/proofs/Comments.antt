@@ -1,6 +1,6 @@
 -- A line that is a comment, before a text, changes nothing of what the text shows.
 use Rattle.std.proofs.Common.{◌≡◌, ◌∙◌, ◌+◌, ◌<◌, ◌≤◌, ℕ, Bool, true, false, not, ◌==◌, ◌&&◌, nat_lt, List, [], ◌∷◌, ◌++◌, length, map, Some, Result, Ok, Err, refl, sym, ap, subst, arith}
-use Rattle.std.specs.Prelude.{is_ok, if◌then◌else◌}
+use Rattle.std.specs.Prelude.{codes, is_ok, slice_index_or, if◌then◌else◌}
 use Rattle.std.specs.List.{AllByRecursion, list_all, onto_first}
 use Rattle.std.proofs.lemmas.Bool.{and_parts}
 use Rattle.std.proofs.lemmas.Bool.Decides.{nat_tests}
@@ -12,8 +12,8 @@ use Rattle.mt_text.specs.Number.{hex_number, decimal_number}
 use Rattle.mt_regs.specs.RegisterFile.{RegisterFile, low_byte}
 use Rattle.mt_regs.specs.Registers.{value_at}
 use Rattle.mt_dump.specs.Dumps.{Dump}
-use Rattle.mt_dump.specs.Line.{Reading, fault_at, is_width_name, is_version_name, is_section_name, place_of, said_of, said_pair, said_register, said_width, said_version, said_section, said_words}
-use Rattle.mt_dump.specs.Dump.{Shown, ShownBy, ShowsSection, ShowAll, ShowAllLater, given, said_by, said_from, times, width_of, widths, versions, version_in, section_numbers, behind_first, up_to_section, behind_sections, sections_in, sections_of}
+use Rattle.mt_dump.specs.Line.{Reading, fault_at, is_word, place_of, said_of, said_pair, said_register, said_width, said_version, said_section, said_words}
+use Rattle.mt_dump.specs.Dump.{Shown, ShownBy, ShowsSection, ShowAll, ShowAllLater, given, said_by, said_from, times, width_of, widths, versions, section_numbers, behind_first, up_to_section, behind_sections, sections_in, sections_of}
 use Rattle.mt_dump.specs.declared.fault.DumpReason.TheVariants.{BadLine, BadVersion, BadWidth, TooManyPairs}
 use Rattle.mt_dump.specs.declared.said.Said.TheVariants.{Nothing, Version, Section, Width, Register}
 
@@ -63,7 +63,7 @@ register_alike p q r s (Ok number) (Ok value) = by (number == 0xfe && nat_lt 32 
     by false = refl
 
 pair_alike : (p q r s : Place) (name value : List ℕ) → placeless (said_pair p q name value) ≡ placeless (said_pair r s name value)
-pair_alike p q r s name value = by (is_width_name name) (is_version_name name) (is_section_name name)
+pair_alike p q r s name value = by (is_word (codes "maxphyaddr") name) (is_word (codes "version") name) (is_word (codes "cpu") name)
   where
     by : (a b c : Bool) → placeless (if a then said_width p q (decimal_number value 52) else if b then said_version p q (decimal_number value 2) else if c then said_section p q (decimal_number value 15) else said_register p q (hex_number name) (hex_number value))
         ≡ placeless (if a then said_width r s (decimal_number value 52) else if b then said_version r s (decimal_number value 2) else if c then said_section r s (decimal_number value 15) else said_register r s (hex_number name) (hex_number value))
@@ -283,7 +283,7 @@ all_same (n ∷ new) (o ∷ old) (f ∷ files) gives has shown =
 shown_alike : (new old : List Reading) (dump : Dump) → Alike new old → ShownBy old dump → ShownBy new dump
 shown_alike new old dump same s = record {
   good = same.good ∙ s.good;
-  version = s.version ∙ ap version_in (sym same.told);
+  version = s.version ∙ ap (λ (versions : List ℕ). slice_index_or versions 0 1) (sym same.told);
   told_first = same.behind ∙ s.told_first;
   numbers = same.numbers ∙ s.numbers;
   inside = λ two. (same.given_inside ∙ (s.inside two).0, same.widths_inside ∙ (s.inside two).1);

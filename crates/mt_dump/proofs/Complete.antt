@@ -11,7 +11,7 @@ use Rattle.mt_regs.specs.declared.registers.Register as register
 use Rattle.mt_text.specs.declared.place.Place.{Place}
 use Rattle.mt_dump.specs.Line.{Reading, fault_at}
 use Rattle.mt_dump.specs.Dumps.{Dump}
-use Rattle.mt_dump.specs.Dump.{given, widths, versions, section_numbers, section_count, times, is_given, value_given, is_writable, is_spoken, version_of, is_later, is_outside, present, first_section, first_width, up_to_section, behind_first, behind_sections, sections_of, ShowsSection, ShowsFirst, ShowsLater, ShowAll, ShowAllLater, ShownBy, count_from, offence_said, offence_of}
+use Rattle.mt_dump.specs.Dump.{given, widths, versions, section_numbers, section_count, times, is_given, value_given, is_writable, is_spoken, version_of, is_later, is_outside, first_section, first_width, up_to_section, behind_first, behind_sections, sections_of, ShowsSection, ShowsFirst, ShowsLater, ShowAll, ShowAllLater, ShownBy, count_from, offence_of}
 use Rattle.mt_dump.specs.Reader.{IsSane, IsClean, dump_in, file_in, files_in, onto, read_from}
 use Rattle.mt_dump.specs.declared.said.Said.TheVariants.{Nothing, Version, Section, Width, Register}
 use Rattle.mt_dump.proofs.Readings.{times-onto, length-onto, given-onto, widths-onto, versions-onto, numbers-onto, good_rest, all_rest, all_before, value_given-stands}
@@ -95,15 +95,15 @@ module _ (before rest : List Reading) (line : Reading) (dump : Dump) (clean : Is
 
   -- the section in which the line stands
   placed : section_numbers (line ∷ rest) ≡ section_numbers rest → up_to_section (line ∷ rest) ≡ line ∷ up_to_section rest → behind_sections (line ∷ rest) ≡ behind_sections rest → (section_numbers before ≢ []) ⊎ (dump.version ≢ 2)
-      → ShowAll (done_in before ++ onto (present before) (line ∷ up_to_section rest) ∷ behind_sections rest) dump.files
+      → ShowAll (done_in before ++ onto (up_to_section before) (line ∷ up_to_section rest) ∷ behind_sections rest) dump.files
   placed same up behind (inl some) = subst (λ sections. ShowAll sections dump.files) (sections_split before (line ∷ rest) some ∙ rw (up, behind) refl) shown.sections
   placed same up behind (inr other) =
       let none = numbers_behind same other in
       let here : up_to_section (onto before (line ∷ rest)) ≡ onto before (line ∷ up_to_section rest) = up_to-onto before (line ∷ rest) none.0 ∙ ap (onto before) up in
-      let all : onto before (line ∷ rest) ≡ onto (present before) (line ∷ up_to_section rest) = rw (up_to_all before none.0, up_to_all rest none.1) refl in
+      let all : onto before (line ∷ rest) ≡ onto (up_to_section before) (line ∷ up_to_section rest) = rw (up_to_all before none.0, up_to_all rest none.1) refl in
       let alone : behind_sections (onto before (line ∷ rest)) ≡ [] = no_more (onto before (line ∷ rest)) (numbers-onto before (line ∷ rest) ∙ rw (same, none.0, none.1) refl) in
       let more : behind_sections rest ≡ [] = no_more rest none.1 in
-      let is : sections_of (onto before (line ∷ rest)) ≡ done_in before ++ onto (present before) (line ∷ up_to_section rest) ∷ behind_sections rest = rw (alone, no_sections_done before none.0, more) (ap (λ says. says ∷ []) all) in
+      let is : sections_of (onto before (line ∷ rest)) ≡ done_in before ++ onto (up_to_section before) (line ∷ up_to_section rest) ∷ behind_sections rest = rw (alone, no_sections_done before none.0, more) (ap (λ says. says ∷ []) all) in
       subst (λ sections. ShowAll sections dump.files) is shown.sections
     where
       no_more : (says : List Reading) → section_numbers says ≡ [] → behind_sections says ≡ []
@@ -172,7 +172,7 @@ same_test n m is = grind (arith, nat_tests, is)
 
 -- ---- no line has an offence
 
-no_offence_section : (before rest : List Reading) (number : ℕ) (place : Place) (dump : Dump) → IsClean before → ShownBy (onto before (Ok (Section number place) ∷ rest)) dump → offence_said before (Section number place) ≡ None
+no_offence_section : (before rest : List Reading) (number : ℕ) (place : Place) (dump : Dump) → IsClean before → ShownBy (onto before (Ok (Section number place) ∷ rest)) dump → offence_of before (Ok (Section number place)) ≡ None
 no_offence_section before rest number place dump clean shown =
     section_none (version_of before == 2) (number == section_count before) (nat_lt 0 number) (is_given 0xfe (first_section before)) _ _
     (same_test (version_of before) 2 (sym (told_before before rest (Ok (Section number place)) dump clean shown refl refl) ∙ is_two)) (same_test number (section_count before) is_number)
@@ -194,9 +194,9 @@ no_offence_section before rest number place dump clean shown =
     first_of_none none early some =
         let split = subst (λ sections. ShowAll sections dump.files) (sections_split before (Ok (Section number place) ∷ rest) some) shown.sections in
         let done = ((clean_closed before clean).early early).0 in
-        let first = some_first (onto (present before) []) (up_to_section rest ∷ behind_sections rest) dump.files (rw done at split) in
-        let nothing : given (onto (present before) []) ≡ [] = given-onto (present before) [] ∙ ap (λ gs. onto gs []) ((early_present before clean early).0 ∙ none) in
-        let more = first_gives (onto (present before) []) first.0 first.1 in
+        let first = some_first (onto (up_to_section before) []) (up_to_section rest ∷ behind_sections rest) dump.files (rw done at split) in
+        let nothing : given (onto (up_to_section before) []) ≡ [] = given-onto (up_to_section before) [] ∙ ap (λ gs. onto gs []) ((early_present before clean early).0 ∙ none) in
+        let more = first_gives (onto (up_to_section before) []) first.0 first.1 in
         absurd (let e = rw nothing at more in omega (arith, e))
 
     -- 0FEH was given where this isn't the first section
@@ -205,28 +205,28 @@ no_offence_section before rest number place dump clean shown =
     last [] is None leads = inl (let zero : number ≡ 0 = is_number ∙ ap length is in rw zero refl)
     last (n ∷ ns) is None leads = absurd (first_of_none leads.0 leads.1 (λ none. let e : n ∷ ns ≡ [] = sym is ∙ none in cc e))
 
-no_offence_version : (before rest : List Reading) (version : ℕ) (place : Place) (dump : Dump) → IsClean before → ShownBy (onto before (Ok (Version version place) ∷ rest)) dump → offence_said before (Version version place) ≡ None
+no_offence_version : (before rest : List Reading) (version : ℕ) (place : Place) (dump : Dump) → IsClean before → ShownBy (onto before (Ok (Version version place) ∷ rest)) dump → offence_of before (Ok (Version version place)) ≡ None
 no_offence_version before rest version place dump clean shown = elim (cases_Bool (is_spoken before)) [
   | inl some ↦ let e : version ∷ versions rest ≡ [] = sym (behind_spoken before (Ok (Version version place) ∷ rest) clean some) ∙ shown.told_first in cc e
   | inr none ↦ rw none refl
 ]
 
-no_offence_width : (before rest : List Reading) (width : ℕ) (first second : Place) (dump : Dump) → IsClean before → ShownBy (onto before (Ok (Width width first second) ∷ rest)) dump → offence_said before (Width width first second) ≡ None
+no_offence_width : (before rest : List Reading) (width : ℕ) (first second : Place) (dump : Dump) → IsClean before → ShownBy (onto before (Ok (Width width first second) ∷ rest)) dump → offence_of before (Ok (Width width first second)) ≡ None
 no_offence_width before rest width first second dump clean shown = by (inside_test before rest (Ok (Width width first second)) dump clean shown told)
   where
     told : dump.version ≡ version_of before
     told = told_before before rest (Ok (Width width first second)) dump clean shown refl refl
 
-    section_widths : widths (onto (present before) (Ok (Width width first second) ∷ up_to_section rest)) ≡ onto (widths (present before)) (width ∷ widths (up_to_section rest))
-    section_widths = widths-onto (present before) (Ok (Width width first second) ∷ up_to_section rest)
+    section_widths : widths (onto (up_to_section before) (Ok (Width width first second) ∷ up_to_section rest)) ≡ onto (widths (up_to_section before)) (width ∷ widths (up_to_section rest))
+    section_widths = widths-onto (up_to_section before) (Ok (Width width first second) ∷ up_to_section rest)
 
-    once : length (widths (onto (present before) (Ok (Width width first second) ∷ up_to_section rest))) ≤ 1 → nat_lt 0 (length (widths (present before))) ≡ false
+    once : length (widths (onto (up_to_section before) (Ok (Width width first second) ∷ up_to_section rest))) ≤ 1 → nat_lt 0 (length (widths (up_to_section before))) ≡ false
     once few =
-        let e = rw (section_widths, length-onto (widths (present before)) (width ∷ widths (up_to_section rest))) at few in
-        let none : length (widths (present before)) ≡ 0 = omega (arith, e) in
+        let e = rw (section_widths, length-onto (widths (up_to_section before)) (width ∷ widths (up_to_section rest))) at few in
+        let none : length (widths (up_to_section before)) ≡ 0 = omega (arith, e) in
         rw none refl
 
-    by : ((section_numbers before ≢ []) ⊎ (dump.version ≢ 2)) ⊎ ((dump.version ≡ 2) × (section_numbers before ≡ []) × (is_outside before ≡ true)) → offence_said before (Width width first second) ≡ None
+    by : ((section_numbers before ≢ []) ⊎ (dump.version ≢ 2)) ⊎ ((dump.version ≡ 2) × (section_numbers before ≡ []) × (is_outside before ≡ true)) → offence_of before (Ok (Width width first second)) ≡ None
     by (inr (two, none, outside)) =
         let up : up_to_section (onto before (Ok (Width width first second) ∷ rest)) ≡ onto before (Ok (Width width first second) ∷ up_to_section rest) = up_to-onto before (Ok (Width width first second) ∷ rest) none in
         let e : onto (widths before) (width ∷ widths (up_to_section rest)) ≡ [] = sym (ap widths up ∙ widths-onto before (Ok (Width width first second) ∷ up_to_section rest)) ∙ (shown.inside two).1 in
@@ -236,15 +236,15 @@ no_offence_width before rest width first second dump clean shown = by (inside_te
         let outside = not_outside before rest (Ok (Width width first second)) dump clean shown told inside in
         elim (cases_Bool (is_later before)) [
           | inl late ↦
-              let found = behind_shown (done_in before) (files_in before) (first_width before) (value_given 0xfe (given (first_section before))) (onto (present before) (Ok (Width width first second) ∷ up_to_section rest)) (behind_sections rest) dump.files
+              let found = behind_shown (done_in before) (files_in before) (first_width before) (value_given 0xfe (given (first_section before))) (onto (up_to_section before) (Ok (Width width first second) ∷ up_to_section rest)) (behind_sections rest) dump.files
               ((clean_closed before clean).late late) all in
               let equal = rw section_widths at found.2.same_widths in
-              let same : width ≡ first_width before = (all_rest (λ w. w ≡ found.0.width) (widths (present before)) (width ∷ widths (up_to_section rest)) equal).0 ∙ found.3 in
-              width_none (is_outside before) (is_later before) (width == first_width before) (nat_lt 0 (length (widths (present before)))) _ _ _ outside (inr (same_test width (first_width before) same)) (once found.2.section.one_width)
+              let same : width ≡ first_width before = (all_rest (λ w. w ≡ found.0.width) (widths (up_to_section before)) (width ∷ widths (up_to_section rest)) equal).0 ∙ found.3 in
+              width_none (is_outside before) (is_later before) (width == first_width before) (nat_lt 0 (length (widths (up_to_section before)))) _ _ _ outside (inr (same_test width (first_width before) same)) (once found.2.section.one_width)
           | inr early ↦
               let done = ((clean_closed before clean).early early).0 in
-              let found = some_first (onto (present before) (Ok (Width width first second) ∷ up_to_section rest)) (behind_sections rest) dump.files (rw done at all) in
-              width_none (is_outside before) (is_later before) (width == first_width before) (nat_lt 0 (length (widths (present before)))) _ _ _ outside (inl early) (once found.1.section.one_width)
+              let found = some_first (onto (up_to_section before) (Ok (Width width first second) ∷ up_to_section rest)) (behind_sections rest) dump.files (rw done at all) in
+              width_none (is_outside before) (is_later before) (width == first_width before) (nat_lt 0 (length (widths (up_to_section before)))) _ _ _ outside (inl early) (once found.1.section.one_width)
         ]
 
 some_register : (file : RegisterFile) (number value : ℕ) → (number == 0xfe) ≡ false → value_at file number ≡ Some value → is_some (register_of file number) ≡ true
@@ -256,22 +256,22 @@ some_register file number value test is = by (register_of file number) refl (rw 
 
 -- a register in the section that shows a file
 module _ (before rest : List Reading) (number value : ℕ) (first second : Place) (clean : IsClean before) (file : RegisterFile)
-    (shows : ShowsSection (onto (present before) (Ok (Register number value first second) ∷ up_to_section rest)) file) where
-  here_given : given (onto (present before) (Ok (Register number value first second) ∷ up_to_section rest)) ≡ onto (given (present before)) ((number, value) ∷ given (up_to_section rest))
-  here_given = given-onto (present before) (Ok (Register number value first second) ∷ up_to_section rest)
+    (shows : ShowsSection (onto (up_to_section before) (Ok (Register number value first second) ∷ up_to_section rest)) file) where
+  here_given : given (onto (up_to_section before) (Ok (Register number value first second) ∷ up_to_section rest)) ≡ onto (given (up_to_section before)) ((number, value) ∷ given (up_to_section rest))
+  here_given = given-onto (up_to_section before) (Ok (Register number value first second) ∷ up_to_section rest)
 
-  fresh : is_given number (present before) ≡ false
+  fresh : is_given number (up_to_section before) ≡ false
   fresh =
       let here : (number == number) ≡ true = same_test number number refl in
-      let one = rw (here_given, times-onto number (given (present before)) ((number, value) ∷ given (up_to_section rest)), here) at (shows.once number) in
-      let none : times number (given (present before)) ≡ 0 = omega (arith, one) in
+      let one = rw (here_given, times-onto number (given (up_to_section before)) ((number, value) ∷ given (up_to_section rest)), here) at (shows.once number) in
+      let none : times number (given (up_to_section before)) ≡ 0 = omega (arith, one) in
       rw none refl
 
-  all_values : AllByRecursion (λ register. value_at file register.0 ≡ Some register.1) (onto (given (present before)) ((number, value) ∷ given (up_to_section rest)))
+  all_values : AllByRecursion (λ register. value_at file register.0 ≡ Some register.1) (onto (given (up_to_section before)) ((number, value) ∷ given (up_to_section rest)))
   all_values = rw here_given at shows.values
 
   here_value : value_at file number ≡ Some value
-  here_value = (all_rest (λ register. value_at file register.0 ≡ Some register.1) (given (present before)) ((number, value) ∷ given (up_to_section rest)) all_values).0
+  here_value = (all_rest (λ register. value_at file register.0 ≡ Some register.1) (given (up_to_section before)) ((number, value) ∷ given (up_to_section rest)) all_values).0
 
   writable_here : file.capabilities ≡ value_given 0xfe (given (first_section before)) → (number == 0xfe) ≡ false → is_writable number (first_section before) ≡ true
   writable_here known other = rw (← known) (some_register file number value other here_value)
@@ -282,8 +282,8 @@ module _ (before rest : List Reading) (number value : ℕ) (first second : Place
   -- in the first section
   first_known : is_later before ≡ false → is_given 0xfe (first_section before) ≡ true → file.capabilities ≡ value_given 0xfe (given (first_section before))
   first_known early told =
-      let same : given (present before) ≡ given (first_section before) = (early_present before clean early).0 ∙ ap given (sym (first_early before early)) in
-      let values = all_before (λ register. value_at file register.0 ≡ Some register.1) (given (present before)) ((number, value) ∷ given (up_to_section rest)) all_values in
+      let same : given (up_to_section before) ≡ given (first_section before) = (early_present before clean early).0 ∙ ap given (sym (first_early before early)) in
+      let values = all_before (λ register. value_at file register.0 ≡ Some register.1) (given (up_to_section before)) ((number, value) ∷ given (up_to_section rest)) all_values in
       let some : 0 < times 0xfe (given (first_section before)) = more (times 0xfe (given (first_section before))) told in
       let e = value_given-stands 0xfe (given (first_section before)) file some (rw (← same) values) in
       cc e
@@ -295,43 +295,43 @@ abbrev first_number : List (ℕ × ℕ) → ℕ
 first_number [] = 0
 first_number (register ∷ registers) = register.0
 
-no_offence_register : (before rest : List Reading) (number value : ℕ) (first second : Place) (dump : Dump) → IsClean before → ShownBy (onto before (Ok (Register number value first second) ∷ rest)) dump → offence_said before (Register number value first second) ≡ None
+no_offence_register : (before rest : List Reading) (number value : ℕ) (first second : Place) (dump : Dump) → IsClean before → ShownBy (onto before (Ok (Register number value first second) ∷ rest)) dump → offence_of before (Ok (Register number value first second)) ≡ None
 no_offence_register before rest number value first second dump clean shown = by (inside_test before rest (Ok (Register number value first second)) dump clean shown told)
   where
     told : dump.version ≡ version_of before
     told = told_before before rest (Ok (Register number value first second)) dump clean shown refl refl
 
     none_of : is_outside before ≡ false → ((number == 0xfe) ≡ true → is_later before ≡ true → value ≡ value_given 0xfe (given (first_section before)))
-        → ((number == 0xfe) ≡ false → (is_given 0xfe (first_section before) ≡ true) × (is_writable number (first_section before) ≡ true)) → is_given number (present before) ≡ false → offence_said before (Register number value first second) ≡ None
+        → ((number == 0xfe) ≡ false → (is_given 0xfe (first_section before) ≡ true) × (is_writable number (first_section before) ≡ true)) → is_given number (up_to_section before) ≡ false → offence_of before (Ok (Register number value first second)) ≡ None
     none_of outside same other fresh =
-        register_none (is_outside before) (is_later before) (number == 0xfe) (value == value_given 0xfe (given (first_section before))) (is_given 0xfe (first_section before)) (is_writable number (first_section before)) (is_given number (present before))
+        register_none (is_outside before) (is_later before) (number == 0xfe) (value == value_given 0xfe (given (first_section before))) (is_given 0xfe (first_section before)) (is_writable number (first_section before)) (is_given number (up_to_section before))
         _ _ _ _ _ outside (λ cap late. same_test value (value_given 0xfe (given (first_section before))) (same cap late)) (which (cases_Bool (number == 0xfe))) fresh
       where
         which : (((number == 0xfe) ≡ true) ⊎ ((number == 0xfe) ≡ false)) → ((number == 0xfe) ≡ true) ⊎ ((is_given 0xfe (first_section before) ≡ true) × (is_writable number (first_section before) ≡ true))
         which (inl hit) = inl hit
         which (inr miss) = inr (other miss)
 
-    in_first : is_outside before ≡ false → is_later before ≡ false → (file : RegisterFile) → ShowsFirst (onto (present before) (Ok (Register number value first second) ∷ up_to_section rest)) file → (found : Option RegisterFile) → Leads before found
-        → offence_said before (Register number value first second) ≡ None
+    in_first : is_outside before ≡ false → is_later before ≡ false → (file : RegisterFile) → ShowsFirst (onto (up_to_section before) (Ok (Register number value first second) ∷ up_to_section rest)) file → (found : Option RegisterFile) → Leads before found
+        → offence_of before (Ok (Register number value first second)) ≡ None
     in_first outside early file shows (Some f) now =
         none_of outside (λ cap late. let e : true ≡ false = sym late ∙ early in cc e)
         (λ other. (now.told, writable_here before rest number value first second clean file shows.section (first_known before rest number value first second clean file shows.section early now.told) other))
         (fresh before rest number value first second clean file shows.section)
     in_first outside early file shows None leads =
-        let none : given (present before) ≡ [] = (early_present before clean early).0 ∙ leads.0 in
+        let none : given (up_to_section before) ≡ [] = (early_present before clean early).0 ∙ leads.0 in
         let is : (number, value) ∷ given (up_to_section rest) ≡ (0xfe, file.capabilities) ∷ shows.capabilities.0 =
         ap (λ gs. onto gs ((number, value) ∷ given (up_to_section rest))) (sym none) ∙ sym (here_given before rest number value first second clean file shows.section) ∙ shows.capabilities.1 in
         let cap : number ≡ 0xfe = ap first_number is in
         none_of outside (λ hit late. let e : true ≡ false = sym late ∙ early in cc e) (λ other. absurd (eqb-false _ _ other cap)) (fresh before rest number value first second clean file shows.section)
 
-    in_later : is_outside before ≡ false → is_later before ≡ true → (base file : RegisterFile) → ShowsLater base (onto (present before) (Ok (Register number value first second) ∷ up_to_section rest)) file
-        → base.capabilities ≡ value_given 0xfe (given (first_section before)) → (found : Option RegisterFile) → Leads before found → offence_said before (Register number value first second) ≡ None
+    in_later : is_outside before ≡ false → is_later before ≡ true → (base file : RegisterFile) → ShowsLater base (onto (up_to_section before) (Ok (Register number value first second) ∷ up_to_section rest)) file
+        → base.capabilities ≡ value_given 0xfe (given (first_section before)) → (found : Option RegisterFile) → Leads before found → offence_of before (Ok (Register number value first second)) ≡ None
     in_later outside late base file shows known None leads = let e : true ≡ false = sym late ∙ leads.1 in cc e
     in_later outside late base file shows known (Some f) now =
         none_of outside (λ cap again. sym (same_value before rest number value first second clean file shows.section (eqb-true _ _ cap)) ∙ shows.capabilities ∙ known)
         (λ other. (now.told, writable_here before rest number value first second clean file shows.section (shows.capabilities ∙ known) other)) (fresh before rest number value first second clean file shows.section)
 
-    by : ((section_numbers before ≢ []) ⊎ (dump.version ≢ 2)) ⊎ ((dump.version ≡ 2) × (section_numbers before ≡ []) × (is_outside before ≡ true)) → offence_said before (Register number value first second) ≡ None
+    by : ((section_numbers before ≢ []) ⊎ (dump.version ≢ 2)) ⊎ ((dump.version ≡ 2) × (section_numbers before ≡ []) × (is_outside before ≡ true)) → offence_of before (Ok (Register number value first second)) ≡ None
     by (inr (two, none, outside)) =
         let up : up_to_section (onto before (Ok (Register number value first second) ∷ rest)) ≡ onto before (Ok (Register number value first second) ∷ up_to_section rest) = up_to-onto before (Ok (Register number value first second) ∷ rest) none in
         let e : onto (given before) ((number, value) ∷ given (up_to_section rest)) ≡ [] = sym (ap given up ∙ given-onto before (Ok (Register number value first second) ∷ up_to_section rest)) ∙ (shown.inside two).0 in
@@ -341,12 +341,12 @@ no_offence_register before rest number value first second dump clean shown = by 
         let outside = not_outside before rest (Ok (Register number value first second)) dump clean shown told inside in
         elim (cases_Bool (is_later before)) [
           | inl late ↦
-              let found = behind_shown (done_in before) (files_in before) (first_width before) (value_given 0xfe (given (first_section before))) (onto (present before) (Ok (Register number value first second) ∷ up_to_section rest)) (behind_sections rest) dump.files
+              let found = behind_shown (done_in before) (files_in before) (first_width before) (value_given 0xfe (given (first_section before))) (onto (up_to_section before) (Ok (Register number value first second) ∷ up_to_section rest)) (behind_sections rest) dump.files
               ((clean_closed before clean).late late) all in
               in_later outside late found.0 found.1 found.2 found.4 (file_in before) (clean_stands before clean)
           | inr early ↦
               let done = ((clean_closed before clean).early early).0 in
-              let found = some_first (onto (present before) (Ok (Register number value first second) ∷ up_to_section rest)) (behind_sections rest) dump.files (rw done at all) in
+              let found = some_first (onto (up_to_section before) (Ok (Register number value first second) ∷ up_to_section rest)) (behind_sections rest) dump.files (rw done at all) in
               in_first outside early found.0 found.1 (file_in before) (clean_stands before clean)
         ]
 

@@ -1,6 +1,6 @@
 -- Where the reading of a text ends.
 use Rattle.std.proofs.Common.{◌≡◌, ◌+◌, ℕ, true, false, List, [], ◌∷◌, Option, Some, None, Result, refl, sym, ◌∙◌, ap, subst, inl, inr}
-use Rattle.std.specs.Prelude.{Ok, Err, is_some, ok_or, ◌⊎◌, MatchResult, ◌↔◌}
+use Rattle.std.specs.Prelude.{Ok, Err, is_some, ok_or, slice_index_or, ◌⊎◌, MatchResult, ◌↔◌}
 use Rattle.std.specs.List.{AllByRecursion}
 use Rattle.std.specs.Option.{option_map_or}
 use Rattle.std.specs.Result.{result_err}
@@ -8,7 +8,7 @@ use Rattle.mt_text.specs.Text.{lines_of, end_of}
 use Rattle.mt_text.specs.declared.place.Place.{Place}
 use Rattle.mt_dump.specs.Dumps.{Dump, IsDump}
 use Rattle.mt_dump.specs.Line.{Reading, fault_at}
-use Rattle.mt_dump.specs.Dump.{said_from, said_by, versions, version_in, behind_first, tells_version, Shown, ShownBy, offence_of}
+use Rattle.mt_dump.specs.Dump.{said_from, said_by, versions, behind_first, tells_version, Shown, ShownBy, offence_of}
 use Rattle.mt_dump.specs.Reader.{IsSane, IsClean, dump_in, dump_offence, onto, read_from, read_text}
 use Rattle.mt_dump.specs.declared.fault.DumpFault.{DumpFault}
 use Rattle.mt_dump.specs.declared.fault.DumpReason.TheVariants.{NoCap}
@@ -62,7 +62,7 @@ usual (Ok (Register number value one two) ∷ says) none first = first
 usual (Err fault ∷ says) none first = first
 
 pub usual_version : (text : List ℕ) (dump : Dump) → Shown text dump → tells_version (said_by text) ≡ false → dump.version ≡ 1
-usual_version text dump shown none = shown.version ∙ ap version_in (usual (said_by text) none shown.told_first)
+usual_version text dump shown none = shown.version ∙ ap (λ (versions : List ℕ). slice_index_or versions 0 1) (usual (said_by text) none shown.told_first)
 
 pub led_to : (end : Place) (before : List Reading) (dump : Dump) → read_from end before [] ≡ Ok dump → dump_in before ≡ Some dump
 led_to end before dump = by (dump_in before)

@@ -1,6 +1,6 @@
 -- What a reader keeps when it takes one more line.
 use Rattle.std.proofs.Common.{◌≡◌, ◌≢◌, ◌≤◌, ◌<◌, ◌+◌, ◌-◌, ℕ, Bool, true, false, not, ◌==◌, ◌&&◌, nat_lt, List, [], ◌∷◌, ◌++◌, length, replicate, Option, Some, None, refl, sym, ◌∙◌, ap, arith, slice_set, inl, inr}
-use Rattle.std.specs.Prelude.{Ok, Err, is_some, ok_or, ◌⊎◌, if◌then◌else◌}
+use Rattle.std.specs.Prelude.{Ok, Err, is_some, map, ok_or, option_to_list, ◌⊎◌, if◌then◌else◌}
 use Rattle.std.specs.List.{slice_index_or}
 use Rattle.std.specs.Option.{option_map}
 use Rattle.std.proofs.lemmas.Bool.{cases_Bool, eqb-true, eqb-false}
@@ -15,12 +15,12 @@ use Rattle.mt_regs.specs.declared.registers.Register as register
 use Rattle.mt_regs.proofs.ByNumber.{register_of-range}
 use Rattle.mt_dump.specs.Line.{Reading, fault_at}
 use Rattle.mt_dump.specs.Dumps.{IsDump}
-use Rattle.mt_dump.specs.Dump.{given, widths, section_numbers, section_count, times, is_given, value_given, is_writable, width_of, version_of, is_later, is_outside, present, first_section, first_width, offence_said}
-use Rattle.mt_dump.specs.Reader.{HasRead, State, file_in, files_in, file_with, dump_in, dump_with, after_section, with_width, read_from}
+use Rattle.mt_dump.specs.Dump.{given, widths, section_numbers, section_count, times, is_given, value_given, is_writable, width_of, version_of, is_later, is_outside, up_to_section, first_section, first_width, offence_of}
+use Rattle.mt_dump.specs.Reader.{HasRead, State, file_in, files_in, dump_in, with_width, read_from}
 use Rattle.mt_dump.proofs.Readings.{value_given-stands}
 use Rattle.mt_dump.proofs.Sections.{first_early, first_late, early_present, same_widths, section_counts}
 use Rattle.mt_dump.proofs.Present.{StandsNow, Leads, clean_stands, clean_widths, positive}
-use Rattle.mt_dump.proofs.Stands.{some_section, clean_is_dump}
+use Rattle.mt_dump.proofs.Stands.{some_section, clean_is_dump, dump_from}
 use Rattle.mt_dump.proofs.Complete.{section_none}
 use Rattle.mt_dump.specs.declared.fault.DumpReason.TheVariants.{UnknownRegister, Repeated, NoCap, Differs}
 use Rattle.mt_dump.specs.declared.said.Said.TheVariants.{Nothing, Version, Section, Width, Register}
@@ -97,8 +97,8 @@ holds_first_section state before number place holds two same zero =
       version_is = holds.version_is;
       spoken_is = refl;
       sections_is = let e = holds.sections_is in omega (arith, e);
-      files_is = holds.files_is ∙ sym (ap (λ f. files_in before ++ file_with (first_width before) f) no_file ∙ append-nil (files_in before));
-      file_is = holds.file_is ∙ no_file ∙ sym (ap after_section no_file);
+      files_is = holds.files_is ∙ sym (ap (λ f. files_in before ++ map (λ file. with_width file (first_width before)) (option_to_list f)) no_file ∙ append-nil (files_in before));
+      file_is = holds.file_is ∙ no_file ∙ sym (ap (option_map (λ (f : RegisterFile). blank_file 36 f.capabilities)) no_file);
       width_is = holds.width_is ∙ ap width_of (sym (same_widths (Ok (Section number place)) before refl (section_counts before number place)));
       has_width_is = refl;
       has_capabilities_is = refl;
@@ -137,11 +137,11 @@ holds_next_section state before number place file ended next files holds two sam
       marked = λ n from below. get_or-replicate 256 (n - 0x200) false false (omega arith);
     }
   where
-    clean : version_of before ≡ 2 → number ≡ section_count before → is_given 0xfe (first_section before) ≡ true → (late : Bool) → offence_said before (Section number place) ≡ None
+    clean : version_of before ≡ 2 → number ≡ section_count before → is_given 0xfe (first_section before) ≡ true → (late : Bool) → offence_of before (Ok (Section number place)) ≡ None
     clean version equal told late = section_none (version_of before == 2) (number == section_count before) (nat_lt 0 number) (is_given 0xfe (first_section before)) _ _ (equal_test _ _ version) (equal_test _ _ equal) (inr told)
 
 pub section_too_early : (state : State) (before : List Reading) (number : ℕ) (place : Place) → HasRead state before → state.version ≡ 2 → number ≡ state.sections → 0 < number → state.file ≡ None
-    → offence_said before (Section number place) ≡ Some (fault_at NoCap place)
+    → offence_of before (Ok (Section number place)) ≡ Some (fault_at NoCap place)
 section_too_early state before number place holds two same some is =
     let leads = rw (sym holds.file_is ∙ is) at (clean_stands before holds.clean) in
     let none : is_given 0xfe (first_section before) ≡ false = rw (first_early before leads.1, leads.0) refl in
@@ -153,7 +153,7 @@ section_too_early state before number place holds two same some is =
 pub few_files : (state : State) (before : List Reading) (file : RegisterFile) → HasRead state before → state.file ≡ Some file → length state.files ≤ 15
 few_files state before file holds is =
     let led : file_in before ≡ Some file = sym holds.file_is ∙ is in
-    let dump = (clean_is_dump before (record { version = version_of before; files = files_in before ++ with_width file (first_width before) ∷ [] }) holds.clean (ap (dump_with (version_of before) (files_in before) (first_width before)) led)).few in
+    let dump = (clean_is_dump before (record { version = version_of before; files = files_in before ++ with_width file (first_width before) ∷ [] }) holds.clean (ap (dump_from before) led)).few in
     rw holds.files_is (let e = rw (length-append (files_in before) (with_width file (first_width before) ∷ [])) at dump in omega (arith, e))
 
 -- ---- the width
@@ -163,7 +163,7 @@ pub holds_width : (state : State) (before : List Reading) (width : ℕ) (first s
 holds_width state before width first second holds inside same none wide narrow =
     let passed : (is_later before && not (width == first_width before)) ≡ false = rw (holds.sections_is, holds.width_is) at same in
     let fresh = sym holds.has_width_is ∙ none in
-    let one : nat_lt 0 (length (width ∷ widths (present before))) ≡ true = positive (length (width ∷ widths (present before))) (omega arith) in
+    let one : nat_lt 0 (length (width ∷ widths (up_to_section before))) ≡ true = positive (length (width ∷ widths (up_to_section before))) (omega arith) in
     record {
       clean = ((wide, narrow), rw (inside, passed, fresh) refl, holds.clean);
       version_is = holds.version_is;
@@ -189,13 +189,13 @@ holds_width state before width first second holds inside same none wide narrow =
     told (inr early) passed = ap (λ says. width_of (widths says)) (sym (first_early (Ok (Width width first second) ∷ before) early))
 
 pub differing_width : (state : State) (before : List Reading) (width : ℕ) (first second : Place) → HasRead state before → is_outside before ≡ false → (nat_lt 1 state.sections && not (width == state.width)) ≡ true
-    → offence_said before (Width width first second) ≡ Some (fault_at Differs second)
+    → offence_of before (Ok (Width width first second)) ≡ Some (fault_at Differs second)
 differing_width state before width first second holds inside test =
     let differs : (is_later before && not (width == first_width before)) ≡ true = rw (holds.sections_is, holds.width_is) at test in
     rw (inside, differs) refl
 
 pub repeated_width : (state : State) (before : List Reading) (width : ℕ) (first second : Place) → HasRead state before → is_outside before ≡ false → (nat_lt 1 state.sections && not (width == state.width)) ≡ false → state.has_width ≡ true
-    → offence_said before (Width width first second) ≡ Some (fault_at Repeated first)
+    → offence_of before (Ok (Width width first second)) ≡ Some (fault_at Repeated first)
 repeated_width state before width first second holds inside test again =
     let same : (is_later before && not (width == first_width before)) ≡ false = rw (holds.sections_is, holds.width_is) at test in
     let more = sym holds.has_width_is ∙ again in
@@ -208,7 +208,7 @@ pub holds_first_capabilities : (state : State) (before : List Reading) (value : 
 holds_first_capabilities state before value first second holds inside is few =
     let led : file_in before ≡ None = sym holds.file_is ∙ is in
     let leads = rw led at (clean_stands before holds.clean) in
-    let none : given (present before) ≡ [] = (early_present before holds.clean leads.1).0 ∙ leads.0 in
+    let none : given (up_to_section before) ≡ [] = (early_present before holds.clean leads.1).0 ∙ leads.0 in
     record {
       clean = (λ same. few, rw (inside, leads.1, none) refl, holds.clean);
       version_is = holds.version_is;
@@ -237,10 +237,10 @@ module _ (state : State) (before : List Reading) (value : ℕ) (first second : P
       with_true true c = refl
       with_true false c = refl
 
-  pub differing_capabilities : (nat_lt 1 state.sections && not (value == file.capabilities)) ≡ true → offence_said before (Register 0xfe value first second) ≡ Some (fault_at Differs second)
+  pub differing_capabilities : (nat_lt 1 state.sections && not (value == file.capabilities)) ≡ true → offence_of before (Ok (Register 0xfe value first second)) ≡ Some (fault_at Differs second)
   differing_capabilities test = let differs = sym value_test ∙ test in rw (inside, differs) refl
 
-  pub repeated_capabilities : (nat_lt 1 state.sections && not (value == file.capabilities)) ≡ false → state.has_capabilities ≡ true → offence_said before (Register 0xfe value first second) ≡ Some (fault_at Repeated first)
+  pub repeated_capabilities : (nat_lt 1 state.sections && not (value == file.capabilities)) ≡ false → state.has_capabilities ≡ true → offence_of before (Ok (Register 0xfe value first second)) ≡ Some (fault_at Repeated first)
   repeated_capabilities test again =
       let same = sym value_test ∙ test in
       let more = sym holds.has_capabilities_is ∙ again in
@@ -251,7 +251,7 @@ module _ (state : State) (before : List Reading) (value : ℕ) (first second : P
   holds_capabilities test fresh few =
       let same = sym value_test ∙ test in
       let none = sym holds.has_capabilities_is ∙ fresh in
-      let one : nat_lt 0 (times 0xfe (given (present before)) + 1) ≡ true = positive (times 0xfe (given (present before)) + 1) (omega arith) in
+      let one : nat_lt 0 (times 0xfe (given (up_to_section before)) + 1) ≡ true = positive (times 0xfe (given (up_to_section before)) + 1) (omega arith) in
       record {
         clean = (λ e. few, rw (inside, same, none) refl, holds.clean);
         version_is = holds.version_is;
@@ -269,7 +269,7 @@ module _ (state : State) (before : List Reading) (value : ℕ) (first second : P
 -- ---- any other register
 
 pub no_capabilities : (state : State) (before : List Reading) (number value : ℕ) (first second : Place) → HasRead state before → is_outside before ≡ false → state.file ≡ None → (number == 0xfe) ≡ false
-    → offence_said before (Register number value first second) ≡ Some (fault_at NoCap first)
+    → offence_of before (Ok (Register number value first second)) ≡ Some (fault_at NoCap first)
 no_capabilities state before number value first second holds inside is other =
     let leads = rw (sym holds.file_is ∙ is) at (clean_stands before holds.clean) in
     let none : is_given 0xfe (first_section before) ≡ false = rw (first_early before leads.1, leads.0) refl in
@@ -285,46 +285,46 @@ module _ (state : State) (before : List Reading) (number value : ℕ) (first sec
   same_test : is_writable number (first_section before) ≡ is_some (register_of file number)
   same_test = rw standing.known refl
 
-  offence_is : (writable again : Bool) → is_writable number (first_section before) ≡ writable → is_given number (present before) ≡ again
-      → offence_said before (Register number value first second) ≡ (if not writable then Some (fault_at UnknownRegister first) else if again then Some (fault_at Repeated first) else None)
+  offence_is : (writable again : Bool) → is_writable number (first_section before) ≡ writable → is_given number (up_to_section before) ≡ again
+      → offence_of before (Ok (Register number value first second)) ≡ (if not writable then Some (fault_at UnknownRegister first) else if again then Some (fault_at Repeated first) else None)
   offence_is writable again is_writable is_again = by (is_later before)
     where
       last : (later : Bool) → (later && false) ≡ false
       last true = refl
       last false = refl
 
-      by : (later : Bool) → offence_said before (Register number value first second) ≡ (if not writable then Some (fault_at UnknownRegister first) else if again then Some (fault_at Repeated first) else None)
+      by : (later : Bool) → offence_of before (Ok (Register number value first second)) ≡ (if not writable then Some (fault_at UnknownRegister first) else if again then Some (fault_at Repeated first) else None)
       by later = rw (inside, other, last (is_later before), standing.told, is_writable, is_again) refl
 
-  pub unknown : register_of file number ≡ None → offence_said before (Register number value first second) ≡ Some (fault_at UnknownRegister first)
-  unknown none = offence_is false (is_given number (present before)) (same_test ∙ rw none refl) refl
+  pub unknown : register_of file number ≡ None → offence_of before (Ok (Register number value first second)) ≡ Some (fault_at UnknownRegister first)
+  unknown none = offence_is false (is_given number (up_to_section before)) (same_test ∙ rw none refl) refl
 
-  pub unwritten : written file number value ≡ None → offence_said before (Register number value first second) ≡ Some (fault_at UnknownRegister first)
+  pub unwritten : written file number value ≡ None → offence_of before (Ok (Register number value first second)) ≡ Some (fault_at UnknownRegister first)
   unwritten none = by (register_of file number) refl none
     where
-      by : (found : Option register.Register) → register_of file number ≡ found → option_map (λ r. with_value file r value) found ≡ None → offence_said before (Register number value first second) ≡ Some (fault_at UnknownRegister first)
+      by : (found : Option register.Register) → register_of file number ≡ found → option_map (λ r. with_value file r value) found ≡ None → offence_of before (Ok (Register number value first second)) ≡ Some (fault_at UnknownRegister first)
       by None is none = unknown is
       by (Some r) is some = cc some
 
-  pub unknown_beyond : ((0x200 ≤ number) × (number < 0x300) → ⊥) → offence_said before (Register number value first second) ≡ Some (fault_at UnknownRegister first)
+  pub unknown_beyond : ((0x200 ≤ number) × (number < 0x300) → ⊥) → offence_of before (Ok (Register number value first second)) ≡ Some (fault_at UnknownRegister first)
   unknown_beyond beyond = by (register_of file number) refl
     where
-      by : (found : Option register.Register) → register_of file number ≡ found → offence_said before (Register number value first second) ≡ Some (fault_at UnknownRegister first)
+      by : (found : Option register.Register) → register_of file number ≡ found → offence_of before (Ok (Register number value first second)) ≡ Some (fault_at UnknownRegister first)
       by None is = unknown is
       by (Some r) is = absurd (beyond (register_of-range file number r standing.stands.is_file is))
 
-  pub repeated : 0x200 ≤ number → number < 0x300 → slice_index_or state.marks (number - 0x200) false ≡ true → offence_said before (Register number value first second) ≡ Some (fault_at Repeated first)
+  pub repeated : 0x200 ≤ number → number < 0x300 → slice_index_or state.marks (number - 0x200) false ≡ true → offence_of before (Ok (Register number value first second)) ≡ Some (fault_at Repeated first)
   repeated from below mark =
-      let again : is_given number (present before) ≡ true = sym (holds.marked number from below) ∙ mark in
-      let some : 0 < times number (given (present before)) = more (times number (given (present before))) again in
-      let here = value_given-stands number (given (present before)) file some standing.stands.values in
+      let again : is_given number (up_to_section before) ≡ true = sym (holds.marked number from below) ∙ mark in
+      let some : 0 < times number (given (up_to_section before)) = more (times number (given (up_to_section before))) again in
+      let here = value_given-stands number (given (up_to_section before)) file some standing.stands.values in
       let hit : is_writable number (first_section before) ≡ true = same_test ∙ by (register_of file number) refl (rw other at here) in
       offence_is true true hit again
     where
       more : (n : ℕ) → nat_lt 0 n ≡ true → 0 < n
       more n test = grind (arith, nat_tests)
 
-      by : (found : Option register.Register) → register_of file number ≡ found → option_map (value_of file) found ≡ Some (value_given number (given (present before))) → is_some (register_of file number) ≡ true
+      by : (found : Option register.Register) → register_of file number ≡ found → option_map (value_of file) found ≡ Some (value_given number (given (up_to_section before))) → is_some (register_of file number) ≡ true
       by None is none = cc none
       by (Some r) is some = rw is refl
 
@@ -348,17 +348,17 @@ module _ (state : State) (before : List Reading) (number value : ℕ) (first sec
     marked = λ n at_least at_most. by n at_least at_most (number == n) refl;
   }
     where
-      no_offence : offence_said before (Register number value first second) ≡ None
+      no_offence : offence_of before (Ok (Register number value first second)) ≡ None
       no_offence =
           let hit : is_writable number (first_section before) ≡ true = same_test ∙ some_written new (register_of file number) refl write in
-          let first_time : is_given number (present before) ≡ false = sym (holds.marked number from below) ∙ fresh in
+          let first_time : is_given number (up_to_section before) ≡ false = sym (holds.marked number from below) ∙ fresh in
           offence_is true false hit first_time
 
       by : (n : ℕ) → 0x200 ≤ n → n < 0x300 → (test : Bool) → (number == n) ≡ test
-          → slice_index_or (slice_set state.marks (number - 0x200) true) (n - 0x200) false ≡ nat_lt 0 (times n ((number, value) ∷ given (present before)))
+          → slice_index_or (slice_set state.marks (number - 0x200) true) (n - 0x200) false ≡ nat_lt 0 (times n ((number, value) ∷ given (up_to_section before)))
       by n at_least at_most true test =
           let e : number ≡ n = eqb-true _ _ test in
-          let some : nat_lt 0 (times n (given (present before)) + 1) ≡ true = positive (times n (given (present before)) + 1) (omega arith) in
+          let some : nat_lt 0 (times n (given (up_to_section before)) + 1) ≡ true = positive (times n (given (up_to_section before)) + 1) (omega arith) in
           rw (test, some) (get_or-set_at state.marks (number - 0x200) (n - 0x200) true false (omega arith) (omega (arith, holds.size)))
       by n at_least at_most false test =
           let apart : n - 0x200 ≢ number - 0x200 = λ same. eqb-false _ _ test (omega arith) in
@@ -370,22 +370,22 @@ pub read_at_end : (state : State) (before : List Reading) (place : Place) (file 
     → Ok (record { version = state.version; files = state.files ++ with_width file state.width ∷ [] }) ≡ read_from place before []
 read_at_end state before place file holds is =
     rw (holds.version_is, holds.files_is, holds.width_is)
-    (ap (λ found. ok_or (dump_with (version_of before) (files_in before) (first_width before) found) (fault_at NoCap place)) (sym is ∙ holds.file_is))
+    (ap (λ found. ok_or (dump_from before found) (fault_at NoCap place)) (sym is ∙ holds.file_is))
 
 pub dump_at_end : (state : State) (before : List Reading) (file : RegisterFile) → HasRead state before → state.file ≡ Some file → IsDump (record { version = state.version; files = state.files ++ with_width file state.width ∷ [] })
 dump_at_end state before file holds is =
     let led : file_in before ≡ Some file = sym holds.file_is ∙ is in
     rw (holds.version_is, holds.files_is, holds.width_is)
-    (clean_is_dump before (record { version = version_of before; files = files_in before ++ with_width file (first_width before) ∷ [] }) holds.clean (ap (dump_with (version_of before) (files_in before) (first_width before)) led))
+    (clean_is_dump before (record { version = version_of before; files = files_in before ++ with_width file (first_width before) ∷ [] }) holds.clean (ap (dump_from before) led))
 
 -- whether the reader has a file at the end
 pub complete_is : (state : State) (before : List Reading) → HasRead state before → is_some state.file ≡ is_some (dump_in before)
 complete_is state before holds = ap is_some holds.file_is ∙ by (file_in before)
   where
-    by : (found : Option RegisterFile) → is_some found ≡ is_some (dump_with (version_of before) (files_in before) (first_width before) found)
+    by : (found : Option RegisterFile) → is_some found ≡ is_some (dump_from before found)
     by None = refl
     by (Some file) = refl
 
 pub no_file_at_end : (state : State) (before : List Reading) (place : Place) → HasRead state before → state.file ≡ None → Err (fault_at NoCap place) ≡ read_from place before []
 no_file_at_end state before place holds is =
-    ap (λ found. ok_or (dump_with (version_of before) (files_in before) (first_width before) found) (fault_at NoCap place)) (sym is ∙ holds.file_is)
+    ap (λ found. ok_or (dump_from before found) (fault_at NoCap place)) (sym is ∙ holds.file_is)

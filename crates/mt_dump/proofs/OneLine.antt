@@ -1,7 +1,7 @@
 -- What is said of one line.
 use Rattle.std.proofs.Common.{◌≡◌, ℕ, ◌≤◌, List, [], ◌∷◌, length, take, nat_lt, Bool, true, false, ◌==◌, ◌&&◌, not, Ok, Err, Result, refl, arith}
 use Rattle.std.proofs.lemmas.Bool.Decides.{nat_tests}
-use Rattle.std.specs.Prelude.{◌||◌, if◌then◌else◌}
+use Rattle.std.specs.Prelude.{codes, ◌||◌, if◌then◌else◌}
 use Rattle.std.proofs.lemmas.Bool.{eqb-false}
 use Rattle.mt_text.specs.Number.{hex_number, decimal_number, decimal_value, are_digits, is_decimal_digit}
 use Rattle.mt_text.specs.declared.fault.NumberFault.{NumberFault}
@@ -11,7 +11,7 @@ use Rattle.mt_text.specs.Words.{text_of}
 use Rattle.mt_text.specs.Words as word
 use Rattle.mt_text.specs.declared.place.Place.{Place}
 use Rattle.mt_regs.specs.RegisterFile.{low_byte}
-use Rattle.mt_dump.specs.Line.{said_of, said_words, said_pair, said_width, said_version, said_section, said_register, is_width_name, is_version_name, is_section_name, fault_at, place_of}
+use Rattle.mt_dump.specs.Line.{said_of, said_words, said_pair, said_width, said_version, said_section, said_register, is_word, fault_at, place_of}
 use Rattle.mt_dump.specs.Reader.{IsSane}
 use Rattle.mt_dump.specs.declared.fault.DumpReason.TheVariants.{BadLine, BadWidth, TooManyPairs, BadVersion}
 use Rattle.mt_dump.specs.declared.said.Said.TheVariants.{Version, Width, Register}
@@ -85,7 +85,7 @@ sane_register first second (Ok number) (Ok value) = by (number == 0xfe) (nat_lt 
     by false many is test = λ same. absurd (eqb-false _ _ is same)
 
 sane_pair : (first second : Place) (name value : List ℕ) → IsSane (said_pair first second name value)
-sane_pair first second name value = by (is_width_name name) (is_version_name name) (is_section_name name)
+sane_pair first second name value = by (is_word (codes "maxphyaddr") name) (is_word (codes "version") name) (is_word (codes "cpu") name)
   where
     by : (width version section : Bool) → IsSane (if width then said_width first second (decimal_number value 52) else if version then said_version first second (decimal_number value 2)
         else if section then said_section first second (decimal_number value 15) else said_register first second (hex_number name) (hex_number value))

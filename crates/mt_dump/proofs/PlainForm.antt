@@ -14,7 +14,7 @@ use Rattle.mt_text.specs.declared.place.Place.{Place}
 use Rattle.mt_text.proofs.Plain.{is_plain, plain_content, digits_plain, hex_number-digits}
 use Rattle.mt_regs.specs.RegisterFile.{RegisterFile, low_byte}
 use Rattle.mt_regs.specs.Registers.{value_at}
-use Rattle.mt_dump.specs.Line.{Reading, said_of, said_words, said_pair, said_width, said_register, is_width_name, is_version_name, is_section_name, place_of}
+use Rattle.mt_dump.specs.Line.{Reading, said_of, said_words, said_pair, said_width, said_register, is_word, place_of}
 use Rattle.mt_dump.specs.Dump.{said_from, given, widths, versions, section_numbers, width_of, Shown}
 use Rattle.mt_dump.specs.Dumps.{dump_of}
 use Rattle.mt_dump.specs.Plain.{PlainLine, Empty, OfRegister, OfWidth, plain_number, plain_width, plain_pair, plain_line, plain_registers, plain_widths, PlainlyShown}
@@ -154,7 +154,7 @@ module _ (number : ℕ) (line : List ℕ) (few : length line ≤ 4096) where
   said_two a b name value two bare =
       rw (short line few) (ap (said_words number) two ∙ ap (λ n. said_pair (place_of number (a, name)) (place_of number (b, value)) n value) bare)
 
-width_said : (first second : Place) (name value : List ℕ) (w : ℕ) → is_width_name name ≡ true → plain_width value ≡ Some w → said_pair first second name value ≡ Ok (Width w first second)
+width_said : (first second : Place) (name value : List ℕ) (w : ℕ) → is_word (codes "maxphyaddr") name ≡ true → plain_width value ≡ Some w → said_pair first second name value ≡ Ok (Width w first second)
 width_said first second name value w named is =
     let read = width_read value w is in
     rw named (ap (said_width first second) read.1 ∙ rw read.2 refl)
@@ -174,11 +174,11 @@ register_test n v sound = by (n == 0xfe) refl (nat_lt 32 (low_byte v)) refl
 other_digit : (byte : ℕ) → is_hex_digit byte ≡ true → (nat_eq byte 118 ≡ false) × (nat_eq byte 112 ≡ false)
 other_digit byte digit = (grind (arith, nat_tests), grind (arith, nat_tests))
 
-no_version_name : (name : List ℕ) → list_all is_hex_digit name ≡ true → is_version_name name ≡ false
+no_version_name : (name : List ℕ) → list_all is_hex_digit name ≡ true → is_word (codes "version") name ≡ false
 no_version_name [] all = refl
 no_version_name (x ∷ xs) all = rw (other_digit x (and_parts (is_hex_digit x) (list_all is_hex_digit xs) all).0).0 refl
 
-no_section_name : (name : List ℕ) → list_all is_hex_digit name ≡ true → is_section_name name ≡ false
+no_section_name : (name : List ℕ) → list_all is_hex_digit name ≡ true → is_word (codes "cpu") name ≡ false
 no_section_name [] all = refl
 no_section_name (x ∷ []) all = by (nat_eq x 99)
   where
@@ -193,7 +193,7 @@ no_section_name (x ∷ y ∷ ys) all =
     by true = refl
     by false = refl
 
-register_said : (first second : Place) (name value : List ℕ) (n v : ℕ) → is_width_name name ≡ false → plain_number name ≡ Some n → plain_number value ≡ Some v → (n ≡ 0xfe → low_byte v ≤ 32)
+register_said : (first second : Place) (name value : List ℕ) (n v : ℕ) → is_word (codes "maxphyaddr") name ≡ false → plain_number name ≡ Some n → plain_number value ≡ Some v → (n ≡ 0xfe → low_byte v ≤ 32)
     → said_pair first second name value ≡ Ok (Register n v first second)
 register_said first second name value n v other is_number is_value sound =
     let read = number_read name n is_number in
@@ -204,7 +204,7 @@ register_said first second name value n v other is_number is_value sound =
 line_said : (number : ℕ) (line : List ℕ) (told : PlainLine) → length line ≤ 4096 → plain_line (between_blanks line) ≡ Some told → IsSound told → (first : Place) × (second : Place) × (said_of number line ≡ Ok (said_with first second told))
 line_said number line told few is sound = by (between_blanks line) refl is
   where
-    pair : (name value : List ℕ) → between_blanks line ≡ name ∷ value ∷ [] → (named : Bool) → is_width_name name ≡ named → plain_pair name value ≡ Some told → (first : Place) × (second : Place) × (said_of number line ≡ Ok (said_with first second told))
+    pair : (name value : List ℕ) → between_blanks line ≡ name ∷ value ∷ [] → (named : Bool) → is_word (codes "maxphyaddr") name ≡ named → plain_pair name value ≡ Some told → (first : Place) × (second : Place) × (said_of number line ≡ Ok (said_with first second told))
     pair name value words true named is = width (plain_width value) refl (rw named at is)
       where
         width : (found : Option ℕ) → plain_width value ≡ found → option_map OfWidth found ≡ Some told → (first : Place) × (second : Place) × (said_of number line ≡ Ok (said_with first second told))
@@ -239,7 +239,7 @@ line_said number line told few is sound = by (between_blanks line) refl is
         let place : Place = record { line = number; column = 1 } in
         (place, place, said_nothing number line few (no_words line none) ∙ ap (λ t. Ok (said_with place place t)) told_is)
     by (name ∷ []) one is = cc is
-    by (name ∷ value ∷ []) two is = pair name value two (is_width_name name) refl is
+    by (name ∷ value ∷ []) two is = pair name value two (is_word (codes "maxphyaddr") name) refl is
     by (name ∷ value ∷ third ∷ more) many is = cc is
 
 given-told : (first second : Place) (told : PlainLine) (says : List Reading) (tells : List PlainLine) → given says ≡ plain_registers tells → given (Ok (said_with first second told) ∷ says) ≡ plain_registers (told ∷ tells)

@@ -1,8 +1,8 @@
 -- What clean lines make of the present section's file and width.
 use Rattle.std.proofs.Common.{◌≡◌, ◌≢◌, ◌≤◌, ◌<◌, ℕ, suc, Bool, true, false, ◌==◌, nat_lt, List, [], ◌∷◌, length, Option, Some, None, MatchOption, refl, sym, ◌∙◌, ap, arith, inl, inr, subst}
-use Rattle.std.specs.Prelude.{Ok, Err, is_some, ◌⊎◌}
+use Rattle.std.specs.Prelude.{Ok, Err, is_some, unwrap_or, ◌⊎◌, if◌then◌else◌}
 use Rattle.std.specs.List.{AllByRecursion}
-use Rattle.std.specs.Option.{option_map}
+use Rattle.std.specs.Option.{option_and_then, option_map}
 use Rattle.std.proofs.lemmas.Bool.{cases_Bool, eqb-true, eqb-false}
 use Rattle.std.proofs.lemmas.Bool.Decides.{nat_tests}
 use Rattle.std.proofs.lemmas.List.{length-replicate}
@@ -13,8 +13,8 @@ use Rattle.mt_regs.proofs.ByNumber.{is_file-written}
 use Rattle.mt_regs.proofs.Writes.{changes_only}
 use Rattle.mt_text.specs.declared.place.Place.{Place}
 use Rattle.mt_dump.specs.Line.{Reading}
-use Rattle.mt_dump.specs.Dump.{given, widths, section_numbers, section_count, times, is_given, value_given, is_writable, width_of, version_of, is_later, present, first_section, first_width}
-use Rattle.mt_dump.specs.Reader.{IsClean, after_register, after_section, file_in, onto}
+use Rattle.mt_dump.specs.Dump.{given, widths, section_numbers, section_count, times, is_given, value_given, is_writable, width_of, version_of, is_later, up_to_section, first_section, first_width}
+use Rattle.mt_dump.specs.Reader.{IsClean, file_in, onto}
 use Rattle.mt_dump.specs.declared.said.Said.TheVariants.{Nothing, Version, Section, Width, Register}
 use Rattle.mt_dump.proofs.Sections.{section_passed, width_passed, register_passed, nothing_outside, first_early, first_late, early_present, same_given, same_widths, section_counts}
 
@@ -35,10 +35,10 @@ IsFirst registers capabilities = (rest : List (ℕ × ℕ)) → (others : List (
 
 -- The file is the present section's.
 pub record StandsNow (before : List Reading) (file : RegisterFile) : Type 0 where
-  pub stands : Stands (given (present before)) file
+  pub stands : Stands (given (up_to_section before)) file
   pub told : is_given 0xfe (first_section before) ≡ true
   pub known : value_given 0xfe (given (first_section before)) ≡ file.capabilities
-  pub first : is_later before ≡ false → IsFirst (given (present before)) file.capabilities
+  pub first : is_later before ≡ false → IsFirst (given (up_to_section before)) file.capabilities
 
 pub is_blank_file : (width capabilities : ℕ) → 32 ≤ width → width ≤ 52 → low_byte capabilities ≤ 32 → IsRegisterFile (blank_file width capabilities)
 is_blank_file width capabilities wide narrow few = record {
@@ -136,7 +136,7 @@ abbrev pub Leads : List Reading → Option RegisterFile → Type 0
 Leads before found = MatchOption found ((given before ≡ []) × (is_later before ≡ false)) (λ file. StandsNow before file)
 
 -- a line that gives no register, and is no `cpu` line
-same_leads : (line : Reading) (before : List Reading) (found : Option RegisterFile) → given (line ∷ before) ≡ given before → given (present (line ∷ before)) ≡ given (present before) → is_later (line ∷ before) ≡ is_later before
+same_leads : (line : Reading) (before : List Reading) (found : Option RegisterFile) → given (line ∷ before) ≡ given before → given (up_to_section (line ∷ before)) ≡ given (up_to_section before) → is_later (line ∷ before) ≡ is_later before
     → Leads before found → Leads (line ∷ before) found
 same_leads line before None none now same leads = (none ∙ leads.0, same ∙ leads.1)
 same_leads line before (Some file) none now same leads =
@@ -148,7 +148,7 @@ same_leads line before (Some file) none now same leads =
       first = λ early. subst (λ gs. IsFirst gs file.capabilities) (sym now) (leads.first (sym same ∙ early));
     }
 
-section_leads : (before : List Reading) (number : ℕ) (place : Place) (found : Option RegisterFile) → IsClean (Ok (Section number place) ∷ before) → Leads before found → Leads (Ok (Section number place) ∷ before) (after_section found)
+section_leads : (before : List Reading) (number : ℕ) (place : Place) (found : Option RegisterFile) → IsClean (Ok (Section number place) ∷ before) → Leads before found → Leads (Ok (Section number place) ∷ before) (option_map (λ f. blank_file 36 f.capabilities) found)
 section_leads before number place None clean leads =
     let passed = section_passed before number place clean.1 in
     let none : is_given 0xfe (first_section before) ≡ false = rw (first_early before leads.1, leads.0) refl in
@@ -184,8 +184,14 @@ section_leads before number place (Some file) clean leads =
         let told = rw (first_early before none.1, nothing.0) at leads.told in
         cc told
 
+-- the file that a register leads to, where the present section's file is this one
+abbrev after : Option RegisterFile → ℕ → ℕ → Option RegisterFile
+after found number value =
+    if number == 0xfe then Some (unwrap_or found (blank_file 36 value))
+    else option_and_then (λ file. written file number value) found
+
 capabilities_leads : (before : List Reading) (value : ℕ) (first second : Place) (found : Option RegisterFile) → IsClean (Ok (Register 0xfe value first second) ∷ before) → Leads before found
-    → Leads (Ok (Register 0xfe value first second) ∷ before) (after_register found 0xfe value)
+    → Leads (Ok (Register 0xfe value first second) ∷ before) (after found 0xfe value)
 capabilities_leads before value first second None clean leads =
     let line = Ok (Register 0xfe value first second) in
     let present_none = (early_present before clean.2 leads.1).0 ∙ leads.0 in
@@ -199,12 +205,12 @@ capabilities_leads before value first second None clean leads =
     }
 capabilities_leads before value first second (Some file) clean leads = by (register_passed before 0xfe value first second clean.1).1
   where
-    fresh : is_given 0xfe (present before) ≡ false
+    fresh : is_given 0xfe (up_to_section before) ≡ false
     fresh = (register_passed before 0xfe value first second clean.1).3
 
     again : is_later before ≡ false → ⊥
     again early =
-        let told : is_given 0xfe (present before) ≡ true = ap (λ gs. nat_lt 0 (times 0xfe gs)) ((early_present before clean.2 early).0 ∙ ap given (sym (first_early before early))) ∙ leads.told in
+        let told : is_given 0xfe (up_to_section before) ≡ true = ap (λ gs. nat_lt 0 (times 0xfe gs)) ((early_present before clean.2 early).0 ∙ ap given (sym (first_early before early))) ∙ leads.told in
         let e : true ≡ false = sym told ∙ fresh in
         cc e
 
@@ -214,7 +220,7 @@ capabilities_leads before value first second (Some file) clean leads = by (regis
         let is : value ≡ file.capabilities = same ∙ leads.known in
         let kept = first_late line before late in
         record {
-          stands = subst (λ v. Stands ((0xfe, v) ∷ given (present before)) file) (sym is) (stands_capabilities (given (present before)) file leads.stands (not_given 0xfe (present before) fresh));
+          stands = subst (λ v. Stands ((0xfe, v) ∷ given (up_to_section before)) file) (sym is) (stands_capabilities (given (up_to_section before)) file leads.stands (not_given 0xfe (up_to_section before) fresh));
           told = ap (is_given 0xfe) kept ∙ leads.told;
           known = ap (λ says. value_given 0xfe (given says)) kept ∙ leads.known;
           first = λ early. let e : true ≡ false = sym late ∙ early in cc e;
@@ -226,7 +232,7 @@ capabilities_leads before value first second (Some file) clean leads = by (regis
     by (inr (inr same)) = elim (cases_Bool (is_later before)) [ inl late ↦ later same late | inr early ↦ absurd (again early) ]
 
 register_leads : (before : List Reading) (number value : ℕ) (first second : Place) (found : Option RegisterFile) → (number == 0xfe) ≡ false → IsClean (Ok (Register number value first second) ∷ before) → Leads before found
-    → Leads (Ok (Register number value first second) ∷ before) (after_register found number value)
+    → Leads (Ok (Register number value first second) ∷ before) (after found number value)
 register_leads before number value first second None other clean leads = elim ((register_passed before number value first second clean.1).2) [
   | inl hit ↦ let e : false ≡ true = sym other ∙ hit in cc e
   | inr both ↦ let e = rw (first_early before leads.1, leads.0) at both.0 in cc e
@@ -243,13 +249,13 @@ register_leads before number value first second (Some file) other clean leads = 
 
     next : (new : RegisterFile) → written file number value ≡ Some new → StandsNow (Ok (Register number value first second) ∷ before) new
     next new write =
-        let fresh = not_given number (present before) (register_passed before number value first second clean.1).3 in
+        let fresh = not_given number (up_to_section before) (register_passed before number value first second clean.1).3 in
         let same = same_capabilities file new number value leads.stands.is_file (eqb-false _ _ other) write in
         record {
-          stands = stands_next (given (present before)) file new number value leads.stands (eqb-false _ _ other) fresh write;
+          stands = stands_next (given (up_to_section before)) file new number value leads.stands (eqb-false _ _ other) fresh write;
           told = ap (nat_lt 0) (times_same (cases_Bool (is_later before))) ∙ leads.told;
           known = value_same (cases_Bool (is_later before)) ∙ leads.known ∙ same;
-          first = λ early. subst (IsFirst ((number, value) ∷ given (present before))) same (λ rest. leads.first early ((number, value) ∷ rest));
+          first = λ early. subst (IsFirst ((number, value) ∷ given (up_to_section before))) same (λ rest. leads.first early ((number, value) ∷ rest));
         }
       where
         times_same : ((is_later before ≡ true) ⊎ (is_later before ≡ false)) → times 0xfe (given (first_section (Ok (Register number value first second) ∷ before))) ≡ times 0xfe (given (first_section before))
@@ -263,15 +269,15 @@ register_leads before number value first second (Some file) other clean leads = 
             ap (λ says. value_given 0xfe (given says)) (first_early (Ok (Register number value first second) ∷ before) early) ∙ rw other (ap (λ says. value_given 0xfe (given says)) (sym (first_early before early)))
 
 any_register_leads : (before : List Reading) (number value : ℕ) (first second : Place) (found : Option RegisterFile) → IsClean (Ok (Register number value first second) ∷ before) → Leads before found
-    → Leads (Ok (Register number value first second) ∷ before) (after_register found number value)
+    → Leads (Ok (Register number value first second) ∷ before) (after found number value)
 any_register_leads before number value first second found clean leads = elim (cases_Bool (number == 0xfe)) [
   | inl hit ↦ capabilities (eqb-true _ _ hit) clean
   | inr miss ↦ register_leads before number value first second found miss clean leads
 ]
   where
-    capabilities : number ≡ 0xfe → IsClean (Ok (Register number value first second) ∷ before) → Leads (Ok (Register number value first second) ∷ before) (after_register found number value)
+    capabilities : number ≡ 0xfe → IsClean (Ok (Register number value first second) ∷ before) → Leads (Ok (Register number value first second) ∷ before) (after found number value)
     capabilities is =
-        subst (λ n. IsClean (Ok (Register n value first second) ∷ before) → Leads (Ok (Register n value first second) ∷ before) (after_register found n value)) (sym is)
+        subst (λ n. IsClean (Ok (Register n value first second) ∷ before) → Leads (Ok (Register n value first second) ∷ before) (after found n value)) (sym is)
         (λ clean. capabilities_leads before value first second found clean leads)
 
 -- clean lines lead to the present section's file, or give no register
@@ -288,13 +294,13 @@ clean_stands (Err fault ∷ before) clean = cc clean.1
 
 -- the widths of the present section
 pub record Widths (before : List Reading) : Type 0 where
-  pub few : length (widths (present before)) ≤ 1
-  pub late : is_later before ≡ true → AllByRecursion (λ width. width ≡ first_width before) (widths (present before))
+  pub few : length (widths (up_to_section before)) ≤ 1
+  pub late : is_later before ≡ true → AllByRecursion (λ width. width ≡ first_width before) (widths (up_to_section before))
   pub wide : 32 ≤ first_width before
   pub narrow : first_width before ≤ 52
 
 -- a line that gives no width, and is no `cpu` line
-same_width_facts : (line : Reading) (before : List Reading) → widths (line ∷ before) ≡ widths before → widths (present (line ∷ before)) ≡ widths (present before) → is_later (line ∷ before) ≡ is_later before → Widths before → Widths (line ∷ before)
+same_width_facts : (line : Reading) (before : List Reading) → widths (line ∷ before) ≡ widths before → widths (up_to_section (line ∷ before)) ≡ widths (up_to_section before) → is_later (line ∷ before) ≡ is_later before → Widths before → Widths (line ∷ before)
 same_width_facts line before none now same facts =
     let first : first_width (line ∷ before) ≡ first_width before = ap width_of (same_widths line before none (inl same)) in
     record {
@@ -324,7 +330,7 @@ clean_widths (Ok (Width width first second) ∷ before) clean = by (clean_widths
     by : Widths before → Widths (Ok (Width width first second) ∷ before)
     by facts =
         let passed = width_passed before width first second clean.1 in
-        let none = none_yet (widths (present before)) passed.2 in
+        let none = none_yet (widths (up_to_section before)) passed.2 in
         record {
           few = rw none (omega arith);
           late = λ late. rw none (late_width late passed.1, tt);

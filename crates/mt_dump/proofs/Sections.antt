@@ -1,11 +1,11 @@
 -- Lines with their sections, the last line first and in order.
 use Rattle.std.proofs.Common.{◌≡◌, ◌≢◌, ◌≤◌, ◌+◌, ℕ, suc, zero, Bool, true, false, not, ◌==◌, ◌&&◌, nat_lt, List, [], ◌∷◌, ◌++◌, length, Some, None, refl, sym, ◌∙◌, ap, arith, inl, inr, append_assoc}
-use Rattle.std.specs.Prelude.{Ok, Err, ◌⊎◌, ◌||◌, if◌then◌else◌, ⊤}
+use Rattle.std.specs.Prelude.{Ok, Err, slice_index_or, ◌⊎◌, ◌||◌, if◌then◌else◌, ⊤}
 use Rattle.std.proofs.lemmas.Bool.{cases_Bool, eqb-true, eqb-false}
 use Rattle.std.proofs.lemmas.Bool.Decides.{nat_tests}
 use Rattle.mt_text.specs.declared.place.Place.{Place}
 use Rattle.mt_dump.specs.Line.{Reading}
-use Rattle.mt_dump.specs.Dump.{given, widths, versions, section_numbers, section_count, version_in, version_of, is_given, is_writable, value_given, is_spoken, is_later, is_outside, present, first_section, first_width, up_to_section, behind_first, behind_sections, sections_in, sections_of, count_from, offence_said}
+use Rattle.mt_dump.specs.Dump.{given, widths, versions, section_numbers, section_count, version_of, is_given, is_writable, value_given, is_spoken, is_later, is_outside, first_section, first_width, up_to_section, behind_first, behind_sections, sections_in, sections_of, count_from, offence_of}
 use Rattle.mt_dump.specs.Reader.{IsClean, onto}
 use Rattle.mt_dump.specs.declared.fault.DumpFault.{DumpFault}
 use Rattle.mt_dump.specs.declared.said.Said.TheVariants.{Nothing, Version, Section, Width, Register}
@@ -21,7 +21,7 @@ section_tests true true false told x y none = (refl, refl, inl refl)
 section_tests true false late told x y none = cc none
 section_tests false number late told x y none = cc none
 
-pub section_passed : (before : List Reading) (number : ℕ) (place : Place) → offence_said before (Section number place) ≡ None
+pub section_passed : (before : List Reading) (number : ℕ) (place : Place) → offence_of before (Ok (Section number place)) ≡ None
     → (version_of before ≡ 2) × (number ≡ section_count before) × ((number ≡ 0) ⊎ (is_given 0xfe (first_section before) ≡ true))
 section_passed before number place none =
     let passed = section_tests (version_of before == 2) (number == section_count before) (nat_lt 0 number) (is_given 0xfe (first_section before)) _ _ none in
@@ -40,10 +40,10 @@ width_tests false true false again x y z none = cc none
 width_tests false false same true x y z none = cc none
 width_tests false false same false x y z none = (refl, inl refl, refl)
 
-pub width_passed : (before : List Reading) (width : ℕ) (first second : Place) → offence_said before (Width width first second) ≡ None
-    → (is_outside before ≡ false) × ((is_later before ≡ false) ⊎ (width ≡ first_width before)) × (nat_lt 0 (length (widths (present before))) ≡ false)
+pub width_passed : (before : List Reading) (width : ℕ) (first second : Place) → offence_of before (Ok (Width width first second)) ≡ None
+    → (is_outside before ≡ false) × ((is_later before ≡ false) ⊎ (width ≡ first_width before)) × (nat_lt 0 (length (widths (up_to_section before))) ≡ false)
 width_passed before width first second none =
-    let passed = width_tests (is_outside before) (is_later before) (width == first_width before) (nat_lt 0 (length (widths (present before)))) _ _ _ none in
+    let passed = width_tests (is_outside before) (is_later before) (width == first_width before) (nat_lt 0 (length (widths (up_to_section before)))) _ _ _ none in
     (passed.0, by passed.1, passed.2)
   where
     by : ((is_later before ≡ false) ⊎ ((width == first_width before) ≡ true)) → (is_later before ≡ false) ⊎ (width ≡ first_width before)
@@ -68,12 +68,12 @@ register_tests false false false same true true false x y z u v none = (refl, in
 register_tests false false false same true false again x y z u v none = cc none
 register_tests false false false same false writable again x y z u v none = cc none
 
-pub register_passed : (before : List Reading) (number value : ℕ) (first second : Place) → offence_said before (Register number value first second) ≡ None
+pub register_passed : (before : List Reading) (number value : ℕ) (first second : Place) → offence_of before (Ok (Register number value first second)) ≡ None
     → (is_outside before ≡ false) × (((number == 0xfe) ≡ false) ⊎ ((is_later before ≡ false) ⊎ (value ≡ value_given 0xfe (given (first_section before)))))
-    × (((number == 0xfe) ≡ true) ⊎ ((is_given 0xfe (first_section before) ≡ true) × (is_writable number (first_section before) ≡ true))) × (is_given number (present before) ≡ false)
+    × (((number == 0xfe) ≡ true) ⊎ ((is_given 0xfe (first_section before) ≡ true) × (is_writable number (first_section before) ≡ true))) × (is_given number (up_to_section before) ≡ false)
 register_passed before number value first second none =
     let passed = register_tests (is_outside before) (is_later before) (number == 0xfe) (value == value_given 0xfe (given (first_section before))) (is_given 0xfe (first_section before)) (is_writable number (first_section before))
-    (is_given number (present before)) _ _ _ _ _ none in
+    (is_given number (up_to_section before)) _ _ _ _ _ none in
     (passed.0, by passed.1, passed.2, passed.3)
   where
     by : (((number == 0xfe) ≡ false) ⊎ ((is_later before ≡ false) ⊎ ((value == value_given 0xfe (given (first_section before))) ≡ true))) → ((number == 0xfe) ≡ false) ⊎ ((is_later before ≡ false) ⊎ (value ≡ value_given 0xfe (given (first_section before))))
@@ -81,7 +81,7 @@ register_passed before number value first second none =
     by (inr (inl early)) = inr (inl early)
     by (inr (inr same)) = inr (inr (eqb-true _ _ same))
 
-pub version_passed : (before : List Reading) (version : ℕ) (place : Place) → offence_said before (Version version place) ≡ None → is_spoken before ≡ false
+pub version_passed : (before : List Reading) (version : ℕ) (place : Place) → offence_of before (Ok (Version version place)) ≡ None → is_spoken before ≡ false
 version_passed before version place none = by (is_spoken before) _ none
   where
     by : (spoken : Bool) (x : DumpFault) → (if spoken then Some x else None) ≡ None → spoken ≡ false
@@ -120,16 +120,16 @@ clean_versions (Err fault ∷ before) clean = cc clean.1
 
 pub known_version : (before : List Reading) → IsClean before → (version_of before ≡ 1) ⊎ (version_of before ≡ 2)
 known_version before clean = elim (clean_versions before clean) [
-  | inl none ↦ inl (ap version_in none)
+  | inl none ↦ inl (ap (λ (versions : List ℕ). slice_index_or versions 0 1) none)
   | inr some ↦ by some.0 (cases_Bool (some.0 == 1)) some.1 some.2 some.3
 ]
   where
     by : (v : ℕ) → (((v == 1) ≡ true) ⊎ ((v == 1) ≡ false)) → versions before ≡ v ∷ [] → 1 ≤ v → v ≤ 2 → (version_of before ≡ 1) ⊎ (version_of before ≡ 2)
-    by v (inl one) is least most = inl (ap version_in is ∙ eqb-true _ _ one)
+    by v (inl one) is least most = inl (ap (λ (versions : List ℕ). slice_index_or versions 0 1) is ∙ eqb-true _ _ one)
     by v (inr other) is least most =
         let apart : v ≢ 1 = eqb-false _ _ other in
         let two : v ≡ 2 = omega (arith, apart, least, most) in
-        inr (ap version_in is ∙ two)
+        inr (ap (λ (versions : List ℕ). slice_index_or versions 0 1) is ∙ two)
 
 pub same_version : (before : List Reading) → IsClean before → version_of (onto before []) ≡ version_of before
 same_version before clean = elim (clean_versions before clean) [
@@ -251,7 +251,7 @@ one_at_most (m ∷ ns) n early = absurd (two (length ns) early)
     two k early = grind (arith, nat_tests, early)
 
 -- up to section 0 the present section has all that is given
-pub early_present : (before : List Reading) → IsClean before → is_later before ≡ false → (given (present before) ≡ given before) × (widths (present before) ≡ widths before)
+pub early_present : (before : List Reading) → IsClean before → is_later before ≡ false → (given (up_to_section before) ≡ given before) × (widths (up_to_section before) ≡ widths before)
 early_present [] clean early = (refl, refl)
 early_present (Ok Nothing ∷ before) clean early = early_present before clean.2 early
 early_present (Ok (Version version place) ∷ before) clean early = early_present before clean.2 early
@@ -342,7 +342,7 @@ done_next (n ∷ ns) done section = done ++ section ∷ []
 
 abbrev pub done_in : List Reading → List (List Reading)
 done_in [] = []
-done_in (Ok (Section number place) ∷ before) = done_next (section_numbers before) (done_in before) (onto (present before) [])
+done_in (Ok (Section number place) ∷ before) = done_next (section_numbers before) (done_in before) (onto (up_to_section before) [])
 done_in (Ok Nothing ∷ before) = done_in before
 done_in (Ok (Version version place) ∷ before) = done_in before
 done_in (Ok (Width width first second) ∷ before) = done_in before
@@ -353,12 +353,12 @@ abbrev pub joined : List ℕ → List (List Reading) → List Reading → List (
 joined [] done section more = more
 joined (n ∷ ns) done section more = done ++ section ∷ more
 
-pub sections-onto : (before rest : List Reading) → behind_sections (onto before rest) ≡ joined (section_numbers before) (done_in before) (onto (present before) (up_to_section rest)) (behind_sections rest)
+pub sections-onto : (before rest : List Reading) → behind_sections (onto before rest) ≡ joined (section_numbers before) (done_in before) (onto (up_to_section before) (up_to_section rest)) (behind_sections rest)
 sections-onto [] rest = refl
 sections-onto (Ok Nothing ∷ before) rest = sections-onto before (Ok Nothing ∷ rest)
 sections-onto (Ok (Version version place) ∷ before) rest = sections-onto before (Ok (Version version place) ∷ rest)
 sections-onto (Ok (Section number place) ∷ before) rest =
-    sections-onto before (Ok (Section number place) ∷ rest) ∙ by (section_numbers before) (done_in before) (onto (present before) []) (up_to_section rest) (behind_sections rest)
+    sections-onto before (Ok (Section number place) ∷ rest) ∙ by (section_numbers before) (done_in before) (onto (up_to_section before) []) (up_to_section rest) (behind_sections rest)
   where
     by : (ns : List ℕ) (done : List (List Reading)) (section next : List Reading) (more : List (List Reading)) → joined ns done section (next ∷ more) ≡ done_next ns done section ++ next ∷ more
     by [] done section next more = refl
@@ -381,19 +381,19 @@ some_sections says [] section more = refl
 some_sections says (d ∷ done) section more = refl
 
 -- the sections of lines, where more lines stand behind some
-pub sections_split : (before rest : List Reading) → section_numbers before ≢ [] → sections_of (onto before rest) ≡ done_in before ++ onto (present before) (up_to_section rest) ∷ behind_sections rest
+pub sections_split : (before rest : List Reading) → section_numbers before ≢ [] → sections_of (onto before rest) ≡ done_in before ++ onto (up_to_section before) (up_to_section rest) ∷ behind_sections rest
 sections_split before rest some = by (section_numbers before) some (sections-onto before rest)
   where
-    by : (ns : List ℕ) → ns ≢ [] → behind_sections (onto before rest) ≡ joined ns (done_in before) (onto (present before) (up_to_section rest)) (behind_sections rest)
-        → sections_of (onto before rest) ≡ done_in before ++ onto (present before) (up_to_section rest) ∷ behind_sections rest
+    by : (ns : List ℕ) → ns ≢ [] → behind_sections (onto before rest) ≡ joined ns (done_in before) (onto (up_to_section before) (up_to_section rest)) (behind_sections rest)
+        → sections_of (onto before rest) ≡ done_in before ++ onto (up_to_section before) (up_to_section rest) ∷ behind_sections rest
     by [] some is = absurd (some refl)
-    by (n ∷ ns) some is = ap (sections_in (onto before rest)) is ∙ some_sections (onto before rest) (done_in before) (onto (present before) (up_to_section rest)) (behind_sections rest)
+    by (n ∷ ns) some is = ap (sections_in (onto before rest)) is ∙ some_sections (onto before rest) (done_in before) (onto (up_to_section before) (up_to_section rest)) (behind_sections rest)
 
-pub sections_whole : (before : List Reading) → sections_of (onto before []) ≡ done_in before ++ onto (present before) [] ∷ []
+pub sections_whole : (before : List Reading) → sections_of (onto before []) ≡ done_in before ++ onto (up_to_section before) [] ∷ []
 sections_whole before = by (section_numbers before) refl (sections-onto before [])
   where
-    by : (ns : List ℕ) → section_numbers before ≡ ns → behind_sections (onto before []) ≡ joined ns (done_in before) (onto (present before) []) [] → sections_of (onto before []) ≡ done_in before ++ onto (present before) [] ∷ []
+    by : (ns : List ℕ) → section_numbers before ≡ ns → behind_sections (onto before []) ≡ joined ns (done_in before) (onto (up_to_section before) []) [] → sections_of (onto before []) ≡ done_in before ++ onto (up_to_section before) [] ∷ []
     by [] none is =
-        let all : present before ≡ before = up_to_all before none in
-        ap (sections_in (onto before [])) is ∙ sym (ap (λ ds. ds ++ onto (present before) [] ∷ []) (no_sections_done before none) ∙ ap (λ ls. onto ls [] ∷ []) all)
-    by (n ∷ ns) some is = ap (sections_in (onto before [])) is ∙ some_sections (onto before []) (done_in before) (onto (present before) []) []
+        let all : up_to_section before ≡ before = up_to_all before none in
+        ap (sections_in (onto before [])) is ∙ sym (ap (λ ds. ds ++ onto (up_to_section before) [] ∷ []) (no_sections_done before none) ∙ ap (λ ls. onto ls [] ∷ []) all)
+    by (n ∷ ns) some is = ap (sections_in (onto before [])) is ∙ some_sections (onto before []) (done_in before) (onto (up_to_section before) []) []

@@ -1,6 +1,6 @@
 -- The dump that clean lines lead to.
 use Rattle.std.proofs.Common.{◌≡◌, ◌≢◌, ◌≤◌, ◌<◌, ◌+◌, ℕ, suc, true, false, ◌==◌, nat_lt, List, [], ◌∷◌, ◌++◌, length, Option, Some, None, refl, sym, ◌∙◌, ap, arith, inl, inr, subst}
-use Rattle.std.specs.Prelude.{Ok, Err, is_ok, ◌⊎◌, if◌then◌else◌}
+use Rattle.std.specs.Prelude.{Ok, Err, is_ok, map, option_map, option_to_list, slice_index_or, ◌⊎◌, if◌then◌else◌}
 use Rattle.std.specs.List.{AllByRecursion, list_all}
 use Rattle.std.proofs.lemmas.Bool.{cases_Bool, eqb-true}
 use Rattle.std.proofs.lemmas.Bool.Decides.{nat_tests}
@@ -11,8 +11,8 @@ use Rattle.mt_regs.proofs.ByNumber.{same_file}
 use Rattle.mt_text.specs.declared.place.Place.{Place}
 use Rattle.mt_dump.specs.Line.{Reading}
 use Rattle.mt_dump.specs.Dumps.{Dump, IsDump, dump_of, first_of}
-use Rattle.mt_dump.specs.Dump.{given, widths, versions, section_numbers, section_count, times, is_given, value_given, width_of, version_in, version_of, is_later, present, first_section, first_width, behind_first, up_to_section, behind_sections, sections_in, sections_of, ShowsSection, ShowsFirst, ShowsLater, ShowAll, ShowAllLater, ShownBy, count_from}
-use Rattle.mt_dump.specs.Reader.{IsSane, IsClean, file_in, file_with, files_in, dump_with, dump_in, with_width, onto}
+use Rattle.mt_dump.specs.Dump.{given, widths, versions, section_numbers, section_count, times, is_given, value_given, width_of, version_of, is_later, first_section, first_width, behind_first, up_to_section, behind_sections, sections_in, sections_of, ShowsSection, ShowsFirst, ShowsLater, ShowAll, ShowAllLater, ShownBy, count_from}
+use Rattle.mt_dump.specs.Reader.{IsSane, IsClean, file_in, files_in, dump_in, with_width, onto}
 use Rattle.mt_dump.specs.declared.said.Said.TheVariants.{Nothing, Version, Section, Width, Register}
 use Rattle.mt_dump.proofs.Readings.{times-onto, given-onto, widths-onto, numbers-onto, good_onto, all_onto, clean_good, value_given-stands}
 use Rattle.mt_dump.proofs.Sections.{section_passed, nothing_outside, sections_are_told, known_version, same_version, clean_first, clean_numbers, numbers_up, first_early, first_late, early_present, same_given, same_widths, section_counts, nothing_inside, done_in, done_next, sections_whole}
@@ -30,35 +30,35 @@ module _ (before : List Reading) (clean : IsClean before) (file : RegisterFile) 
   facts : Widths before
   facts = clean_widths before clean
 
-  present_widths : widths (onto (present before) []) ≡ widths (present before)
-  present_widths = widths-onto (present before) [] ∙ short_onto (widths (present before)) facts.few
+  present_widths : widths (onto (up_to_section before) []) ≡ widths (up_to_section before)
+  present_widths = widths-onto (up_to_section before) [] ∙ short_onto (widths (up_to_section before)) facts.few
 
-  shows_section : ShowsSection (onto (present before) []) (with_width file (first_width before))
+  shows_section : ShowsSection (onto (up_to_section before) []) (with_width file (first_width before))
   shows_section = record {
-    once = λ number. rw (given-onto (present before) [], times-onto number (given (present before)) []) (omega (arith, now.stands.once number));
+    once = λ number. rw (given-onto (up_to_section before) [], times-onto number (given (up_to_section before)) []) (omega (arith, now.stands.once number));
     one_width = rw present_widths facts.few;
-    values = rw (given-onto (present before) []) (all_onto (λ register. value_at file register.0 ≡ Some register.1) (given (present before)) [] now.stands.values tt);
-    defaults = λ number none. now.stands.defaults number (let e = rw (given-onto (present before) [], times-onto number (given (present before)) []) at none in omega (arith, e));
+    values = rw (given-onto (up_to_section before) []) (all_onto (λ register. value_at file register.0 ≡ Some register.1) (given (up_to_section before)) [] now.stands.values tt);
+    defaults = λ number none. now.stands.defaults number (let e = rw (given-onto (up_to_section before) [], times-onto number (given (up_to_section before)) []) at none in omega (arith, e));
     is_file = with_width_of now.stands.is_file;
   }
     where
       with_width_of : IsRegisterFile file → IsRegisterFile (with_width file (first_width before))
       with_width_of is = record { wide = facts.wide; narrow = facts.narrow; few_pairs = is.few_pairs; all_pairs = is.all_pairs; all_fixed = is.all_fixed; no_fixed = is.no_fixed }
 
-  shows_first : is_later before ≡ false → ShowsFirst (onto (present before) []) (with_width file (first_width before))
+  shows_first : is_later before ≡ false → ShowsFirst (onto (up_to_section before) []) (with_width file (first_width before))
   shows_first early =
       let first = now.first early [] in
-      let same : widths (first_section before) ≡ widths (onto (present before) []) = ap widths (first_early before early) ∙ sym ((early_present before clean early).1) ∙ sym present_widths in
+      let same : widths (first_section before) ≡ widths (onto (up_to_section before) []) = ap widths (first_early before early) ∙ sym ((early_present before clean early).1) ∙ sym present_widths in
       record {
         section = shows_section;
-        capabilities = (first.0, given-onto (present before) [] ∙ first.1);
+        capabilities = (first.0, given-onto (up_to_section before) [] ∙ first.1);
         width = ap width_of same;
       }
 
-  shows_later : (first : RegisterFile) → is_later before ≡ true → first.width ≡ first_width before → first.capabilities ≡ value_given 0xfe (given (first_section before)) → ShowsLater first (onto (present before) []) (with_width file (first_width before))
+  shows_later : (first : RegisterFile) → is_later before ≡ true → first.width ≡ first_width before → first.capabilities ≡ value_given 0xfe (given (first_section before)) → ShowsLater first (onto (up_to_section before) []) (with_width file (first_width before))
   shows_later first late width_is capabilities_is = record {
     section = shows_section;
-    same_widths = rw present_widths (subst (λ w. AllByRecursion (λ width. width ≡ w) (widths (present before))) (sym width_is) (facts.late late));
+    same_widths = rw present_widths (subst (λ w. AllByRecursion (λ width. width ≡ w) (widths (up_to_section before))) (sym width_is) (facts.late late));
     width = sym width_is;
     capabilities = sym now.known ∙ sym capabilities_is;
   }
@@ -95,11 +95,11 @@ pub record Closed (before : List Reading) : Type 0 where
 
 -- so do they with the present one
 closes : (before : List Reading) (file : RegisterFile) → IsClean before → StandsNow before file → Closed before
-    → Shows (done_in before ++ onto (present before) [] ∷ []) (files_in before ++ with_width file (first_width before) ∷ []) (first_width before) (value_given 0xfe (given (first_section before)))
+    → Shows (done_in before ++ onto (up_to_section before) [] ∷ []) (files_in before ++ with_width file (first_width before) ∷ []) (first_width before) (value_given 0xfe (given (first_section before)))
 closes before file clean now closed = elim (cases_Bool (is_later before)) [
   | inl late ↦
       let shows = closed.late late in
-      snoc_all (done_in before) (files_in before) (onto (present before) []) (with_width file (first_width before)) (first_width before) (value_given 0xfe (given (first_section before))) shows
+      snoc_all (done_in before) (files_in before) (onto (up_to_section before) []) (with_width file (first_width before)) (first_width before) (value_given 0xfe (given (first_section before))) shows
       (shows_later before clean file now (first_of (files_in before)) late shows.width_is shows.capabilities_is)
   | inr early ↦
       let none = closed.early early in
@@ -134,7 +134,7 @@ section_closed before number place clean closed = by (section_numbers before) re
 
     -- the first section begins
     begins : (found : Option RegisterFile) → section_numbers before ≡ [] → Leads before found
-        → (done_next (section_numbers before) (done_in before) (onto (present before) []) ≡ []) × (files_in before ++ file_with (first_width before) found ≡ [])
+        → (done_next (section_numbers before) (done_in before) (onto (up_to_section before) []) ≡ []) × (files_in before ++ map (λ file. with_width file (first_width before)) (option_to_list found) ≡ [])
     begins None none leads =
         let early : is_later before ≡ false = rw none refl in
         let files = (closed.early early).1 in
@@ -210,10 +210,17 @@ shown_file before file clean now =
         let all : length (files_in before ++ with_width file (first_width before) ∷ []) ≡ length (section_numbers before) = length-append (files_in before) (with_width file (first_width before) ∷ []) ∙ (omega (arith, size)) in
         rw two (numbers_up (section_numbers before) (files_in before ++ with_width file (first_width before) ∷ []) (clean_numbers before clean) all)
 
+-- the dump that lines lead to, where the present section's file is this one
+abbrev pub dump_from : List Reading → Option RegisterFile → Option Dump
+dump_from before found =
+    option_map
+    (λ file. record { version = version_of before; files = files_in before ++ with_width file (first_width before) ∷ [] })
+    found
+
 pub clean_shown : (before : List Reading) (dump : Dump) → IsClean before → dump_in before ≡ Some dump → ShownBy (onto before []) dump
 clean_shown before dump clean is = by (file_in before) (clean_stands before clean) is
   where
-    by : (found : Option RegisterFile) → Leads before found → dump_with (version_of before) (files_in before) (first_width before) found ≡ Some dump → ShownBy (onto before []) dump
+    by : (found : Option RegisterFile) → Leads before found → dump_from before found ≡ Some dump → ShownBy (onto before []) dump
     by None leads none = cc none
     by (Some file) now some =
         let e : record { version = version_of before; files = files_in before ++ with_width file (first_width before) ∷ [] } ≡ dump = cc some in
@@ -223,7 +230,7 @@ clean_shown before dump clean is = by (file_in before) (clean_stands before clea
 pub nothing_led : (before : List Reading) → IsClean before → dump_in before ≡ None → given before ≡ []
 nothing_led before clean is = by (file_in before) (clean_stands before clean) is
   where
-    by : (found : Option RegisterFile) → Leads before found → dump_with (version_of before) (files_in before) (first_width before) found ≡ None → given before ≡ []
+    by : (found : Option RegisterFile) → Leads before found → dump_from before found ≡ None → given before ≡ []
     by None leads none = leads.0
     by (Some file) now some = cc some
 
@@ -367,7 +374,7 @@ later_files first (s ∷ sections) (f ∷ files) shown =
 pub shown_is_dump : (says : List Reading) (dump : Dump) → AllByRecursion IsSane says → ShownBy says dump → IsDump dump
 shown_is_dump says dump sane shown = by (sections_of says) dump.files refl shown.sections refl
   where
-    known : (vs : List ℕ) → AllByRecursion (λ version. (1 ≤ version) × (version ≤ 2)) vs → (version_in vs ≡ 1) ⊎ (version_in vs ≡ 2)
+    known : (vs : List ℕ) → AllByRecursion (λ version. (1 ≤ version) × (version ≤ 2)) vs → (slice_index_or vs 0 1 ≡ 1) ⊎ (slice_index_or vs 0 1 ≡ 2)
     known [] all = inl refl
     known (v ∷ vs) all = elim (cases_Bool (v == 1)) [
       | inl one ↦ inl (eqb-true _ _ one)
@@ -434,7 +441,7 @@ no_more_versions (Err fault ∷ says) none = none
 pub one_section : (says : List Reading) (file : RegisterFile) → list_all is_ok says ≡ true → versions says ≡ [] → section_numbers says ≡ [] → ShowsFirst says file → ShownBy says (dump_of file)
 one_section says file good untold none shows = record {
   good = good;
-  version = ap version_in (sym untold);
+  version = ap (λ (versions : List ℕ). slice_index_or versions 0 1) (sym untold);
   told_first = no_more_versions says untold;
   numbers = none;
   inside = λ two. let e : 1 ≡ 2 = two in cc e;

@@ -28,13 +28,9 @@ register_line number value = number_text number ++ 32 ∷ value_text value
 abbrev pub file_lines : RegisterFile → List (List ℕ)
 file_lines file = width_line file.width ∷ register_line 0xfe file.capabilities ∷ map (λ register. register_line (number_of register) (value_of file register)) (writable file)
 
--- a number below 100 in decimal digits
-abbrev pub small_decimal : ℕ → List ℕ
-small_decimal number = if nat_lt number 10 then (48 + number) ∷ [] else (48 + number / 10) ∷ (48 + number % 10) ∷ []
-
--- `cpu` and the number of a section
+-- `cpu` and the number of a section in decimal digits, which is below 100
 abbrev pub section_line : ℕ → List ℕ
-section_line number = codes "cpu " ++ small_decimal number
+section_line number = codes "cpu " ++ (if nat_lt number 10 then (48 + number) ∷ [] else (48 + number / 10) ∷ (48 + number % 10) ∷ [])
 
 -- the sections of these files, of which the first has this number
 abbrev pub section_lines : ℕ → List RegisterFile → List (List ℕ)

@@ -24,17 +24,8 @@ fault_at reason place = record { reason = reason; place = place }
 abbrev pub place_of : ℕ → ℕ × List ℕ → Place
 place_of number word = record { line = number; column = word.0 + 1 }
 
--- the word `maxphyaddr`
-abbrev pub is_width_name : List ℕ → Bool
-is_width_name word = pointwise nat_eq word (codes "maxphyaddr")
-
--- the word `version`
-abbrev pub is_version_name : List ℕ → Bool
-is_version_name word = pointwise nat_eq word (codes "version")
-
--- the word `cpu`
-abbrev pub is_section_name : List ℕ → Bool
-is_section_name word = pointwise nat_eq word (codes "cpu")
+abbrev pub is_word : List ℕ → List ℕ → Bool
+is_word name word = pointwise nat_eq word name
 
 abbrev pub said_width : Place → Place → Result ℕ NumberFault → Reading
 said_width first second (Err NotDigit) = Err (fault_at BadNumber second)
@@ -61,9 +52,9 @@ said_register first second (Ok number) (Ok value) =
 
 abbrev pub said_pair : Place → Place → List ℕ → List ℕ → Reading
 said_pair first second name value =
-    if is_width_name name then said_width first second (decimal_number value 52)
-    else if is_version_name name then said_version first second (decimal_number value 2)
-    else if is_section_name name then said_section first second (decimal_number value 15)
+    if is_word (codes "maxphyaddr") name then said_width first second (decimal_number value 52)
+    else if is_word (codes "version") name then said_version first second (decimal_number value 2)
+    else if is_word (codes "cpu") name then said_section first second (decimal_number value 15)
     else said_register first second (hex_number name) (hex_number value)
 
 -- One `:` at the end of the first word is no part of it.

@@ -4,7 +4,7 @@
 -- 1 to 20 decimal digits of a width from 32 to 52. So there is no comment, no CR, no `:` and no `0x`.
 --     plain_line words      what a line of these words says
 --     PlainlyShown text file      the text has the plain form and shows the file
-use Rattle.std.specs.Prelude.{ℕ, ◌≡◌, ◌≤◌, ◌&&◌, nat_le, List, [], ◌∷◌, length, map, if◌then◌else◌, Option, Some, None}
+use Rattle.std.specs.Prelude.{codes, ℕ, ◌≡◌, ◌≤◌, ◌&&◌, nat_le, List, [], ◌∷◌, length, map, if◌then◌else◌, Option, Some, None}
 use Rattle.std.specs.List.{AllByRecursion}
 use Rattle.std.specs.Option.{option_map, option_and_then}
 use Rattle.hex.specs.Hex.{is_hex_digit}
@@ -12,7 +12,7 @@ use Rattle.mt_text.specs.Text.{between_blanks, lines_of}
 use Rattle.mt_text.specs.Number.{are_digits, hex_value, is_decimal_digit, decimal_value}
 use Rattle.mt_regs.specs.RegisterFile.{RegisterFile, IsRegisterFile, blank_file}
 use Rattle.mt_regs.specs.Registers.{value_at}
-use Rattle.mt_dump.specs.Line.{is_width_name}
+use Rattle.mt_dump.specs.Line.{is_word}
 use Rattle.mt_dump.specs.Dump.{times, width_of}
 
 -- what a line says: nothing, a register's number and value, or the width
@@ -34,7 +34,7 @@ plain_width word =
 
 abbrev pub plain_pair : List ℕ → List ℕ → Option PlainLine
 plain_pair name value =
-    if is_width_name name then option_map OfWidth (plain_width value)
+    if is_word (codes "maxphyaddr") name then option_map OfWidth (plain_width value)
     else option_and_then (λ number. option_map (OfRegister number) (plain_number value)) (plain_number name)
 
 abbrev pub plain_line : List (List ℕ) → Option PlainLine

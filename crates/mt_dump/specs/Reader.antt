@@ -2,9 +2,9 @@
 --     dump_in before      the dump that the lines lead to
 --     read_text text      the dump that the text shows, or its first offence
 --     dump_offence text      the first offence, with its reason and place
-use Rattle.std.specs.Prelude.{ℕ, ◌≡◌, ◌≤◌, ◌<◌, ◌-◌, ◌==◌, nat_lt, Bool, false, List, [], ◌∷◌, ◌++◌, length, ⊤, if◌then◌else◌, Option, Some, None, ok_or, Result, Ok, Err}
+use Rattle.std.specs.Prelude.{ℕ, ◌≡◌, ◌≤◌, ◌<◌, ◌-◌, ◌==◌, nat_lt, Bool, false, List, [], ◌∷◌, ◌++◌, length, ⊤, if◌then◌else◌, map, Option, Some, None, ok_or, option_to_list, unwrap_or, Result, Ok, Err}
 use Rattle.std.specs.List.{slice_index_or}
-use Rattle.std.specs.Option.{option_map, option_map_or}
+use Rattle.std.specs.Option.{option_and_then, option_map, option_map_or}
 use Rattle.std.specs.Result.{result_err}
 use Rattle.mt_text.specs.Text.{end_of}
 use Rattle.mt_text.specs.declared.place.Place.{Place}
@@ -12,7 +12,7 @@ use Rattle.mt_regs.specs.RegisterFile.{RegisterFile, low_byte, blank_file}
 use Rattle.mt_regs.specs.Registers.{written}
 use Rattle.mt_dump.specs.Line.{Reading, fault_at}
 use Rattle.mt_dump.specs.Dumps.{Dump}
-use Rattle.mt_dump.specs.Dump.{given, widths, times, version_of, said_by, is_given, is_spoken, present, section_count, first_width, offence_of}
+use Rattle.mt_dump.specs.Dump.{given, widths, times, version_of, said_by, is_given, is_spoken, up_to_section, section_count, first_width, offence_of}
 use Rattle.mt_dump.specs.declared.fault.DumpFault.{DumpFault}
 use Rattle.mt_dump.specs.declared.fault.DumpReason.TheVariants.{NoCap}
 use Rattle.mt_dump.specs.declared.said.Said.TheVariants.{Nothing, Version, Section, Width, Register}
@@ -34,41 +34,29 @@ IsClean (line ∷ before) = IsSane line × (offence_of before line ≡ None) × 
 abbrev pub with_width : RegisterFile → ℕ → RegisterFile
 with_width file width = record file { width = width }
 
--- The file after a register. A section that has a file keeps it where 0FEH is given again.
-abbrev pub after_register : Option RegisterFile → ℕ → ℕ → Option RegisterFile
-after_register None number value = if number == 0xfe then Some (blank_file 36 value) else None
-after_register (Some file) number value = if number == 0xfe then Some file else written file number value
-
--- the file of the next section
-abbrev pub after_section : Option RegisterFile → Option RegisterFile
-after_section file = option_map (λ f. blank_file 36 f.capabilities) file
-
--- the file that the lines of the present section lead to, but for its width
+-- The file that the lines of the present section lead to, but for its width. The next section begins with its capabilities.
+-- A section that has a file keeps it where 0FEH is given again.
 abbrev pub file_in : List Reading → Option RegisterFile
 file_in [] = None
-file_in (Ok (Register number value first second) ∷ before) = after_register (file_in before) number value
-file_in (Ok (Section number place) ∷ before) = after_section (file_in before)
+file_in (Ok (Register number value first second) ∷ before) =
+    if number == 0xfe then Some (unwrap_or (file_in before) (blank_file 36 value))
+    else option_and_then (λ file. written file number value) (file_in before)
+file_in (Ok (Section number place) ∷ before) = option_map (λ file. blank_file 36 file.capabilities) (file_in before)
 file_in (other ∷ before) = file_in before
-
--- the present section's file with this width, where there is one
-abbrev pub file_with : ℕ → Option RegisterFile → List RegisterFile
-file_with width None = []
-file_with width (Some file) = with_width file width ∷ []
 
 -- the files of the sections behind the present one, in order
 abbrev pub files_in : List Reading → List RegisterFile
 files_in [] = []
-files_in (Ok (Section number place) ∷ before) = files_in before ++ file_with (first_width before) (file_in before)
+files_in (Ok (Section number place) ∷ before) =
+    files_in before ++ map (λ file. with_width file (first_width before)) (option_to_list (file_in before))
 files_in (other ∷ before) = files_in before
 
--- a dump whose last file is this one with this width
-abbrev pub dump_with : ℕ → List RegisterFile → ℕ → Option RegisterFile → Option Dump
-dump_with version files width None = None
-dump_with version files width (Some file) = Some (record { version = version; files = files ++ with_width file width ∷ [] })
-
--- the dump that the lines lead to
+-- the dump that the lines lead to, if one of them gave 0FEH
 abbrev pub dump_in : List Reading → Option Dump
-dump_in before = dump_with (version_of before) (files_in before) (first_width before) (file_in before)
+dump_in before =
+    option_map
+    (λ file. record { version = version_of before; files = files_in before ++ with_width file (first_width before) ∷ [] })
+    (file_in before)
 
 -- What lines behind others lead to: the dump, or the first offence. 0FEH must have been given where they end.
 abbrev pub read_from : Place → List Reading → List Reading → Result Dump DumpFault
@@ -102,10 +90,10 @@ pub record HasRead (state : State) (before : List Reading) : Type 0 where
   pub files_is : state.files ≡ files_in before
   pub file_is : state.file ≡ file_in before
   pub width_is : state.width ≡ first_width before
-  pub has_width_is : state.has_width ≡ nat_lt 0 (length (widths (present before)))
-  pub has_capabilities_is : state.has_capabilities ≡ is_given 0xfe (present before)
+  pub has_width_is : state.has_width ≡ nat_lt 0 (length (widths (up_to_section before)))
+  pub has_capabilities_is : state.has_capabilities ≡ is_given 0xfe (up_to_section before)
   pub size : length state.marks ≡ 256
-  pub marked : (number : ℕ) → 0x200 ≤ number → number < 0x300 → slice_index_or state.marks (number - 0x200) false ≡ nat_lt 0 (times number (given (present before)))
+  pub marked : (number : ℕ) → 0x200 ≤ number → number < 0x300 → slice_index_or state.marks (number - 0x200) false ≡ nat_lt 0 (times number (given (up_to_section before)))
 
 -- the lines in their order, before others
 abbrev pub onto : {X : Type 0} → List X → List X → List X

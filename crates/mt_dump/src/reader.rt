@@ -8,7 +8,7 @@ ghost use Rattle.mt_regs.specs.RegisterFile.{blank_file, low_byte};
 ghost use Rattle.mt_dump.specs.declared.fault.DumpFault.{DumpFault};
 ghost use Rattle.mt_dump.specs.Line.{Reading, fault_at, said_of};
 ghost use Rattle.mt_dump.specs.Dumps.{Dump as DumpValue};
-ghost use Rattle.mt_dump.specs.Dump.{Shown, offence_of, offence_said, is_outside};
+ghost use Rattle.mt_dump.specs.Dump.{Shown, offence_of, is_outside};
 ghost use Rattle.mt_dump.specs.Reader.{HasRead, dump_in, dump_offence, read_from, with_width};
 
 use crate::dumps::Dump;
@@ -126,7 +126,7 @@ impl DumpReader {
         requires { (1 ≤ version) × (version ≤ 2) }
         ensures { (before : List Reading) → HasRead self.old before → MatchResult result
             (λ _. HasRead self.new (Ok (Said.Version version place) ∷ before))
-            (λ fault. (offence_said before (Said.Version version place) ≡ Some fault) × (self.new ≡ self.old)) }
+            (λ fault. (offence_of before (Ok (Said.Version version place)) ≡ Some fault) × (self.new ≡ self.old)) }
     {
         if self.spoken {
             return Err(fault(DumpReason::BadSection, place));
@@ -147,7 +147,7 @@ impl DumpReader {
         requires { number ≤ 15 }
         ensures { (before : List Reading) → HasRead self.old before → MatchResult result
             (λ _. HasRead self.new (Ok (Said.Section number place) ∷ before))
-            (λ fault. (offence_said before (Said.Section number place) ≡ Some fault) × (self.new ≡ self.old)) }
+            (λ fault. (offence_of before (Ok (Said.Section number place)) ≡ Some fault) × (self.new ≡ self.old)) }
     {
         if self.version != 2 || number != self.sections {
             return Err(fault(DumpReason::BadSection, place));
@@ -170,7 +170,7 @@ impl DumpReader {
         requires { (32 ≤ width) × (width ≤ 52) }
         ensures { (before : List Reading) → HasRead self.old before → MatchResult result
             (λ _. HasRead self.new (Ok (Said.Width width first second) ∷ before))
-            (λ fault. (offence_said before (Said.Width width first second) ≡ Some fault) × (self.new ≡ self.old)) }
+            (λ fault. (offence_of before (Ok (Said.Width width first second)) ≡ Some fault) × (self.new ≡ self.old)) }
     {
         if self.is_outside() {
             return Err(fault(DumpReason::BadSection, first));
@@ -196,7 +196,7 @@ impl DumpReader {
         requires { low_byte value ≤ 32 }
         ensures { (before : List Reading) → HasRead self.old before → MatchResult result
             (λ _. HasRead self.new (Ok (Said.Register 0xfe value first second) ∷ before))
-            (λ fault. (offence_said before (Said.Register 0xfe value first second) ≡ Some fault) × (self.new ≡ self.old)) }
+            (λ fault. (offence_of before (Ok (Said.Register 0xfe value first second)) ≡ Some fault) × (self.new ≡ self.old)) }
     {
         if self.is_outside() {
             return Err(fault(DumpReason::BadSection, first));
@@ -231,7 +231,7 @@ impl DumpReader {
         requires { number ≢ 0xfe }
         ensures { (before : List Reading) → HasRead self.old before → MatchResult result
             (λ _. HasRead self.new (Ok (Said.Register number value first second) ∷ before))
-            (λ fault. (offence_said before (Said.Register number value first second) ≡ Some fault) × (self.new ≡ self.old)) }
+            (λ fault. (offence_of before (Ok (Said.Register number value first second)) ≡ Some fault) × (self.new ≡ self.old)) }
     {
         if self.is_outside() {
             return Err(fault(DumpReason::BadSection, first));

@@ -10,12 +10,15 @@ use Rattle.std.proofs.lemmas.List.FromFn.{get_or-range_with_len, length-range_wi
 use Rattle.mt_ranges.specs.Match.{matches_pair}
 use Rattle.mt_regs.proofs.Decided.{a_first_fault_or_none_lem}
 use Rattle.mt_regs.specs.declared.fault.Fault.{Fault}
+use Rattle.mt_regs.specs.declared.fault.Reason.TheVariants.{UndefinedOverlap}
+use Rattle.mt_regs.specs.declared.registers.Register.TheVariants.{PhysBase}
+use Rattle.mt_regs.specs.Registers.{number_of}
 use Rattle.mt_regs.specs.declared.page_type.PageType.{PageType}
 use Rattle.mt_regs.specs.declared.page_type.PageType.TheVariants.{Kind, Undefined}
 use Rattle.mt_regs.specs.RegisterFile.{RegisterFile, page_count, pair_at}
 use Rattle.mt_regs.specs.PageTypes.{page_type}
 use Rattle.mt_regs.specs.Faults.{IsFirstFault, IsOverlapFault, MatchesUndefined, register_fault}
-use Rattle.mt_regs.specs.FirstFault.{first_fault, is_undefined, matches_undefined, overlap, overlap_fault, pages}
+use Rattle.mt_regs.specs.FirstFault.{first_fault, is_undefined, matches_undefined, overlap}
 
 -- ---- searches among numbers in ascending order
 
@@ -38,8 +41,8 @@ undefined_test : (kind : PageType) → is_undefined kind ≡ true → kind ≡ U
 undefined_test Undefined is = refl
 undefined_test (Kind t) is = absurd (cc)
 
-page_at : (f : RegisterFile) (i d : ℕ) → i < page_count f → get_or (pages f) i d ≡ i
-page_at f i d below = let is : get_or (pages f) i d ≡ 0 + i = get_or-range_with_len 0 (page_count f) i d below in omega (arith, is)
+page_at : (f : RegisterFile) (i d : ℕ) → i < page_count f → get_or (range_with_len 0 (page_count f)) i d ≡ i
+page_at f i d below = let is : get_or (range_with_len 0 (page_count f)) i d ≡ 0 + i = get_or-range_with_len 0 (page_count f) i d below in omega (arith, is)
 
 -- what is tested of a page
 abbrev tested : RegisterFile → ℕ → ℕ → Bool
@@ -55,19 +58,19 @@ tested_fails f n page below none = elim (cases_Bool (is_undefined (page_type f p
 ]
 
 matches_none : (f : RegisterFile) (n : ℕ) → (MatchesUndefined f n → ⊥) → matches_undefined f n ≡ false
-matches_none f n none = list_any_none (tested f n) (pages f) each
+matches_none f n none = list_any_none (tested f n) (range_with_len 0 (page_count f)) each
   where
-    each : (i d : ℕ) → i < length (pages f) → tested f n (get_or (pages f) i d) ≡ false
+    each : (i d : ℕ) → i < length (range_with_len 0 (page_count f)) → tested f n (get_or (range_with_len 0 (page_count f)) i d) ≡ false
     each i d within =
         let below : i < page_count f = omega (arith, within, length-range_with_len 0 (page_count f)) in
-        let is : get_or (pages f) i d ≡ i = page_at f i d below in
+        let is : get_or (range_with_len 0 (page_count f)) i d ≡ i = page_at f i d below in
         ap (tested f n) is ∙ tested_fails f n i below none
 
 matches_some : (f : RegisterFile) (n : ℕ) → MatchesUndefined f n → matches_undefined f n ≡ true
 matches_some f n (page, below, undefined, matches) =
-    let within : page < length (pages f) = omega (arith, below, length-range_with_len 0 (page_count f)) in
-    let is : get_or (pages f) page 0 ≡ page = page_at f page 0 below in
-    list_any_at (tested f n) (pages f) page 0 within (ap (tested f n) is ∙ rw undefined matches)
+    let within : page < length (range_with_len 0 (page_count f)) = omega (arith, below, length-range_with_len 0 (page_count f)) in
+    let is : get_or (range_with_len 0 (page_count f)) page 0 ≡ page = page_at f page 0 below in
+    list_any_at (tested f n) (range_with_len 0 (page_count f)) page 0 within (ap (tested f n) is ∙ rw undefined matches)
 
 -- a pair past the last one is zeros, which match no page
 is_pair : (f : RegisterFile) (n : ℕ) → MatchesUndefined f n → n < length f.pairs
@@ -80,6 +83,9 @@ is_pair f n (page, below, undefined, matches) = elim (cases_lt n (length f.pairs
 ]
 
 -- ---- the fault that is found
+
+abbrev overlap_fault : ℕ → Fault
+overlap_fault n = record { msr = number_of (PhysBase n); reason = UndefinedOverlap }
 
 found : (f : RegisterFile) (answer : Option Fault) → IsOverlapFault f answer → option_map overlap_fault (overlap f) ≡ answer
 found f None defined =

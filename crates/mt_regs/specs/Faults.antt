@@ -46,11 +46,8 @@ has_unsupported_type f DefaultType v = not (is_supported (has_write_combining f)
 
 -- a valid mask with a gap
 abbrev pub has_broken_mask : RegisterFile → Register → ℕ → Bool
-has_broken_mask f (PhysBase n) v = false
 has_broken_mask f (PhysMask n) v = is_bit_set v 11 && not (is_run (f.width - 12) (page_field f.width v))
-has_broken_mask f (FixedRange place) v = false
-has_broken_mask f Pat v = false
-has_broken_mask f DefaultType v = false
+has_broken_mask f other v = false
 
 abbrev pub reason_of : RegisterFile → Register → Option Reason
 reason_of f r =
@@ -71,6 +68,14 @@ first_of f (r ∷ rs) = option_or (fault_at r (reason_of f r)) (first_of f rs)
 abbrev pub register_fault : RegisterFile → Option Fault
 register_fault f = first_of f (writable f)
 
+-- each page of the physical address space has a defined type
+abbrev pub AreDefined : RegisterFile → Type 0
+AreDefined f = (page : ℕ) → page < page_count f → page_type f page ≢ Undefined
+
+-- no register has a fault of its own, and the types of all pages are defined
+abbrev pub IsAccepted : RegisterFile → Type 0
+IsAccepted f = MatchOption (register_fault f) (AreDefined f) (λ fault. None ≡ Some fault)
+
 -- pair n matches a page of no defined type
 abbrev pub MatchesUndefined : RegisterFile → ℕ → Type 0
 MatchesUndefined f n =
@@ -78,7 +83,7 @@ MatchesUndefined f n =
 
 -- the register of an undefined overlap is the base of the least pair that matches an undefined page
 abbrev pub IsOverlap : RegisterFile → Option ℕ → Type 0
-IsOverlap f None = (page : ℕ) → page < page_count f → page_type f page ≢ Undefined
+IsOverlap f None = AreDefined f
 IsOverlap f (Some number) =
     (n : ℕ) × (number ≡ number_of (PhysBase n)) × MatchesUndefined f n × ((k : ℕ) → k < n → MatchesUndefined f k → ⊥)
 
@@ -87,9 +92,6 @@ abbrev pub IsOverlapFault : RegisterFile → Option Fault → Type 0
 IsOverlapFault f None = IsOverlap f None
 IsOverlapFault f (Some fault) = (fault.reason ≡ UndefinedOverlap) × IsOverlap f (Some fault.msr)
 
--- the first fault of the file, or none where the file is accepted
+-- the first fault of the file, or none, exactly where the file is accepted
 abbrev pub IsFirstFault : RegisterFile → Option Fault → Type 0
 IsFirstFault f answer = MatchOption (register_fault f) (IsOverlapFault f answer) (λ fault. answer ≡ Some fault)
-
-abbrev pub IsAccepted : RegisterFile → Type 0
-IsAccepted f = IsFirstFault f None

@@ -1,5 +1,5 @@
 -- The first fault of a register file, as a function: what `IsFirstFault` says of one answer alone (own).
-use Rattle.std.specs.Prelude.{ℕ, Bool, true, false, ◌&&◌, List, length, Option}
+use Rattle.std.specs.Prelude.{ℕ, Bool, true, false, ◌&&◌, length, Option}
 use Rattle.std.specs.Option.{option_map, option_or}
 use Rattle.std.specs.List.{find, list_any, range_with_len}
 use Rattle.mt_ranges.specs.Match.{matches_pair}
@@ -17,21 +17,14 @@ abbrev pub is_undefined : PageType → Bool
 is_undefined Undefined = true
 is_undefined (Kind t) = false
 
--- the pages of the physical address space, each a number
-abbrev pub pages : RegisterFile → List ℕ
-pages f = range_with_len 0 (page_count f)
-
 -- pair n matches a page of no defined type
 abbrev pub matches_undefined : RegisterFile → ℕ → Bool
-matches_undefined f n = list_any (λ page. is_undefined (page_type f page) && matches_pair f.width (pair_at f.pairs n) page) (pages f)
+matches_undefined f n = list_any (λ page. is_undefined (page_type f page) && matches_pair f.width (pair_at f.pairs n) page) (range_with_len 0 (page_count f))
 
 -- the least pair that does
 abbrev pub overlap : RegisterFile → Option ℕ
 overlap f = find (matches_undefined f) (range_with_len 0 (length f.pairs))
 
-abbrev pub overlap_fault : ℕ → Fault
-overlap_fault n = record { msr = number_of (PhysBase n); reason = UndefinedOverlap }
-
 -- the first register with a fault of its own, or else the base of the least pair of an undefined overlap
 abbrev pub first_fault : RegisterFile → Option Fault
-first_fault f = option_or (register_fault f) (option_map overlap_fault (overlap f))
+first_fault f = option_or (register_fault f) (option_map (λ n. record { msr = number_of (PhysBase n); reason = UndefinedOverlap }) (overlap f))

@@ -13,10 +13,11 @@ use Rattle.mt_text.specs.declared.place.Place.{Place}
 use Rattle.mt_script.specs.Situation.{Situation, file_of, most_processors}
 use Rattle.mt_script.specs.Words.{text_of, place_of}
 use Rattle.mt_script.specs.Numbers.{fault_at, tested, limited, with, any, count_in, processor_in, value_in, aligned_in, physical_in, register_in, base_in, has_room, is_register, is_writable, address_limit}
-use Rattle.mt_script.specs.Rows.{is_word, row_of}
+use Rattle.mt_dump.specs.Line.{is_word}
+use Rattle.mt_script.specs.Rows.{row_of}
 use Rattle.mt_script.specs.Stages.{stands, takes_cpus, takes_windows, takes_commands, takes_registers, takes_end, is_in_dump}
 use Rattle.mt_script.specs.Shape.{shape_fault}
-use Rattle.mt_script.specs.Commands.{Answer, cpus_in, ram_in, load_in, store_in, map_in, invlpg_in, msr_in, switch_in, verb_answer, row_line, outside, register_line, is_end, in_section, in_dump, not_too_long, in_stage, command_of}
+use Rattle.mt_script.specs.Commands.{Answer, verb_answer, row_line, outside, register_line, is_end, in_section, ends_dump, not_too_long, in_stage, command_of}
 use Rattle.mt_script.specs.Accept.{Fits, IsAligned, IsFor}
 use Rattle.mt_dump.proofs.OneLine.{decimal_within}
 use Rattle.mt_script.proofs.Table.{row_all}
@@ -26,6 +27,7 @@ use Rattle.mt_script.specs.declared.command.Stage.TheVariants.{NeedCpus, NeedDum
 use Rattle.mt_script.specs.declared.command.Command.{Command}
 use Rattle.mt_script.specs.declared.command.Command.TheVariants as command
 use Rattle.mt_script.specs.declared.row.Row.{Row}
+use Rattle.mt_script.specs.declared.row.Verb.TheVariants as verb
 use Rattle.mt_script.specs.declared.fault.ScriptReason.{ScriptReason}
 use Rattle.mt_script.specs.declared.fault.ScriptReason.TheVariants.{OutOfRange, NotNow}
 use Rattle.mt_script.specs.declared.fault.ScriptFault.{ScriptFault}
@@ -82,32 +84,32 @@ module _ (now : Situation) (line : ℕ) (words : List (ℕ × List ℕ)) where
   for_count i first last next all = fits_with (Fits now) (count_in line words i first last) next
       (λ n is. all n (count_fact line words i first last n is))
 
-  cpus_fits : takes_cpus now.stage ≡ true → IfOk (cpus_in line words) (Fits now)
+  cpus_fits : takes_cpus now.stage ≡ true → IfOk (verb_answer now line words verb.Cpus) (Fits now)
   cpus_fits stage = for_count 1 1 16 (λ n. Ok (command.Cpus n)) (λ n range. (stage, range.0, range.1))
 
-  ram_fits : takes_windows now.stage ≡ true → IfOk (ram_in now line words) (Fits now)
+  ram_fits : takes_windows now.stage ≡ true → IfOk (verb_answer now line words verb.Ram) (Fits now)
   ram_fits stage = fits_with (Fits now) (base_in line words 1) _ (λ base is_base.
       for_count 2 1 4096 _ (λ lines range.
       fits_if (Fits now) (has_room now base lines) (Ok (command.Ram base lines)) (Err (fault_at OutOfRange (place_of line words 2)))
       (λ room. (stage, eqb-true (base % 64) 0 (tested_fact (value_in line words 1) OutOfRange (place_of line words 1) (λ base. base % 64 == 0) base is_base).1, range.0, range.1, room))
       (λ miss. tt)))
 
-  load_fits : takes_commands now.stage ≡ true → IfOk (load_in now line words) (Fits now)
+  load_fits : takes_commands now.stage ≡ true → IfOk (verb_answer now line words verb.Load) (Fits now)
   load_fits stage = for_processor _ (λ k known. for_aligned 2 8 (2 ^ 48) _ (λ address good. ((stage, known), good)))
 
-  store_fits : takes_commands now.stage ≡ true → IfOk (store_in now line words) (Fits now)
+  store_fits : takes_commands now.stage ≡ true → IfOk (verb_answer now line words verb.Store) (Fits now)
   store_fits stage = for_processor _ (λ k known. for_aligned 2 8 (2 ^ 48) _ (λ address good.
       fits_with (Fits now) (value_in line words 3) _ (λ value is. ((stage, known), good, value_fact line words 3 value is))))
 
-  map_fits : takes_commands now.stage ≡ true → IfOk (map_in now line words) (Fits now)
+  map_fits : takes_commands now.stage ≡ true → IfOk (verb_answer now line words verb.Map) (Fits now)
   map_fits stage = for_processor _ (λ k known. for_aligned 2 4096 (2 ^ 48) _ (λ address good.
       for_aligned 3 4096 (address_limit (file_of now)) _ (λ physical fine.
       for_count 4 0 7 _ (λ index range. ((stage, known), good, fine, range.1)))))
 
-  invlpg_fits : takes_commands now.stage ≡ true → IfOk (invlpg_in now line words) (Fits now)
+  invlpg_fits : takes_commands now.stage ≡ true → IfOk (verb_answer now line words verb.Invlpg) (Fits now)
   invlpg_fits stage = for_processor _ (λ k known. for_aligned 2 1 (2 ^ 48) _ (λ address good. ((stage, known), good)))
 
-  msr_fits : takes_commands now.stage ≡ true → IfOk (msr_in now line words) (Fits now)
+  msr_fits : takes_commands now.stage ≡ true → IfOk (verb_answer now line words verb.Msr) (Fits now)
   msr_fits stage = for_processor _ (λ k known. fits_with (Fits now) (register_in now line words 2) _ (λ msr is.
       ((stage, known), (tested_fact (value_in line words 2) ScriptReason.UnknownRegister (place_of line words 2) (is_register (file_of now)) msr is).1)))
 
@@ -136,10 +138,10 @@ module _ (now : Situation) (line : ℕ) (words : List (ℕ × List ℕ)) where
       cr3 : takes_commands now.stage ≡ true → IfOk (with (processor_in now line words 1) (λ k. Ok (command.Cr3 k))) (Fits now)
       cr3 stage = one_fits (λ k. command.Cr3 k) stage (λ k is. is)
 
-      pge : takes_commands now.stage ≡ true → IfOk (switch_in command.Pge now line words) (Fits now)
+      pge : takes_commands now.stage ≡ true → IfOk (verb_answer now line words verb.Pge) (Fits now)
       pge stage = one_fits (λ k. command.Pge k (is_word (codes "on") (text_of words 2))) stage (λ k is. is)
 
-      cd : takes_commands now.stage ≡ true → IfOk (switch_in command.Cd now line words) (Fits now)
+      cd : takes_commands now.stage ≡ true → IfOk (verb_answer now line words verb.Cd) (Fits now)
       cd stage = one_fits (λ k. command.Cd k (is_word (codes "on") (text_of words 2))) stage (λ k is. is)
 
       step : takes_commands now.stage ≡ true → IfOk (with (processor_in now line words 1) (λ k. Ok (command.Step k))) (Fits now)
@@ -168,10 +170,9 @@ module _ (now : Situation) (line : ℕ) (words : List (ℕ × List ℕ)) where
       fits_if (Fits now) (nat_lt 2 (length words)) _ _ (λ long. tt) (λ two. register_fits stage))))
 
 module _ (now : Situation) (line : ℕ) (bytes : List ℕ) where
-  dump_fits : is_in_dump now.stage ≡ true → takes_end now.stage ≡ true → IfOk (in_dump bytes) (Fits now)
-  dump_fits stage ends =
-      fits_if (Fits now) (is_too_long bytes) _ _ (λ long. stage) (λ short.
-      fits_if (Fits now) (is_end (words_of bytes)) _ _ (λ end. ends) (λ more. stage))
+  dump_fits : is_in_dump now.stage ≡ true → takes_end now.stage ≡ true → (last : Bool) → Fits now (if last then command.End else command.DumpLine)
+  dump_fits stage ends true = ends
+  dump_fits stage ends false = stage
 
   short_fits : (answer : Answer) → IfOk answer (Fits now) → IfOk (not_too_long line bytes answer) (Fits now)
   short_fits answer fits = fits_if (Fits now) (is_too_long bytes) _ _ (λ long. tt) (λ short. fits)
@@ -188,7 +189,7 @@ module _ (now : Situation) (line : ℕ) (bytes : List ℕ) where
       by : (stage : Stage) → now.stage ≡ stage → IfOk (in_stage now line bytes stage) (Fits now)
       by NeedCpus is = plain (rw is refl)
       by NeedDump is = plain (rw is refl)
-      by InDump is = dump_fits (rw is refl) (rw is refl)
+      by InDump is = dump_fits (rw is refl) (rw is refl) (ends_dump bytes)
       by Rams is = plain (rw is refl)
       by Commands is = plain (rw is refl)
       by InUpdate is = section (rw is refl) (rw is refl) (rw is refl)

@@ -3,7 +3,7 @@ use Rattle.std.proofs.Common.{◌≡◌, refl, ℕ, Bool, true, false, List, [],
 use Rattle.std.specs.Prelude.{if◌then◌else◌, ⊤}
 use Rattle.std.specs.Option.{option_map_or}
 use Rattle.std.specs.Result.{IfOk}
-use Rattle.mt_text.specs.Text.{is_too_long, words_of}
+use Rattle.mt_text.specs.Text.{words_of}
 use Rattle.mt_text.specs.declared.place.Place.{Place}
 use Rattle.mt_dump.specs.Dumps.{Dump}
 use Rattle.mt_dump.specs.ForProcessors.{has_each}
@@ -19,7 +19,7 @@ use Rattle.mt_script.specs.Words.{place_of}
 use Rattle.mt_script.specs.Numbers.{fault_at}
 use Rattle.mt_script.specs.Kept.{IsSituation}
 use Rattle.mt_script.specs.Accept.{Fits, accepted}
-use Rattle.mt_script.specs.Commands.{command_of, in_stage, is_end}
+use Rattle.mt_script.specs.Commands.{command_of, in_stage}
 use Rattle.mt_script.specs.Head.{HeadStep, end_step, ends_dump, goes_on, head_step, is_end_command, offends, shows, step_in_dump, step_of_answer, step_of_command}
 use Rattle.mt_script.specs.declared.command.Stage.{Stage}
 use Rattle.mt_script.specs.declared.command.Stage.TheVariants.{NeedCpus, NeedDump, InDump, Rams, Commands, InUpdate, InBegin}
@@ -36,14 +36,12 @@ module _ (now : Situation) (before : List Reading) (number : ℕ) (line : List �
   pub head_in_dump : is_in_dump now.stage ≡ true → head_step now before number line ≡ step_in_dump now before number line (ends_dump line)
   head_in_dump dump = of_stage now.stage dump
     where
-      of_line : (long ends : Bool) → step_of_answer now before number line (if long then Ok command.DumpLine else if ends then Ok command.End else Ok command.DumpLine)
-          ≡ step_in_dump now before number line (if long then false else ends)
-      of_line true ends = rw dump refl
-      of_line false true = rw dump refl
-      of_line false false = rw dump refl
+      of_line : (ends : Bool) → step_of_answer now before number line (Ok (if ends then command.End else command.DumpLine)) ≡ step_in_dump now before number line ends
+      of_line true = rw dump refl
+      of_line false = rw dump refl
 
       of_stage : (stage : Stage) → is_in_dump stage ≡ true → step_of_answer now before number line (in_stage now number line stage) ≡ step_in_dump now before number line (ends_dump line)
-      of_stage InDump is = of_line (is_too_long line) (is_end (words_of line))
+      of_stage InDump is = of_line (ends_dump line)
       of_stage NeedCpus is = cc is
       of_stage NeedDump is = cc is
       of_stage Rams is = cc is

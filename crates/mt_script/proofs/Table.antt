@@ -2,7 +2,8 @@
 use Rattle.std.proofs.Common.{◌≡◌, ℕ, ◌≤◌, refl, Bool, true, false, List, [], ◌∷◌, Some, lit≤}
 use Rattle.std.specs.Prelude.{if◌then◌else◌, IfSome}
 use Rattle.std.specs.List.{AllByRecursion}
-use Rattle.mt_script.specs.Rows.{is_word, table, row_in, row_of}
+use Rattle.mt_dump.specs.Line.{is_word}
+use Rattle.mt_script.specs.Rows.{table, row_in, row_of}
 use Rattle.mt_script.specs.declared.row.Row.{Row}
 
 row_in_all : (P : Row → Type 0) (entries : List (List ℕ × Row)) (word : List ℕ) → AllByRecursion (λ entry. P entry.1) entries → IfSome (row_in word entries) P

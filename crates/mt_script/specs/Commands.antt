@@ -11,7 +11,8 @@ use Rattle.mt_text.specs.declared.place.Place.{Place}
 use Rattle.mt_script.specs.Situation.{Situation, file_of}
 use Rattle.mt_script.specs.Words.{text_of, place_of}
 use Rattle.mt_script.specs.Numbers.{fault_at, any, with, count_in, processor_in, value_in, virtual_in, physical_in, register_in, base_in, has_room, is_writable}
-use Rattle.mt_script.specs.Rows.{is_word, row_of}
+use Rattle.mt_dump.specs.Line.{is_word}
+use Rattle.mt_script.specs.Rows.{row_of}
 use Rattle.mt_script.specs.Stages.{stands, takes_commands}
 use Rattle.mt_script.specs.Shape.{shape_fault}
 use Rattle.mt_script.specs.declared.command.Stage.{Stage}
@@ -27,76 +28,33 @@ use Rattle.mt_script.specs.declared.fault.ScriptFault.{ScriptFault}
 abbrev pub Answer : Type 0
 Answer = Result Command ScriptFault
 
--- The numbers of a line of each verb, from left to right, and the command that it asks for.
-abbrev pub cpus_in : ℕ → List (ℕ × List ℕ) → Answer
-cpus_in line words = with (count_in line words 1 1 16) (λ n. Ok (command.Cpus n))
-
-abbrev pub ram_in : Situation → ℕ → List (ℕ × List ℕ) → Answer
-ram_in now line words =
-    with (base_in line words 1) (λ base.
-    with (count_in line words 2 1 most_lines) (λ lines.
-    if has_room now base lines then Ok (command.Ram base lines) else Err (fault_at OutOfRange (place_of line words 2))))
-
-abbrev pub load_in : Situation → ℕ → List (ℕ × List ℕ) → Answer
-load_in now line words =
-    with (processor_in now line words 1) (λ k.
-    with (virtual_in line words 2 8) (λ address.
-    Ok (command.Load k address)))
-
-abbrev pub store_in : Situation → ℕ → List (ℕ × List ℕ) → Answer
-store_in now line words =
-    with (processor_in now line words 1) (λ k.
-    with (virtual_in line words 2 8) (λ address.
-    with (value_in line words 3) (λ value.
-    Ok (command.Store k address value))))
-
-abbrev pub map_in : Situation → ℕ → List (ℕ × List ℕ) → Answer
-map_in now line words =
-    with (processor_in now line words 1) (λ k.
-    with (virtual_in line words 2 page_bytes) (λ address.
-    with (physical_in now line words 3 page_bytes) (λ physical.
-    with (count_in line words 4 0 7) (λ index.
-    Ok (command.Map k address physical index (is_word (codes "global") (text_of words 5)))))))
-
-abbrev pub invlpg_in : Situation → ℕ → List (ℕ × List ℕ) → Answer
-invlpg_in now line words =
-    with (processor_in now line words 1) (λ k.
-    with (virtual_in line words 2 1) (λ address.
-    Ok (command.Invlpg k address)))
-
-abbrev pub switch_in : (ℕ → Bool → Command) → Situation → ℕ → List (ℕ × List ℕ) → Answer
-switch_in make now line words = with (processor_in now line words 1) (λ k. Ok (make k (is_word (codes "on") (text_of words 2))))
-
-abbrev pub msr_in : Situation → ℕ → List (ℕ × List ℕ) → Answer
-msr_in now line words =
-    with (processor_in now line words 1) (λ k.
-    with (register_in now line words 2) (λ register.
-    Ok (command.Msr k register)))
-
+-- the numbers of a line of each verb, from left to right, and the command that it asks for
 abbrev pub verb_answer : Situation → ℕ → List (ℕ × List ℕ) → Verb → Answer
-verb_answer now line words verb.Cpus = cpus_in line words
-verb_answer now line words verb.Dump = Ok command.Dump
-verb_answer now line words verb.Ram = ram_in now line words
+verb_answer now line words (verb.Bare c) = Ok c
+verb_answer now line words verb.Cpus = with (count_in line words 1 1 16) (λ n. Ok (command.Cpus n))
+verb_answer now line words verb.Ram =
+    with (base_in line words 1) (λ base. with (count_in line words 2 1 most_lines) (λ lines.
+    if has_room now base lines then Ok (command.Ram base lines) else Err (fault_at OutOfRange (place_of line words 2))))
 verb_answer now line words verb.Selfsnoop = with (processor_in now line words 1) (λ k. Ok (command.Selfsnoop k))
-verb_answer now line words verb.Load = load_in now line words
-verb_answer now line words verb.Store = store_in now line words
+verb_answer now line words verb.Load =
+    with (processor_in now line words 1) (λ k. with (virtual_in line words 2 8) (λ address. Ok (command.Load k address)))
+verb_answer now line words verb.Store =
+    with (processor_in now line words 1) (λ k. with (virtual_in line words 2 8) (λ address.
+    with (value_in line words 3) (λ value. Ok (command.Store k address value))))
 verb_answer now line words verb.Fence = with (processor_in now line words 1) (λ k. Ok (command.Fence k))
-verb_answer now line words verb.Map = map_in now line words
-verb_answer now line words verb.Invlpg = invlpg_in now line words
+verb_answer now line words verb.Map =
+    with (processor_in now line words 1) (λ k. with (virtual_in line words 2 page_bytes) (λ address.
+    with (physical_in now line words 3 page_bytes) (λ physical. with (count_in line words 4 0 7) (λ index.
+    Ok (command.Map k address physical index (is_word (codes "global") (text_of words 5)))))))
+verb_answer now line words verb.Invlpg =
+    with (processor_in now line words 1) (λ k. with (virtual_in line words 2 1) (λ address. Ok (command.Invlpg k address)))
 verb_answer now line words verb.Cr3 = with (processor_in now line words 1) (λ k. Ok (command.Cr3 k))
-verb_answer now line words verb.Pge = switch_in command.Pge now line words
-verb_answer now line words verb.Cd = switch_in command.Cd now line words
-verb_answer now line words verb.Update = Ok command.Update
-verb_answer now line words verb.Begin = Ok command.Begin
-verb_answer now line words verb.Go = Ok command.Go
-verb_answer now line words verb.Cancel = Ok command.Cancel
-verb_answer now line words verb.Report = Ok command.Report
+verb_answer now line words verb.Pge = with (processor_in now line words 1) (λ k. Ok (command.Pge k (is_word (codes "on") (text_of words 2))))
+verb_answer now line words verb.Cd = with (processor_in now line words 1) (λ k. Ok (command.Cd k (is_word (codes "on") (text_of words 2))))
 verb_answer now line words verb.Step = with (processor_in now line words 1) (λ k. Ok (command.Step k))
-verb_answer now line words verb.Up = Ok command.Up
-verb_answer now line words verb.Join = Ok command.Join
-verb_answer now line words verb.Retire = Ok command.Retire
 verb_answer now line words verb.Word = with (physical_in now line words 1 8) (λ address. Ok (command.Word address))
-verb_answer now line words verb.Msr = msr_in now line words
+verb_answer now line words verb.Msr =
+    with (processor_in now line words 1) (λ k. with (register_in now line words 2) (λ register. Ok (command.Msr k register)))
 
 -- a line of a row: its words, its stage, its numbers
 abbrev pub row_line : Situation → ℕ → List (ℕ × List ℕ) → Option Row → Answer
@@ -111,19 +69,13 @@ outside now line words =
     if length words == 0 then Ok command.Blank
     else row_line now line words (row_of (text_of words 0))
 
--- a register and a value
-abbrev pub register_value : Situation → Place → ℕ → ℕ → Answer
-register_value now first number value =
-    if is_writable (file_of now) number then
-    (if is_member nat_eq now.seen number then Err (fault_at Repeated first) else Ok (command.Register number value))
-    else Err (fault_at UnknownRegister first)
-
 -- One `:` at the end of the first word is no part of it.
 abbrev pub register_line : Situation → ℕ → List (ℕ × List ℕ) → Answer
 register_line now line words =
-    with (any (place_of line words 0) (hex_number (without_ending 58 (text_of words 0)))) (λ number.
-    with (value_in line words 1) (λ value.
-    register_value now (place_of line words 0) number value))
+    with (any (place_of line words 0) (hex_number (without_ending 58 (text_of words 0)))) (λ number. with (value_in line words 1) (λ value.
+    if is_writable (file_of now) number then
+    (if is_member nat_eq now.seen number then Err (fault_at Repeated (place_of line words 0)) else Ok (command.Register number value))
+    else Err (fault_at UnknownRegister (place_of line words 0))))
 
 -- the only word is `end`
 abbrev pub is_end : List (ℕ × List ℕ) → Bool
@@ -138,16 +90,17 @@ in_section now line words =
     else if nat_lt 2 (length words) then Err (fault_at BadLine (place_of line words 2))
     else register_line now line words
 
--- a line of the dump, which has no fault here
-abbrev pub in_dump : List ℕ → Answer
-in_dump bytes = if is_too_long bytes then Ok command.DumpLine else if is_end (words_of bytes) then Ok command.End else Ok command.DumpLine
+-- the line's only word is `end`, and it isn't too long
+abbrev pub ends_dump : List ℕ → Bool
+ends_dump line = if is_too_long line then false else is_end (words_of line)
 
 -- a line that isn't one of the dump
 abbrev pub not_too_long : ℕ → List ℕ → Answer → Answer
 not_too_long line bytes answer = if is_too_long bytes then Err (fault_at BadLine (past_limit line)) else answer
 
+-- A line of the dump has no fault here.
 abbrev pub in_stage : Situation → ℕ → List ℕ → Stage → Answer
-in_stage now line bytes InDump = in_dump bytes
+in_stage now line bytes InDump = Ok (if ends_dump bytes then command.End else command.DumpLine)
 in_stage now line bytes InUpdate = not_too_long line bytes (in_section now line (words_of bytes))
 in_stage now line bytes InBegin = not_too_long line bytes (in_section now line (words_of bytes))
 in_stage now line bytes other = not_too_long line bytes (outside now line (words_of bytes))

@@ -3,7 +3,7 @@
 --     end_step cpus place answer      at the dump's end, by what its lines are read as
 use Rattle.std.specs.Prelude.{ℕ, ◌≡◌, Bool, true, false, List, [], ◌∷◌, if◌then◌else◌, Option, Result, Ok, Err, MatchOption, MatchResult}
 use Rattle.std.specs.Option.{option_map_or}
-use Rattle.mt_text.specs.Text.{is_too_long, words_of}
+use Rattle.mt_text.specs.Text.{words_of}
 use Rattle.mt_text.specs.declared.place.Place.{Place}
 use Rattle.mt_dump.specs.Dumps.{Dump}
 use Rattle.mt_dump.specs.ForProcessors.{has_each}
@@ -15,7 +15,8 @@ use Rattle.mt_script.specs.Situation.{Situation}
 use Rattle.mt_script.specs.Stages.{is_in_dump}
 use Rattle.mt_script.specs.Words.{place_of}
 use Rattle.mt_script.specs.Numbers.{fault_at}
-use Rattle.mt_script.specs.Commands.{command_of, is_end}
+use Rattle.mt_script.specs.Commands.{command_of}
+pub use Rattle.mt_script.specs.Commands.{ends_dump}
 use Rattle.mt_script.specs.Accept.{accepted}
 use Rattle.mt_script.specs.declared.command.Command.{Command}
 use Rattle.mt_script.specs.declared.command.Command.TheVariants as command
@@ -41,10 +42,6 @@ step_in_dump now before number line true =
     end_step now.cpus (place_of number (words_of line) 0) (read_from (place_of number (words_of line) 0) before [])
 step_in_dump now before number line false =
     option_map_or (λ fault. offends (offence.Dump fault)) (offence_of before (said_of number line)) (goes_on now (said_of number line ∷ before))
-
--- the line's only word is `end`, and it isn't too long
-abbrev pub ends_dump : List ℕ → Bool
-ends_dump line = if is_too_long line then false else is_end (words_of line)
 
 -- a line of the dump
 abbrev pub dump_step : Situation → List Reading → ℕ → List ℕ → HeadStep

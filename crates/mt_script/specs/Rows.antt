@@ -1,18 +1,16 @@
 -- The table of the lines that may stand outside the sections (own).
 --     table      each first word with its row
 --     row_of word      the row whose first word this is
-use Rattle.std.specs.Prelude.{ℕ, ◌||◌, Bool, true, nat_eq, codes, List, [], ◌∷◌, if◌then◌else◌, Option, Some, None}
-use Rattle.std.specs.Cmp.Lexicographic.{pointwise}
+use Rattle.std.specs.Prelude.{ℕ, ◌||◌, Bool, true, codes, List, [], ◌∷◌, if◌then◌else◌, Option, Some, None}
+use Rattle.mt_dump.specs.Line.{is_word}
 use Rattle.mt_script.specs.declared.row.Verb.{Verb}
 use Rattle.mt_script.specs.declared.row.Verb.TheVariants as verb
+use Rattle.mt_script.specs.declared.command.Command.TheVariants as command
 use Rattle.mt_script.specs.declared.row.Last.{Last}
 use Rattle.mt_script.specs.declared.row.Last.TheVariants.{Any, Global, Switch}
 use Rattle.mt_script.specs.declared.row.Turn.{Turn}
 use Rattle.mt_script.specs.declared.row.Turn.TheVariants.{Cpus, Dump, Windows, Commands}
 use Rattle.mt_script.specs.declared.row.Row.{Row}
-
-abbrev pub is_word : List ℕ → List ℕ → Bool
-is_word name word = pointwise nat_eq word name
 
 -- lines of so many words
 abbrev pub plain : Verb → ℕ → Turn → Row
@@ -22,7 +20,7 @@ plain verb count turn = record { verb = verb; least = count; most = count; last 
 abbrev pub table : List (List ℕ × Row)
 table =
     (codes "cpus", plain verb.Cpus 2 Cpus)
-    ∷ (codes "dump", plain verb.Dump 1 Dump)
+    ∷ (codes "dump", plain (verb.Bare command.Dump) 1 Dump)
     ∷ (codes "ram", plain verb.Ram 3 Windows)
     ∷ (codes "selfsnoop", plain verb.Selfsnoop 2 Windows)
     ∷ (codes "load", plain verb.Load 3 Commands)
@@ -33,15 +31,15 @@ table =
     ∷ (codes "cr3", plain verb.Cr3 2 Commands)
     ∷ (codes "pge", record (plain verb.Pge 3 Commands) { last = Switch })
     ∷ (codes "cd", record (plain verb.Cd 3 Commands) { last = Switch })
-    ∷ (codes "update", plain verb.Update 1 Commands)
-    ∷ (codes "begin", plain verb.Begin 1 Commands)
-    ∷ (codes "go", plain verb.Go 1 Commands)
-    ∷ (codes "cancel", plain verb.Cancel 1 Commands)
-    ∷ (codes "report", plain verb.Report 1 Commands)
+    ∷ (codes "update", plain (verb.Bare command.Update) 1 Commands)
+    ∷ (codes "begin", plain (verb.Bare command.Begin) 1 Commands)
+    ∷ (codes "go", plain (verb.Bare command.Go) 1 Commands)
+    ∷ (codes "cancel", plain (verb.Bare command.Cancel) 1 Commands)
+    ∷ (codes "report", plain (verb.Bare command.Report) 1 Commands)
     ∷ (codes "step", plain verb.Step 2 Commands)
-    ∷ (codes "up", plain verb.Up 1 Commands)
-    ∷ (codes "join", plain verb.Join 1 Commands)
-    ∷ (codes "retire", plain verb.Retire 1 Commands)
+    ∷ (codes "up", plain (verb.Bare command.Up) 1 Commands)
+    ∷ (codes "join", plain (verb.Bare command.Join) 1 Commands)
+    ∷ (codes "retire", plain (verb.Bare command.Retire) 1 Commands)
     ∷ (codes "word", plain verb.Word 2 Commands)
     ∷ (codes "msr", plain verb.Msr 3 Commands)
     ∷ []
@@ -54,12 +52,8 @@ row_in word (entry ∷ entries) = if is_word entry.0 word then Some entry.1 else
 abbrev pub row_of : List ℕ → Option Row
 row_of word = row_in word table
 
--- the word is `on` or `off`
-abbrev pub is_switch : List ℕ → Bool
-is_switch word = is_word (codes "on") word || is_word (codes "off") word
-
 -- a word may stand last
 abbrev pub fits : Last → List ℕ → Bool
 fits Any word = true
 fits Global word = is_word (codes "global") word
-fits Switch word = is_switch word
+fits Switch word = is_word (codes "on") word || is_word (codes "off") word

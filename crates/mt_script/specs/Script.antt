@@ -23,21 +23,17 @@ use Rattle.mt_script.specs.declared.fault.Offence.TheVariants.{Script}
 abbrev pub Rest : Type 0
 Rest = Situation → List Reading → Option Offence
 
--- from a step on
+-- a line's offence, by its step, or else the first of the lines behind it, which the rest answers
 abbrev pub offence_after : Situation → Rest → HeadStep → Option Offence
 offence_after now rest (goes_on next after) = rest next after
 offence_after now rest (shows dump) = rest (finished now dump) []
 offence_after now rest (offends o) = Some o
 
--- a line's offence, or else the first of the lines behind it, which the rest answers
-abbrev pub offence_from : Situation → List Reading → ℕ → List ℕ → Rest → Option Offence
-offence_from now before number line rest = offence_after now rest (head_step now before number line)
-
 -- the first offence of lines, the first of which has this number, where the text ends at this place
 abbrev pub offence_in : Place → ℕ → List (List ℕ) → Rest
 offence_in end number [] now before = option_map Script (end_fault now.stage end)
 offence_in end number (line ∷ lines) now before =
-    offence_from now before number line (offence_in end (number + 1) lines)
+    offence_after now (offence_in end (number + 1) lines) (head_step now before number line)
 
 abbrev pub script_offence : List ℕ → Option Offence
 script_offence text = offence_in (end_of text) 1 (lines_of text) at_start []

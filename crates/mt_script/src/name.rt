@@ -1,9 +1,10 @@
 ghost use Rattle.std.specs.Prelude.{◌≡◌, codes};
-ghost use Rattle.mt_script.specs.Rows.{row_of, is_word, plain};
+ghost use Rattle.mt_dump.specs.Line.{is_word};
+ghost use Rattle.mt_script.specs.Rows.{row_of, plain};
 ghost use Rattle.mt_script.specs.Stages.{is_in_dump, stands, takes_commands};
 
-use crate::Stage;
 use crate::row::{Last, Row, Turn, Verb};
+use crate::{Command, Stage};
 
 /// Whether a word has these bytes.
 pub fn is_word(word: &[u8], name: &[u8]) -> bool
@@ -67,7 +68,7 @@ fn find_row(word: &[u8]) -> Option<Row>
     if is_word(word, b"cpus") {
         Some(plain(Verb::Cpus, 2, Turn::Cpus))
     } else if is_word(word, b"dump") {
-        Some(plain(Verb::Dump, 1, Turn::Dump))
+        Some(plain(Verb::Bare(Command::Dump), 1, Turn::Dump))
     } else if is_word(word, b"ram") {
         Some(plain(Verb::Ram, 3, Turn::Windows))
     } else if is_word(word, b"selfsnoop") {
@@ -99,23 +100,23 @@ fn find_row(word: &[u8]) -> Option<Row>
             ..plain(Verb::Cd, 3, Turn::Commands)
         })
     } else if is_word(word, b"update") {
-        Some(plain(Verb::Update, 1, Turn::Commands))
+        Some(plain(Verb::Bare(Command::Update), 1, Turn::Commands))
     } else if is_word(word, b"begin") {
-        Some(plain(Verb::Begin, 1, Turn::Commands))
+        Some(plain(Verb::Bare(Command::Begin), 1, Turn::Commands))
     } else if is_word(word, b"go") {
-        Some(plain(Verb::Go, 1, Turn::Commands))
+        Some(plain(Verb::Bare(Command::Go), 1, Turn::Commands))
     } else if is_word(word, b"cancel") {
-        Some(plain(Verb::Cancel, 1, Turn::Commands))
+        Some(plain(Verb::Bare(Command::Cancel), 1, Turn::Commands))
     } else if is_word(word, b"report") {
-        Some(plain(Verb::Report, 1, Turn::Commands))
+        Some(plain(Verb::Bare(Command::Report), 1, Turn::Commands))
     } else if is_word(word, b"step") {
         Some(plain(Verb::Step, 2, Turn::Commands))
     } else if is_word(word, b"up") {
-        Some(plain(Verb::Up, 1, Turn::Commands))
+        Some(plain(Verb::Bare(Command::Up), 1, Turn::Commands))
     } else if is_word(word, b"join") {
-        Some(plain(Verb::Join, 1, Turn::Commands))
+        Some(plain(Verb::Bare(Command::Join), 1, Turn::Commands))
     } else if is_word(word, b"retire") {
-        Some(plain(Verb::Retire, 1, Turn::Commands))
+        Some(plain(Verb::Bare(Command::Retire), 1, Turn::Commands))
     } else if is_word(word, b"word") {
         Some(plain(Verb::Word, 2, Turn::Commands))
     } else if is_word(word, b"msr") {

@@ -3,11 +3,10 @@ ghost use Rattle.std.specs.Set.{is_member};
 ghost use Rattle.std.specs.Result.{IfOk};
 ghost use Rattle.mt_script.specs.Accept.{Fits};
 ghost use Rattle.mt_text.specs.Text.{is_too_long, past_limit, words_of};
-ghost use Rattle.mt_script.specs.Commands.{command_of, outside, in_section, in_dump, verb_answer, cpus_in, load_in, store_in, map_in, invlpg_in, switch_in, msr_in, ram_in, register_line, register_value, is_end, end_fault};
-ghost use Rattle.mt_script.specs.Head.{ends_dump};
+ghost use Rattle.mt_script.specs.Commands.{command_of, outside, in_section, ends_dump, verb_answer, register_line, is_end, end_fault};
 ghost use Rattle.mt_script.specs.Numbers.{fault_at};
 ghost use Rattle.mt_script.specs.Words.{text_of};
-ghost use Rattle.mt_script.specs.Rows.{is_word};
+ghost use Rattle.mt_dump.specs.Line.{is_word};
 ghost use Rattle.mt_script.specs.declared.fault.ScriptReason.TheVariants.{BadLine};
 
 use crate::name::{is_word, row_of, stands, takes_commands};
@@ -25,7 +24,7 @@ use mt_text::{Line, Place, Words, hex64, without_ending};
 const LAST_INDEX: u64 = 7;
 
 fn read_ram(words: &Words<'_>, setup: &Setup) -> Result<Command, ScriptFault>
-    ensures { result ≡ ram_in setup.now words.now.number words.now.words }
+    ensures { result ≡ verb_answer setup.now words.now.number words.now.words Verb.Ram }
 {
     let base = base_at(words, 1)?;
     let lines = count_at(words, 2, 1, MOST_LINES)? as u32;
@@ -37,7 +36,7 @@ fn read_ram(words: &Words<'_>, setup: &Setup) -> Result<Command, ScriptFault>
 }
 
 fn read_load(words: &Words<'_>, setup: &Setup) -> Result<Command, ScriptFault>
-    ensures { result ≡ load_in setup.now words.now.number words.now.words }
+    ensures { result ≡ verb_answer setup.now words.now.number words.now.words Verb.Load }
 {
     let k = processor_at(words, 1, setup)?;
     let address = virtual_at(words, 2, WORD_BYTES)?;
@@ -45,7 +44,7 @@ fn read_load(words: &Words<'_>, setup: &Setup) -> Result<Command, ScriptFault>
 }
 
 fn read_store(words: &Words<'_>, setup: &Setup) -> Result<Command, ScriptFault>
-    ensures { result ≡ store_in setup.now words.now.number words.now.words }
+    ensures { result ≡ verb_answer setup.now words.now.number words.now.words Verb.Store }
 {
     let k = processor_at(words, 1, setup)?;
     let address = virtual_at(words, 2, WORD_BYTES)?;
@@ -54,7 +53,7 @@ fn read_store(words: &Words<'_>, setup: &Setup) -> Result<Command, ScriptFault>
 }
 
 fn read_map(words: &Words<'_>, setup: &Setup) -> Result<Command, ScriptFault>
-    ensures { result ≡ map_in setup.now words.now.number words.now.words }
+    ensures { result ≡ verb_answer setup.now words.now.number words.now.words Verb.Map }
 {
     let k = processor_at(words, 1, setup)?;
     let address = virtual_at(words, 2, PAGE_BYTES)?;
@@ -65,7 +64,7 @@ fn read_map(words: &Words<'_>, setup: &Setup) -> Result<Command, ScriptFault>
 }
 
 fn read_invlpg(words: &Words<'_>, setup: &Setup) -> Result<Command, ScriptFault>
-    ensures { result ≡ invlpg_in setup.now words.now.number words.now.words }
+    ensures { result ≡ verb_answer setup.now words.now.number words.now.words Verb.Invlpg }
 {
     let k = processor_at(words, 1, setup)?;
     let address = virtual_at(words, 2, 1)?;
@@ -73,17 +72,11 @@ fn read_invlpg(words: &Words<'_>, setup: &Setup) -> Result<Command, ScriptFault>
 }
 
 fn read_msr(words: &Words<'_>, setup: &Setup) -> Result<Command, ScriptFault>
-    ensures { result ≡ msr_in setup.now words.now.number words.now.words }
+    ensures { result ≡ verb_answer setup.now words.now.number words.now.words Verb.Msr }
 {
     let k = processor_at(words, 1, setup)?;
     let msr = register_at(words, 2, setup)?;
     Ok(Command::Msr(k, msr))
-}
-
-fn read_cpus(words: &Words<'_>) -> Result<Command, ScriptFault>
-    ensures { result ≡ cpus_in words.now.number words.now.words }
-{
-    Ok(Command::Cpus(count_at(words, 1, 1, MOST_CPUS as u64)? as u32))
 }
 
 fn is_on(words: &Words<'_>) -> bool
@@ -97,8 +90,8 @@ fn read_verb(words: &Words<'_>, setup: &Setup, verb: Verb) -> Result<Command, Sc
     ensures { result ≡ verb_answer setup.now words.now.number words.now.words verb }
 {
     match verb {
-        Verb::Cpus => read_cpus(words),
-        Verb::Dump => Ok(Command::Dump),
+        Verb::Bare(command) => Ok(command),
+        Verb::Cpus => Ok(Command::Cpus(count_at(words, 1, 1, MOST_CPUS as u64)? as u32)),
         Verb::Ram => read_ram(words, setup),
         Verb::Selfsnoop => Ok(Command::Selfsnoop(processor_at(words, 1, setup)?)),
         Verb::Load => read_load(words, setup),
@@ -109,15 +102,7 @@ fn read_verb(words: &Words<'_>, setup: &Setup, verb: Verb) -> Result<Command, Sc
         Verb::Cr3 => Ok(Command::Cr3(processor_at(words, 1, setup)?)),
         Verb::Pge => Ok(Command::Pge(processor_at(words, 1, setup)?, is_on(words))),
         Verb::Cd => Ok(Command::Cd(processor_at(words, 1, setup)?, is_on(words))),
-        Verb::Update => Ok(Command::Update),
-        Verb::Begin => Ok(Command::Begin),
-        Verb::Go => Ok(Command::Go),
-        Verb::Cancel => Ok(Command::Cancel),
-        Verb::Report => Ok(Command::Report),
         Verb::Step => Ok(Command::Step(processor_at(words, 1, setup)?)),
-        Verb::Up => Ok(Command::Up),
-        Verb::Join => Ok(Command::Join),
-        Verb::Retire => Ok(Command::Retire),
         Verb::Word => Ok(Command::Word(physical_at(words, 1, WORD_BYTES, setup)?)),
         Verb::Msr => read_msr(words, setup),
     }
@@ -147,9 +132,12 @@ fn was_seen(seen: &[u32], msr: u32) -> bool
     seen.iter().any(|seen| msr == *seen)
 }
 
-fn register(setup: &Setup, first: Place, number: u64, value: u64) -> Result<Command, ScriptFault>
-    ensures { result ≡ register_value setup.now first number value }
+fn read_register(words: &Words<'_>, setup: &Setup) -> Result<Command, ScriptFault>
+    ensures { result ≡ register_line setup.now words.now.number words.now.words }
 {
+    let first = words.place(0);
+    let number = any(first, hex64(without_ending(words.text(0), b':')))?;
+    let value = value_at(words, 1)?;
     let Some(msr) = writable(setup, number) else {
         return Err(fault(ScriptReason::UnknownRegister, first));
     };
@@ -157,15 +145,6 @@ fn register(setup: &Setup, first: Place, number: u64, value: u64) -> Result<Comm
         return Err(fault(ScriptReason::Repeated, first));
     }
     Ok(Command::Register { msr, value })
-}
-
-fn read_register(words: &Words<'_>, setup: &Setup) -> Result<Command, ScriptFault>
-    ensures { result ≡ register_line setup.now words.now.number words.now.words }
-{
-    let first = words.place(0);
-    let number = any(first, hex64(without_ending(words.text(0), b':')))?;
-    let value = value_at(words, 1)?;
-    register(setup, first, number, value)
 }
 
 fn is_end(words: &Words<'_>) -> bool
@@ -197,7 +176,7 @@ pub(crate) fn ends_dump(line: &Line<'_>) -> bool
 }
 
 fn read_in_dump(line: &Line<'_>) -> Command
-    ensures { in_dump line.now.bytes.now ≡ Ok result }
+    ensures { result ≡ (if ends_dump line.now.bytes.now then Command.End else Command.DumpLine) }
 {
     if ends_dump(line) {
         Command::End

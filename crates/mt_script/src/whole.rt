@@ -1,7 +1,8 @@
 ghost use Rattle.std.specs.Prelude.{◌≡◌, List, Some, None, MatchResult};
 ghost use Rattle.mt_dump.specs.Line.{Reading};
 ghost use Rattle.mt_dump.specs.Reader.{HasRead};
-ghost use Rattle.mt_script.specs.Script.{Rest, offence_from, script_offence};
+ghost use Rattle.mt_script.specs.Head.{head_step};
+ghost use Rattle.mt_script.specs.Script.{Rest, offence_after, script_offence};
 
 use crate::head::Head;
 use crate::{Offence, read_end};
@@ -10,8 +11,8 @@ use mt_text::{Line, end_place, next_line};
 // Takes one line of a script, before or behind the dump's end.
 fn take_line(head: &mut Head, line: &Line<'_>) -> Result<(), Offence>
     ensures { (before : List Reading) → HasRead head.old.dump before → MatchResult result
-        (λ _. (after : List Reading) × HasRead head.new.dump after × ((rest : Rest) → offence_from head.old.setup before line.now.number line.now.bytes.now rest ≡ rest head.new.setup after))
-        (λ offence. (rest : Rest) → offence_from head.old.setup before line.now.number line.now.bytes.now rest ≡ Some offence) }
+        (λ _. (after : List Reading) × HasRead head.new.dump after × ((rest : Rest) → offence_after head.old.setup rest (head_step head.old.setup before line.now.number line.now.bytes.now) ≡ rest head.new.setup after))
+        (λ offence. (rest : Rest) → offence_after head.old.setup rest (head_step head.old.setup before line.now.number line.now.bytes.now) ≡ Some offence) }
 {
     match head.take(line) {
         Ok(None) => Ok(()),

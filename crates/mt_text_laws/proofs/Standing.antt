@@ -1,6 +1,6 @@
 -- Each fault of a line stands at a word that the line has, or past the limit of a line.
 use Rattle.std.proofs.Common.{◌≡◌, ℕ, ◌≤◌, ◌<◌, ◌-◌, ◌%◌, ◌^◌, ◌==◌, ◌&&◌, not, nat_eq, nat_lt, nat_le, Bool, true, false, List, length, Option, Some, None, Result, Ok, Err, refl, subst, [], ◌∷◌, zero, suc, arith, inl, inr}
-use Rattle.std.specs.Prelude.{if◌then◌else◌, IfSome, ⊤}
+use Rattle.std.specs.Prelude.{codes, if◌then◌else◌, IfSome, ⊤}
 use Rattle.std.specs.Set.{is_member}
 use Rattle.std.specs.Result.{IfErr}
 use Rattle.std.specs.List.{slice_get}
@@ -15,14 +15,16 @@ use Rattle.mt_text.specs.declared.place.Place.{Place}
 use Rattle.mt_script.specs.Situation.{Situation, file_of, most_processors}
 use Rattle.mt_script.specs.Words.{word_of, text_of, place_of}
 use Rattle.mt_script.specs.Numbers.{fault_at, tested, limited, with, any, count_in, processor_in, value_in, aligned_in, physical_in, register_in, base_in, has_room, is_register, is_writable, address_limit}
+use Rattle.mt_dump.specs.Line.{is_word}
 use Rattle.mt_script.specs.Rows.{row_of, fits}
 use Rattle.mt_script.specs.Shape.{bad_line, shape_fault}
 use Rattle.mt_script.specs.Stages.{stands}
 use Rattle.mt_text_laws.specs.Places.{StandsIn}
-use Rattle.mt_script.specs.Commands.{Answer, cpus_in, ram_in, load_in, store_in, map_in, invlpg_in, msr_in, switch_in, verb_answer, row_line, outside, is_end, in_section, in_dump, not_too_long, in_stage, command_of}
+use Rattle.mt_script.specs.Commands.{Answer, verb_answer, row_line, outside, is_end, in_section, not_too_long, in_stage, command_of}
 use Rattle.mt_script.specs.declared.command.Stage.{Stage}
 use Rattle.mt_script.specs.declared.command.Stage.TheVariants.{NeedCpus, NeedDump, InDump, Rams, Commands, InUpdate, InBegin}
 use Rattle.mt_script.specs.declared.row.Row.{Row}
+use Rattle.mt_script.specs.declared.row.Verb.TheVariants as verb
 use Rattle.mt_script.specs.declared.command.Command.{Command}
 use Rattle.mt_script.specs.declared.command.Command.TheVariants as command
 use Rattle.mt_script.proofs.Table.{row_all}
@@ -104,34 +106,34 @@ module _ (line : ℕ) (words : List (ℕ × List ℕ)) where
   register_fails now within =
       number_at 2 (register_in now line words 2) within (tested_at (value_in line words 2) UnknownRegister (place_of line words 2) (is_register (file_of now)) (any_at (place_of line words 2) (hex_number (text_of words 2))))
 
-  cpus_fails : 2 ≤ length words → IfErr (cpus_in line words) AtWord
-  cpus_fails has = fails_with AtWord (count_in line words 1 1 16) _ (count_fails 1 1 16 (omega arith)) (λ n. tt)
+  cpus_fails : (now : Situation) → 2 ≤ length words → IfErr (verb_answer now line words verb.Cpus) AtWord
+  cpus_fails now has = fails_with AtWord (count_in line words 1 1 16) _ (count_fails 1 1 16 (omega arith)) (λ n. tt)
 
-  ram_fails : (now : Situation) → 3 ≤ length words → IfErr (ram_in now line words) AtWord
+  ram_fails : (now : Situation) → 3 ≤ length words → IfErr (verb_answer now line words verb.Ram) AtWord
   ram_fails now has =
       fails_with AtWord (base_in line words 1) _ (base_fails (omega arith)) (λ base.
       fails_with AtWord (count_in line words 2 1 4096) _ (count_fails 2 1 4096 (omega arith)) (λ lines.
       fails_if AtWord (has_room now base lines) _ _ (λ room. tt) (λ miss. word_at 2 OutOfRange (omega arith))))
 
-  load_fails : (now : Situation) → 3 ≤ length words → IfErr (load_in now line words) AtWord
+  load_fails : (now : Situation) → 3 ≤ length words → IfErr (verb_answer now line words verb.Load) AtWord
   load_fails now has =
       fails_with AtWord (processor_in now line words 1) _ (processor_fails now (omega arith)) (λ k.
       fails_with AtWord (aligned_in line words 2 8 (2 ^ 48)) _ (aligned_fails 2 8 (2 ^ 48) (omega arith)) (λ address. tt))
 
-  store_fails : (now : Situation) → 4 ≤ length words → IfErr (store_in now line words) AtWord
+  store_fails : (now : Situation) → 4 ≤ length words → IfErr (verb_answer now line words verb.Store) AtWord
   store_fails now has =
       fails_with AtWord (processor_in now line words 1) _ (processor_fails now (omega arith)) (λ k.
       fails_with AtWord (aligned_in line words 2 8 (2 ^ 48)) _ (aligned_fails 2 8 (2 ^ 48) (omega arith)) (λ address.
       fails_with AtWord (value_in line words 3) _ (value_fails 3 (omega arith)) (λ value. tt)))
 
-  map_fails : (now : Situation) → 5 ≤ length words → IfErr (map_in now line words) AtWord
+  map_fails : (now : Situation) → 5 ≤ length words → IfErr (verb_answer now line words verb.Map) AtWord
   map_fails now has =
       fails_with AtWord (processor_in now line words 1) _ (processor_fails now (omega arith)) (λ k.
       fails_with AtWord (aligned_in line words 2 4096 (2 ^ 48)) _ (aligned_fails 2 4096 (2 ^ 48) (omega arith)) (λ address.
       fails_with AtWord (aligned_in line words 3 4096 (address_limit (file_of now))) _ (aligned_fails 3 4096 (address_limit (file_of now)) (omega arith)) (λ physical.
       fails_with AtWord (count_in line words 4 0 7) _ (count_fails 4 0 7 (omega arith)) (λ index. tt))))
 
-  invlpg_fails : (now : Situation) → 3 ≤ length words → IfErr (invlpg_in now line words) AtWord
+  invlpg_fails : (now : Situation) → 3 ≤ length words → IfErr (verb_answer now line words verb.Invlpg) AtWord
   invlpg_fails now has =
       fails_with AtWord (processor_in now line words 1) _ (processor_fails now (omega arith)) (λ k.
       fails_with AtWord (aligned_in line words 2 1 (2 ^ 48)) _ (aligned_fails 2 1 (2 ^ 48) (omega arith)) (λ address. tt))
@@ -139,7 +141,7 @@ module _ (line : ℕ) (words : List (ℕ × List ℕ)) where
   word_fails : (now : Situation) → 2 ≤ length words → IfErr (with (physical_in now line words 1 8) (λ address. Ok (command.Word address))) AtWord
   word_fails now has = fails_with AtWord (aligned_in line words 1 8 (address_limit (file_of now))) _ (aligned_fails 1 8 (address_limit (file_of now)) (omega arith)) (λ address. tt)
 
-  msr_fails : (now : Situation) → 3 ≤ length words → IfErr (msr_in now line words) AtWord
+  msr_fails : (now : Situation) → 3 ≤ length words → IfErr (verb_answer now line words verb.Msr) AtWord
   msr_fails now has =
       fails_with AtWord (processor_in now line words 1) _ (processor_fails now (omega arith)) (λ k.
       fails_with AtWord (register_in now line words 2) _ (register_fails now (omega arith)) (λ msr. tt))
@@ -149,7 +151,7 @@ module _ (line : ℕ) (words : List (ℕ × List ℕ)) where
   RowFails now row = row.least ≤ length words → IfErr (verb_answer now line words row.verb) AtWord
 
   rows_fail : (now : Situation) (word : List ℕ) → IfSome (row_of word) (RowFails now)
-  rows_fail now = row_all (RowFails now) (cpus_fails, (bare, (ram_fails now, (one command.Selfsnoop, (load_fails now, (store_fails now, (one command.Fence, (map_fails now, (invlpg_fails now, (one command.Cr3, (switch command.Pge, (switch command.Cd, (bare, (bare, (bare, (bare, (bare, (one command.Step, (bare, (bare, (bare, (word_fails now, (msr_fails now, tt)))))))))))))))))))))))
+  rows_fail now = row_all (RowFails now) (cpus_fails now, (bare, (ram_fails now, (one command.Selfsnoop, (load_fails now, (store_fails now, (one command.Fence, (map_fails now, (invlpg_fails now, (one command.Cr3, (switch command.Pge, (switch command.Cd, (bare, (bare, (bare, (bare, (bare, (one command.Step, (bare, (bare, (bare, (word_fails now, (msr_fails now, tt)))))))))))))))))))))))
     where
       bare : 1 ≤ length words → ⊤
       bare has = tt
@@ -157,7 +159,7 @@ module _ (line : ℕ) (words : List (ℕ × List ℕ)) where
       one : (make : ℕ → Command) → 2 ≤ length words → IfErr (with (processor_in now line words 1) (λ k. Ok (make k))) AtWord
       one make has = fails_with AtWord (processor_in now line words 1) _ (processor_fails now (omega arith)) (λ k. tt)
 
-      switch : (make : ℕ → Bool → Command) → 3 ≤ length words → IfErr (switch_in make now line words) AtWord
+      switch : (make : ℕ → Bool → Command) → 3 ≤ length words → IfErr (with (processor_in now line words 1) (λ k. Ok (make k (is_word (codes "on") (text_of words 2))))) AtWord
       switch make has = fails_with AtWord (processor_in now line words 1) _ (processor_fails now (omega arith)) (λ k. tt)
 
   -- the words of a row, and then what follows
@@ -203,13 +205,10 @@ module _ (now : Situation) (number : ℕ) (line : List ℕ) where
   short_stands : (answer : Answer) → IfErr answer (AtWord number (words_of line)) → IfErr (not_too_long number line answer) Stands
   short_stands answer at = fails_if Stands (is_too_long line) _ _ (λ long. inr (ltb-true 4096 (length line) long, refl)) (λ short. word_stands answer at)
 
-  dump_stands : IfErr (in_dump line) Stands
-  dump_stands = fails_if Stands (is_too_long line) _ _ (λ long. tt) (λ short. fails_if Stands (is_end (words_of line)) _ _ (λ end. tt) (λ more. tt))
-
   stage_stands : (stage : Stage) → IfErr (in_stage now number line stage) Stands
   stage_stands NeedCpus = short_stands _ (outside_fails number (words_of line) now)
   stage_stands NeedDump = short_stands _ (outside_fails number (words_of line) now)
-  stage_stands InDump = dump_stands
+  stage_stands InDump = tt
   stage_stands Rams = short_stands _ (outside_fails number (words_of line) now)
   stage_stands Commands = short_stands _ (outside_fails number (words_of line) now)
   stage_stands InUpdate = short_stands _ (section_fails number (words_of line) now)
