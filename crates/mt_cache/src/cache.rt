@@ -16,7 +16,7 @@ use std::marker::Model;
 /// The lines of a cache, the oldest first. No two have one number.
 ///
 /// The counts answer most searches for a line that isn't there without a look at the lines, and the
-/// hints say where to begin a search for one that is.
+/// hints say where to look first for one that is.
 #[derive(Drop)]
 pub struct Cache {
     lines: Slots,
@@ -32,17 +32,16 @@ impl Model for Cache {
     ghost invariant = { λ c. AreLines c.lines × AreCounted c.lines c.counts.counts };
 }
 
-// The place of the line of this number. The search begins at a guess.
+// The place of the line of this number, which is looked for at a guess first.
 fn place_near(lines: &Slots, number: u64, guess: usize) -> Option<usize>
     requires { AreDistinct lines.now }
     ensures { result ≡ position (has_number number) lines.now }
 {
-    for i in guess..lines.len() {
-        if lines.get(i).number == number {
-            return Some(i);
-        }
+    if guess < lines.len() && lines.get(guess).number == number {
+        Some(guess)
+    } else {
+        lines.place_of(number)
     }
-    lines.place_of(number)
 }
 
 impl Cache {
@@ -126,9 +125,11 @@ impl Cache {
         requires room { length self.old < 64 }
         ensures { self.new ≡ self.old ++ line ∷ [] }
     {
-        self.hints.keep(line.number, self.lines.len());
-        self.lines.push(line);
+        let place = self.lines.len();
+        let slot = self.lines.push(line);
         self.counts.add(line.number);
+        self.hints.keep(line.number, slot);
+        self.hints.keep_place(slot, place);
     }
 
     /// Adds a clean line. Where 64 lines stood, it first drops the oldest.
@@ -151,6 +152,8 @@ impl Cache {
         requires word { word < 8 }
         ensures { self.new ≡ change_at i (write_word word v dirty) self.old }
     {
+        self.hints
+            .keep(self.lines.get(i).number, self.lines.slot(i)); // another line may have taken the hint
         self.lines.put(i, word, v, dirty);
     }
 
@@ -179,7 +182,7 @@ impl Cache {
         let number = self.lines.get(i).number;
         self.lines.remove(i);
         self.counts.remove(number);
-        self.hints.drop_one();
+        self.hints.drop_at(i);
     }
 
     /// The first dirty word of the first line that has one: the place of the line, and the word.

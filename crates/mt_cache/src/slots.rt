@@ -64,6 +64,13 @@ impl Slots {
         &self.slots[self.order[i] as usize]
     }
 
+    /// The slot of the line at a place.
+    pub(crate) fn slot(&self, i: usize) -> u8
+        requires { i < length self.now }
+    {
+        self.order[i]
+    }
+
     /// The place of the line of this number.
     pub(crate) fn place_of(&self, number: u64) -> Option<usize>
         ensures { result ≡ position (has_number number) self.now }
@@ -88,13 +95,15 @@ impl Slots {
         None
     }
 
-    /// Adds a line, for which there is room.
-    pub(crate) fn push(&mut self, line: CacheLine)
+    /// Adds a line, for which there is room, and returns its slot.
+    pub(crate) fn push(&mut self, line: CacheLine) -> u8
         requires { length self.old < 64 }
         ensures { self.new ≡ self.old ++ line ∷ [] }
     {
-        self.slots[self.order[self.count] as usize] = line;
+        let slot = self.order[self.count];
+        self.slots[slot as usize] = line;
         self.count += 1;
+        slot
     }
 
     /// Takes out the line at a place.
