@@ -1,4 +1,4 @@
-ghost use Rattle.std.specs.Prelude.{◌≡◌, ◌≢◌, ◌<◌, ◌≤◌, ◌^◌, ◌⊎◌, ◌↔◌, ℕ, List, None, Some, IfSome};
+ghost use Rattle.std.specs.Prelude.{◌≡◌, ◌≢◌, ◌<◌, ◌≤◌, ◌^◌, ◌↔◌, ℕ, List, None, Some, IfSome};
 ghost use Rattle.mt_ports.specs.Causes.{StatusHasCause};
 ghost use Rattle.mt_regs.specs.Faults.{IsAccepted};
 ghost use Rattle.mt_regs.specs.Agreement.{first_refusal};
@@ -18,12 +18,12 @@ use crate::generator::make_text;
 use crate::lines::{check_text, disabled_line, page_text, too_few_line};
 use crate::texts::{grained_text, tidied_text, types_text};
 use mt_dump::{Dump, canonical_text, read_dump_from};
-use mt_gran::{GranFault, gran};
+use mt_gran::gran_enabled;
 use mt_output::{bad_text_line, dump_refused_line, written};
 use mt_ports::{Sink, Source, Status};
 use mt_regs::{Fault, RegFile, first_refusal};
 use mt_text::FeedFault;
-use mt_tidy::{TidyFault, WorkArea, tidy};
+use mt_tidy::{TooFew, WorkArea, tidy_enabled};
 use mt_types::page_runs;
 use std::alloc::Global;
 
@@ -101,17 +101,16 @@ fn tidied<K: Sink>(f: &RegFile, spare: u8, chunk: u64, sink: &mut K) -> Status
     ensures no_memory { result ≢ Status.NoMemory }
     ensures cause { StatusHasCause Status.WriteFault (K.faults sink.old) (K.faults sink.new) result }
 {
+    if !f.is_enabled() {
+        return written(sink, disabled_line(f.deftype).as_slice(), Status::Disabled);
+    }
     let mut area = WorkArea::new();
-    match tidy(f, spare, chunk, &mut area) {
+    match tidy_enabled(f, spare, chunk, &mut area) {
         Ok(tidied) => {
             let text = tidied_text(tidied.used, &tidied.file);
             written(sink, text.as_slice(), Status::Done)
         }
-        Err(TidyFault::Refused(_)) => unreachable!(),
-        Err(TidyFault::Disabled) => {
-            written(sink, disabled_line(f.deftype).as_slice(), Status::Disabled)
-        }
-        Err(TidyFault::TooFew { needs, has }) => {
+        Err(TooFew { needs, has }) => {
             written(sink, too_few_line(needs, has).as_slice(), Status::TooFew)
         }
     }
@@ -131,9 +130,12 @@ fn grained<K: Sink>(
     ensures bytes { Answers (FileAnswer f.now (Gran log spare chunk)) (K.taken sink.old) (K.taken sink.new) result }
     ensures cause { StatusHasCause Status.WriteFault (K.faults sink.old) (K.faults sink.new) result }
 {
+    if !f.is_enabled() {
+        return written(sink, disabled_line(f.deftype).as_slice(), Status::Disabled);
+    }
     f.is_register_file(); // a fact for the proof
     let mut area = WorkArea::new();
-    match gran(f, log, spare, chunk, &mut area) {
+    match gran_enabled(f, log, spare, chunk, &mut area) {
         Ok(grained) => {
             let tidied = &grained.tidied;
             let parts = grained.parts.as_slice();
@@ -142,11 +144,7 @@ fn grained<K: Sink>(
                 Err(_) => Status::NoMemory,
             }
         }
-        Err(GranFault::Refused(_)) => unreachable!(),
-        Err(GranFault::Disabled) => {
-            written(sink, disabled_line(f.deftype).as_slice(), Status::Disabled)
-        }
-        Err(GranFault::TooFew { needs, has }) => {
+        Err(TooFew { needs, has }) => {
             written(sink, too_few_line(needs, has).as_slice(), Status::TooFew)
         }
     }

@@ -1,9 +1,9 @@
-ghost use Rattle.std.specs.Prelude.{◌≡◌, ◌≤◌, IfErr, IfOk, length};
+ghost use Rattle.std.specs.Prelude.{◌≡◌, ◌≤◌, IfErr, IfOk, length, true};
 ghost use Rattle.mt_regs.specs.Faults.{IsAccepted};
-ghost use Rattle.mt_regs.specs.RegisterFile.{page_count};
+ghost use Rattle.mt_regs.specs.RegisterFile.{is_enabled, page_count};
 ghost use Rattle.mt_types.specs.Runs.{IsRunsOf};
 ghost use Rattle.mt_gran.specs.Granules.{AreRounded, lost_pages, pages_of};
-ghost use Rattle.mt_gran.specs.Grained.{IsGrained, IsWhy};
+ghost use Rattle.mt_gran.specs.Grained.{IsGrained, IsWhy, NeedsMore};
 ghost use Rattle.mt_gran.specs.Listed.{runs_in};
 ghost use Rattle.mt_gran.specs.Marks.{AreRunsOf, lost_mark};
 
@@ -30,6 +30,8 @@ pub struct Lost {
     /// How many parts there are, in the first places of the area's `wanted`.
     pub parts: usize,
 }
+
+const NONE_LOST: Lost = Lost { pages: 0, parts: 0 };
 
 /// The type map of an accepted file, rounded to granules of `2^g` pages: a page keeps its type where it is free or all
 /// pages of its granule that aren't free have one type, and gets UC otherwise.
@@ -72,6 +74,35 @@ fn lost_in(f: &RegFile, own: &PackedRuns, g: u8, list: &mut [PackedRun]) -> Lost
     }
 }
 
+// What `gran_in` does, for an accepted file whose range registers are on.
+#[inline(always)] // so that its callers take little stack
+fn rounded_fit(
+    f: &RegFile,
+    g: u8,
+    spare: u8,
+    chunk: u64,
+    area: &mut WorkArea,
+    lost: &mut Lost,
+) -> Result<Tidied, TooFew>
+    requires accepted { IsAccepted f.now }
+    requires enabled { is_enabled f.now ≡ true }
+    requires size { g ≤ 28 }
+    ensures ok { IfOk result (λ tidied. IsGrained f.now g chunk spare tidied.file tidied.used lost.new.pages (runs_in lost.new.parts area.new.wanted)) }
+    ensures few { (lost.new.parts ≤ 306) × (lost.new.parts ≤ length area.new.wanted) }
+    ensures err { IfErr result (λ few. NeedsMore f.now g chunk spare few.needs few.has) }
+{
+    f.is_register_file(); // a fact for the proof
+    let count = own_runs_in(f, &mut area.own);
+    let own = PackedRuns {
+        packed: &area.own[..count],
+    };
+    let count = rounded_runs(f, &own, g, &mut area.wanted);
+    // moved once, when all else is done: a second copy would take a file's room on the stack
+    let fitted = fit(f, &area.wanted[..count], spare, chunk, &mut area.costs);
+    *lost = lost_in(f, &own, g, &mut area.wanted);
+    fitted
+}
+
 /// The file that differs from `f` in its pairs alone and gives each page its type rounded to granules of `2^g` pages,
 /// with the fewest pairs, as `fit` does, and what is lost. Each refusal comes exactly where `GranFault` says. No memory is
 /// taken: what is large is in `area`, whose contents may be any. The parts that are lost are left there. `lost` is written
@@ -95,18 +126,26 @@ pub fn gran_in(
     if !f.is_enabled() {
         return Err(GranFault::Disabled);
     }
-    f.is_register_file(); // a fact for the proof
-    let count = own_runs_in(f, &mut area.own);
-    let own = PackedRuns {
-        packed: &area.own[..count],
-    };
-    let count = rounded_runs(f, &own, g, &mut area.wanted);
-    // moved once, when all else is done: a second copy would take a file's room on the stack
-    let fitted = fit(f, &area.wanted[..count], spare, chunk, &mut area.costs);
-    *lost = lost_in(f, &own, g, &mut area.wanted);
-    match fitted {
+    match rounded_fit(f, g, spare, chunk, area, lost) {
         Ok(tidied) => Ok(tidied),
         Err(TooFew { needs, has }) => Err(GranFault::TooFew { needs, has }),
+    }
+}
+
+// With the parts in a list of their own.
+fn listed(tidied: Tidied, lost: Lost, area: &WorkArea) -> Grained
+    requires few { lost.parts ≤ 306 }
+    requires places { lost.parts ≤ length area.now.wanted }
+    ensures tidied { result.tidied ≡ tidied }
+    ensures lost { result.lost ≡ lost.pages }
+    ensures parts { result.parts ≡ runs_in lost.parts area.now.wanted }
+{
+    Grained {
+        tidied,
+        lost: lost.pages,
+        parts: RunList::of(&PackedRuns {
+            packed: &area.wanted[..lost.parts],
+        }),
     }
 }
 
@@ -122,13 +161,26 @@ pub fn gran(
     ensures ok { IfOk result (λ grained. IsGrained f.now g chunk spare grained.tidied.file grained.tidied.used grained.lost grained.parts) }
     ensures err { IfErr result (λ fault. IsWhy f.now g chunk spare fault) }
 {
-    let mut lost = Lost { pages: 0, parts: 0 };
+    let mut lost = NONE_LOST;
     let tidied = gran_in(f, g, spare, chunk, area, &mut lost)?;
-    Ok(Grained {
-        tidied,
-        lost: lost.pages,
-        parts: RunList::of(&PackedRuns {
-            packed: &area.wanted[..lost.parts],
-        }),
-    })
+    Ok(listed(tidied, lost, area))
+}
+
+/// Does what `gran` does, for a file that is known to be accepted and whose range registers are on.
+pub fn gran_enabled(
+    f: &RegFile,
+    g: u8,
+    spare: u8,
+    chunk: u64,
+    area: &mut WorkArea,
+) -> Result<Grained, TooFew>
+    requires accepted { IsAccepted f.now }
+    requires enabled { is_enabled f.now ≡ true }
+    requires size { g ≤ 28 }
+    ensures ok { IfOk result (λ grained. IsGrained f.now g chunk spare grained.tidied.file grained.tidied.used grained.lost grained.parts) }
+    ensures err { IfErr result (λ few. NeedsMore f.now g chunk spare few.needs few.has) }
+{
+    let mut lost = NONE_LOST;
+    let tidied = rounded_fit(f, g, spare, chunk, area, &mut lost)?;
+    Ok(listed(tidied, lost, area))
 }

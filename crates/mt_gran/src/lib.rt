@@ -10,6 +10,6 @@ mod run_list;
 mod sizes;
 
 pub use fault::GranFault;
-pub use grains::{Grained, Lost, gran, gran_in, rounded};
+pub use grains::{Grained, Lost, gran, gran_enabled, gran_in, rounded};
 pub use run_list::RunList;
 pub use sizes::granule_log;
