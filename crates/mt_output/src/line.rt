@@ -21,10 +21,7 @@ pub fn append(line: &mut LineBuffer, text: &[u8])
     requires { array_vec_len line.old + length text.now ≤ LINE_ROOM }
     ensures { line.new.items ≡ line.old.items ++ text.now }
 {
-    match line.try_extend_from_slice(text) {
-        Ok(()) => {}
-        Err(_) => unreachable!(),
-    }
+    line.try_extend_from_slice(text).unwrap();
 }
 
 /// Adds a count, of at most twenty digits.

@@ -84,10 +84,7 @@ impl Writer {
         ensures text { self.new ≡ self.old ++ text.now }
         ensures size { length self.new ≡ length self.old + length text.now }
     {
-        match self.text.extend_from_slice(text) {
-            Ok(()) => {}
-            Err(_) => unreachable!(),
-        }
+        self.text.extend_from_slice(text).unwrap();
     }
 
     /// The bytes that wait.

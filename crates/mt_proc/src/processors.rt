@@ -1,5 +1,4 @@
-ghost use Rattle.std.specs.Prelude.{◌≡◌, ◌≤◌, ◌<◌, ◌+◌, ◌-◌, ◌^◌, ◌++◌, ◌∷◌, [], ℕ, length, codes, decimal, IfOk, IfSome, None, Some};
-ghost use Rattle.mt_regs.specs.declared.fault.Fault.{Fault as GoalFault};
+ghost use Rattle.std.specs.Prelude.{◌≡◌, ◌≢◌, ◌≤◌, ◌<◌, ◌+◌, ◌-◌, ◌^◌, ◌++◌, length, decimal, IfOk, IfSome, None, Some};
 ghost use Rattle.mt_regs.specs.StartFiles.{AreStartFiles};
 ghost use Rattle.mt_regs.specs.FirstFault.{first_fault};
 ghost use Rattle.mt_machine.specs.Update.{IsSettled};
@@ -69,13 +68,14 @@ fn done_line(request: &Request, n: u32) -> LineBuffer
     }
 }
 
-// The fault of a goal that was refused.
-fn refusal(fault: CallFault) -> Option<Fault>
-    ensures { (own : GoalFault) → fault ≡ CallFault.Refused own → result ≡ Some own }
+// The fault of a goal that was refused, where no update is under way.
+fn refusal(fault: CallFault) -> Fault
+    requires { fault ≢ CallFault.UnderWay }
+    ensures { fault ≡ CallFault.Refused result }
 {
     match fault {
-        CallFault::Refused(own) => Some(own),
-        CallFault::UnderWay => None,
+        CallFault::Refused(own) => own,
+        CallFault::UnderWay => unreachable!(),
     }
 }
 
@@ -98,7 +98,7 @@ fn update<R: Threads + Wait + Sync, G: Gate>(
     goal.is_register_file(); // a fact for the proof
     match update_with(caller, alloc, core, goal) {
         Ok(()) => None,
-        Err(fault) => refusal(fault),
+        Err(fault) => Some(refusal(fault)),
     }
 }
 

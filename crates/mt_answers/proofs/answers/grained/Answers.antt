@@ -1,6 +1,6 @@
-use Rattle.std.proofs.Common.{◌++◌, ◌∙◌, List, ap, sym, subst}
+use Rattle.std.proofs.Common.{◌≡◌, ◌++◌, ◌∙◌, List, ap, false, sym, subst}
 use Rattle.std.specs.List.{All}
-use Rattle.mt_regs.specs.RegisterFile.{RegisterFile}
+use Rattle.mt_regs.specs.RegisterFile.{RegisterFile, is_enabled}
 use Rattle.mt_regs.proofs.Powers.{few_pages}
 use Rattle.mt_types.specs.declared.run.Run.{Run}
 use Rattle.mt_dump.specs.Canon.{canon}
@@ -10,7 +10,7 @@ use Rattle.mt_answers.specs.Lines.{IsLine, disabled_line, lost_line, parts_text,
 use Rattle.mt_answers.specs.declared.command.DumpCommand.TheVariants.{Gran}
 use Rattle.mt_answers.specs.Answer.{FileAnswer, grained, gran_disabled, gran_too_few}
 use Rattle.mt_answers.proofs.Answering.{answers_with}
-use Rattle.mt_answers.proofs.Parting.{parts_have_lines, too_few}
+use Rattle.mt_answers.proofs.Parting.{parts_have_lines}
 use Rattle.mt_answers.proofs.answers.grained.Goals as goal
 
 pub grained_text-requires : goal.grained_text-requires
@@ -26,15 +26,13 @@ returns-in-Ok-grained_text-clause-bytes g c =
     ∙ ap (λ (parts : List Run). parts_text parts ++ lost_line c.in-Ok.grained.lost ++ used_line c.in-Ok.grained.tidied.used ++ canon (dump_of c.in-Ok.grained.tidied.file)) c.as_slice-parts.ensures.runs)
     c.written.ensures.bytes
 
-pub returns-in-Err-Disabled-clause-bytes : goal.returns-in-Err-Disabled-clause-bytes
-returns-in-Err-Disabled-clause-bytes g c =
-    let why = rw c.in-Err-Disabled.field-0-is at c.in-Err-Disabled.ensures.err in
-    answers_with (FileAnswer c.args.f.now (Gran c.args.log c.args.spare c.args.chunk)) _ _ _ _ _ _ (gran_disabled c.args.log c.args.spare c.args.chunk why.1)
-    (c.as_slice-in-Err-Disabled.ensures.value ∙ c.disabled_line.ensures ∙ ap (λ (f : RegisterFile). disabled_line f.default_type) c.f.view_is) c.written-in-Err-Disabled.ensures.bytes
+pub returns-then-not-is_enabled-clause-bytes : goal.returns-then-not-is_enabled-clause-bytes
+returns-then-not-is_enabled-clause-bytes g c =
+    let off : is_enabled c.args.f.now ≡ false = sym c.is_enabled.ensures ∙ c.if-not-is_enabled.true in
+    answers_with (FileAnswer c.args.f.now (Gran c.args.log c.args.spare c.args.chunk)) _ _ _ _ _ _ (gran_disabled c.args.log c.args.spare c.args.chunk off)
+    (c.as_slice.ensures.value ∙ c.disabled_line.ensures ∙ ap (λ (f : RegisterFile). disabled_line f.default_type) c.f.view_is) c.written.ensures.bytes
 
-pub returns-in-Err-TooFew-clause-bytes : goal.returns-in-Err-TooFew-clause-bytes
-returns-in-Err-TooFew-clause-bytes g c =
-    let why = rw c.in-Err-TooFew.field-0-is at c.in-Err-TooFew.ensures.err in
-    answers_with (FileAnswer c.args.f.now (Gran c.args.log c.args.spare c.args.chunk)) _ _ _ _ _ _ (gran_too_few c.args.log c.args.spare c.args.chunk c.in-Err-TooFew.needs c.in-Err-TooFew.has why)
-    (c.as_slice-in-Err-TooFew.ensures.value ∙ too_few _ _ c.in-Err-TooFew.needs c.in-Err-TooFew.has c.in-Err-TooFew.needs-is c.in-Err-TooFew.has-is _ c.too_few_line.ensures)
-    c.written-in-Err-TooFew.ensures.bytes
+pub returns-in-Err-clause-bytes : goal.returns-in-Err-clause-bytes
+returns-in-Err-clause-bytes g c =
+    answers_with (FileAnswer c.args.f.now (Gran c.args.log c.args.spare c.args.chunk)) _ _ _ _ _ _ (gran_too_few c.args.log c.args.spare c.args.chunk c.in-Err.field-0.needs c.in-Err.field-0.has c.in-Err.ensures.err)
+    (c.as_slice.ensures.value ∙ c.too_few_line.ensures) c.written.ensures.bytes

@@ -1,6 +1,5 @@
-use Rattle.std.proofs.Common.{◌∙◌, ◌<◌, sym, ap, subst, Err, Option}
-use Rattle.std.specs.Prelude.{IfSome}
-use Rattle.mt_regs.specs.declared.fault.Fault.{Fault}
+use Rattle.std.proofs.Common.{◌≡◌, ◌∙◌, sym, ap, subst, Err}
+use Rattle.mt_core.specs.declared.fault.CallFault.TheVariants.{Refused, UnderWay}
 use Rattle.mt_regs.proofs.FaultNumbers.{fault_number}
 use Rattle.mt_proc.specs.Serving.{Serves}
 use Rattle.mt_proc.proofs.Served.{era_room, fits, is_refused, none_refused, serves_goal, some_refused}
@@ -22,17 +21,20 @@ pub returns-in-Ok-clause-serves : goal.returns-in-Ok-clause-serves
 returns-in-Ok-clause-serves g c =
     subst Serves (sym c.in-Ok.ensures.updated.2) (serves_goal c.args.core.now c.args.goal c.requires.serves c.is_register_file.ensures c.in-Ok.ensures.updated.1)
 
+pub refusal-requires : goal.refusal-requires
+refusal-requires g c = λ same.
+    let r = is_refused c.args.core.now c.args.goal c.in-Err.fault c.requires.serves (λ busy. c.in-Err.ensures.under_way.0 (ap Err busy)) (λ own is. (c.in-Err.ensures.refused own (ap Err is)).1) in
+    let e : Refused r.own ≡ UnderWay = sym r.is ∙ same in
+    cc e
+
 pub returns-in-Err-clause-fault : goal.returns-in-Err-clause-fault
 returns-in-Err-clause-fault g c =
-    let r = is_refused c.args.core.now c.args.goal c.in-Err.fault c.requires.serves (λ same. c.in-Err.ensures.under_way.0 (ap Err same)) (λ own same. (c.in-Err.ensures.refused own (ap Err same)).1) in
-    c.refusal.ensures r.own r.is ∙ (some_refused c.args.core.now c.args.goal r.own r.first).0
+    (some_refused c.args.core.now c.args.goal c.refusal.result (c.in-Err.ensures.refused c.refusal.result (ap Err c.refusal.ensures)).1).0
 
 pub returns-in-Err-clause-after : goal.returns-in-Err-clause-after
 returns-in-Err-clause-after g c =
-    let r = is_refused c.args.core.now c.args.goal c.in-Err.fault c.requires.serves (λ same. c.in-Err.ensures.under_way.0 (ap Err same)) (λ own same. (c.in-Err.ensures.refused own (ap Err same)).1) in
-    c.in-Err.ensures.kept ∙ (some_refused c.args.core.now c.args.goal r.own r.first).1
+    c.in-Err.ensures.kept ∙ (some_refused c.args.core.now c.args.goal c.refusal.result (c.in-Err.ensures.refused c.refusal.result (ap Err c.refusal.ensures)).1).1
 
 pub returns-in-Err-clause-short : goal.returns-in-Err-clause-short
 returns-in-Err-clause-short g c =
-    let r = is_refused c.args.core.now c.args.goal c.in-Err.fault c.requires.serves (λ same. c.in-Err.ensures.under_way.0 (ap Err same)) (λ own same. (c.in-Err.ensures.refused own (ap Err same)).1) in
-    subst (λ (o : Option Fault). IfSome o (λ fault. fault.msr < 4096)) (sym (c.refusal.ensures r.own r.is)) (fault_number c.args.goal r.own c.is_register_file.ensures r.first)
+    fault_number c.args.goal c.refusal.result c.is_register_file.ensures (c.in-Err.ensures.refused c.refusal.result (ap Err c.refusal.ensures)).1
