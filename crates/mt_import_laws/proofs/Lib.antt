@@ -25,6 +25,9 @@ mod PartBits
 mod Keys
 mod Whole
 mod TableLines
+mod Moved
+mod MovedFacts
+mod Spare
 mod Back
 mod PrintedBack
 mod AutoReads

@@ -1,4 +1,4 @@
-ghost use Rattle.std.specs.Prelude.{◌≡◌, ◌≢◌, ◌++◌, ℕ, List, [], Some, false, true};
+ghost use Rattle.std.specs.Prelude.{◌≡◌, ◌≢◌, ◌+◌, ◌++◌, ℕ, List, [], length, Some, false, true};
 ghost use Rattle.mt_kinds.specs.Bits.{is_bit_set};
 ghost use Rattle.mt_ports.specs.declared.status.Status.TheVariants.{BadText, Done};
 ghost use Rattle.mt_text.specs.declared.place.Place.{Place};
@@ -16,6 +16,7 @@ ghost use Rattle.mt_import_laws.specs.FirstLine.{ComeToSame, TellsFirst};
 ghost use Rattle.mt_import_laws.specs.Notes.{AreNoted};
 ghost use Rattle.mt_import_laws.specs.Origins.{Contradict, ContradictInCapabilities, ContradictsWord, CountsPair, HasOrigins, IsAmong, IsRead, LogSaysFixed, WidthOrigin, readings_of, seen_of};
 ghost use Rattle.mt_import_laws.specs.Returns.{DifferInReturns};
+ghost use Rattle.mt_import_laws.specs.Spare.{ComeToSameWithout, HasSpareLine};
 ghost use Rattle.mt_import_laws.specs.Warnings.{HasWarning, IsWithin};
 
 /// For all logs and words: if a dump comes of them, it has a section for each processor, with the processor's values. Lines of one
@@ -106,6 +107,13 @@ pub fn enabled_pairs_are_counted()
 /// Lines that match nothing may be replaced by others that match nothing: the texts and the status stay.
 pub fn lines_that_match_nothing_change_nothing()
     ensures { (choice : Choice) (supplied : Supplied) (a b : List ℕ) → AreAlikeLogs choice a b → log_told choice supplied a ≡ log_told choice supplied b }
+{}
+
+/// A line that matches nothing may be left out, in any format and by `auto`: the dump, its comments and the status stay. Reasons give
+/// the lines behind it numbers that are one less, and count one line less.
+pub fn lines_that_match_nothing_may_be_left_out()
+    ensures { (choice : Choice) (supplied : Supplied) (longer shorter : List ℕ) (has : HasSpareLine choice longer shorter)
+        → ComeToSameWithout (1 + length has.before) (log_told choice supplied longer) (log_told choice supplied shorter) }
 {}
 
 /// A CR at the end of lines changes nothing, in any format: the texts and the status stay.
