@@ -17,7 +17,7 @@ use Rattle.mt_regs.specs.declared.registers.Register.TheVariants.{PhysBase, Phys
 use Rattle.mt_regs.specs.RegisterFile.{RegisterFile, pair_at}
 use Rattle.mt_dump.specs.Canon.{value_text}
 use Rattle.mt_import.specs.declared.format.Format.TheVariants.{Coreboot, Linux, Xen}
-use Rattle.mt_import.specs.declared.reading.Said.TheVariants.{Nothing}
+use Rattle.mt_import.specs.declared.reading.LineSays.TheVariants.{Nothing}
 use Rattle.mt_import.specs.Coreboot.{colon_number, coreboot_said, level_words, of_pair, pair_digits, register_named, said_from}
 use Rattle.mt_import.specs.LineWords.{behind_facility, behind_stamp, is_iso}
 use Rattle.mt_import.specs.Linux.{linux_words_said}

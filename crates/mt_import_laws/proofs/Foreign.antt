@@ -2,18 +2,18 @@
 use Rattle.std.proofs.Common.{◌≡◌, ◌∙◌, ◌==◌, ◌&&◌, ℕ, Bool, true, false, List, length, refl, sym, ap, inl, inr, codes}
 use Rattle.std.specs.Prelude.{◌⊎◌, if◌then◌else◌, is_some}
 use Rattle.mt_text.specs.Words.{text_of}
-use Rattle.mt_import.specs.declared.reading.Said.{Said}
-use Rattle.mt_import.specs.declared.reading.Said.TheVariants.{Nothing}
+use Rattle.mt_import.specs.declared.reading.LineSays.{LineSays}
+use Rattle.mt_import.specs.declared.reading.LineSays.TheVariants.{Nothing}
 use Rattle.mt_import.specs.Kernel.{head_said, kernel_said, run_said}
 use Rattle.mt_import.specs.LineWords.{behind_facility, behind_log, is_iso}
 use Rattle.mt_import.specs.Linux.{is_pat_name, linux_words_said}
 use Rattle.mt_import.specs.Pieces.{behind, is_text}
 
-pub if_nothing : (test : Bool) (x y : Said) → x ≡ Nothing → y ≡ Nothing → (if test then x else y) ≡ Nothing
+pub if_nothing : (test : Bool) (x y : LineSays) → x ≡ Nothing → y ≡ Nothing → (if test then x else y) ≡ Nothing
 if_nothing true x y one two = one
 if_nothing false x y one two = two
 
-pub if_off : (test : Bool) (x y : Said) → test ≡ false → y ≡ Nothing → (if test then x else y) ≡ Nothing
+pub if_off : (test : Bool) (x y : LineSays) → test ≡ false → y ≡ Nothing → (if test then x else y) ≡ Nothing
 if_off test x y off two = ap (λ b. if b then x else y) off ∙ two
 
 pub and_left : (a b : Bool) → a ≡ false → (a && b) ≡ false

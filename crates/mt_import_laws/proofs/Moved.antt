@@ -8,8 +8,8 @@ use Rattle.mt_text.specs.declared.fault.NumberFault.{NumberFault}
 use Rattle.mt_text.specs.declared.place.Place.{Place}
 use Rattle.mt_import.specs.declared.format.Format.{Format}
 use Rattle.mt_import.specs.declared.format.Format.TheVariants.{Rdmsr, X86info, Inteltool, Coreboot, Edk2, Linux, Xen}
-use Rattle.mt_import.specs.declared.reading.Said.{Said}
-use Rattle.mt_import.specs.declared.reading.Said.TheVariants.{Nothing, Announces, Value, Turns, Shows, Begins, FixedRanges, VariableRanges, Width, Warns, Long}
+use Rattle.mt_import.specs.declared.reading.LineSays.{LineSays}
+use Rattle.mt_import.specs.declared.reading.LineSays.TheVariants.{Nothing, Announces, Value, Turns, Shows, Begins, FixedRanges, VariableRanges, Width, Warns, Long}
 use Rattle.mt_import.specs.declared.shape.Shown.{Shown}
 use Rattle.mt_import.specs.Pieces.{behind, shows_one, shows_width, value_at}
 use Rattle.mt_import.specs.Readings.{one_shown, two_shown}
@@ -37,7 +37,7 @@ module _ (move : ℕ → ℕ) where
   moved_shown None = None
   moved_shown (Some shown) = Some (record { number = shown.number; bits = shown.bits; value = shown.value; place = moved_place move shown.place })
 
-  abbrev pub moved_said : Said → Said
+  abbrev pub moved_said : LineSays → LineSays
   moved_said Nothing = Nothing
   moved_said (Announces processor number) = Announces processor number
   moved_said (Value value place) = Value value (moved_place move place)
@@ -50,7 +50,7 @@ module _ (move : ℕ → ℕ) where
   moved_said Warns = Warns
   moved_said (Long place) = Long (moved_place move place)
 
-  if_said : (test : Bool) (x y v w : Said) → moved_said x ≡ v → moved_said y ≡ w → moved_said (if test then x else y) ≡ (if test then v else w)
+  if_said : (test : Bool) (x y v w : LineSays) → moved_said x ≡ v → moved_said y ≡ w → moved_said (if test then x else y) ≡ (if test then v else w)
   if_said = each moved_said
 
   if_shown : (test : Bool) (x y v w : Option Shown) → moved_shown x ≡ v → moved_shown y ≡ w → moved_shown (if test then x else y) ≡ (if test then v else w)
@@ -83,7 +83,7 @@ module _ (move : ℕ → ℕ) where
   call_announced processor None = refl
   call_announced processor (Some number) = refl
 
-  called : (rest : ℕ → Option ℕ → Said) → ((size : ℕ) (processor : Option ℕ) → moved_said (rest size processor) ≡ rest size processor)
+  called : (rest : ℕ → Option ℕ → LineSays) → ((size : ℕ) (processor : Option ℕ) → moved_said (rest size processor) ≡ rest size processor)
       → (found : Option (ℕ × Option ℕ)) → moved_said (call_behind rest found) ≡ call_behind rest found
   called rest each_rest None = refl
   called rest each_rest (Some found) = each_rest found.0 found.1
@@ -278,7 +278,7 @@ module _ (move : ℕ → ℕ) where
   in_each : (number : ℕ) (line : List ℕ) → moved_said (said_in_each number line) ≡ said_in_each (move number) line
   in_each number line = let last = sizes number (take 7 (words_of line)) in search (if_said, last)
 
-  or_sizes : (said : Said) (number : ℕ) (line : List ℕ) → moved_said (said_or_sizes said number line) ≡ said_or_sizes (moved_said said) (move number) line
+  or_sizes : (said : LineSays) (number : ℕ) (line : List ℕ) → moved_said (said_or_sizes said number line) ≡ said_or_sizes (moved_said said) (move number) line
   or_sizes Nothing number line = in_each number line
   or_sizes (Announces processor register) number line = refl
   or_sizes (Value value place) number line = refl
@@ -301,7 +301,7 @@ module _ (move : ℕ → ℕ) where
 
   -- ---- the format that it tells
 
-  telling : (said : Said) → is_telling (moved_said said) ≡ is_telling said
+  telling : (said : LineSays) → is_telling (moved_said said) ≡ is_telling said
   telling Nothing = refl
   telling (Announces processor register) = refl
   telling (Value value place) = refl

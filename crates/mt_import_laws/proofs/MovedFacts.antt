@@ -12,8 +12,8 @@ use Rattle.mt_import.specs.declared.fault.Rival.{Rival}
 use Rattle.mt_import.specs.declared.fault.Rival.TheVariants.{CapabilityWord, Line, Word}
 use Rattle.mt_import.specs.declared.format.Format.{Format}
 use Rattle.mt_import.specs.declared.reading.Context.{Context}
-use Rattle.mt_import.specs.declared.reading.Said.{Said}
-use Rattle.mt_import.specs.declared.reading.Said.TheVariants.{Nothing, Announces, Value, Turns, Shows, Begins, FixedRanges, VariableRanges, Width, Warns, Long}
+use Rattle.mt_import.specs.declared.reading.LineSays.{LineSays}
+use Rattle.mt_import.specs.declared.reading.LineSays.TheVariants.{Nothing, Announces, Value, Turns, Shows, Begins, FixedRanges, VariableRanges, Width, Warns, Long}
 use Rattle.mt_import.specs.declared.shape.Announced.{Announced}
 use Rattle.mt_import.specs.declared.shape.FixedLine.{FixedLine}
 use Rattle.mt_import.specs.declared.shape.LastPair.{LastPair}
@@ -100,7 +100,7 @@ module _ (move : ℕ → ℕ) where
       ∙ ap (λ bits. shows_facts 0 context.table (Some (record { number = 0x2ff; bits = bits; value = if enabled then 0x800 else 0; place = moved_place move place }) ∷ None ∷ None ∷ None ∷ None ∷ None ∷ None ∷ None ∷ None ∷ None ∷ None ∷ []))
       (same_bits context.format context.announced context.processor context.table context.fixed enabled)
 
-  of_said : (context : Context) (said : Said) → map moved_fact (said_facts context said) ≡ said_facts (moved_context context) (moved_said move said)
+  of_said : (context : Context) (said : LineSays) → map moved_fact (said_facts context said) ≡ said_facts (moved_context context) (moved_said move said)
   of_said context Nothing = refl
   of_said context (Announces processor number) = refl
   of_said context (Value value place) = of_value context.announced context.table value place
@@ -113,7 +113,7 @@ module _ (move : ℕ → ℕ) where
   of_said context Warns = refl
   of_said context (Long place) = refl
 
-  matched : (said : Said) → is_match (moved_said move said) ≡ is_match said
+  matched : (said : LineSays) → is_match (moved_said move said) ≡ is_match said
   matched Nothing = refl
   matched (Announces processor number) = refl
   matched (Value value place) = refl
@@ -126,7 +126,7 @@ module _ (move : ℕ → ℕ) where
   matched Warns = refl
   matched (Long place) = refl
 
-  next_context : (context : Context) (format : Option Format) (said : Said) → moved_context (context_after context format said) ≡ context_after (moved_context context) format (moved_said move said)
+  next_context : (context : Context) (format : Option Format) (said : LineSays) → moved_context (context_after context format said) ≡ context_after (moved_context context) format (moved_said move said)
   next_context context format Nothing = refl
   next_context context format (Announces processor number) = refl
   next_context context format (Value value place) = refl
@@ -146,7 +146,7 @@ module _ (move : ℕ → ℕ) where
   Moves old new (line ∷ lines) = (move old ≡ new) × Moves (old + 1) (new + 1) lines
 
   -- what it leads to depends on the format and on what the line says
-  by_parts : {A : Type 0} (f : Option Format → Said → A) (context : Context) (number : ℕ) (line : List ℕ)
+  by_parts : {A : Type 0} (f : Option Format → LineSays → A) (context : Context) (number : ℕ) (line : List ℕ)
       → f (chosen context.format number line) (moved_said move (said_in (chosen context.format number line) number line)) ≡ f (chosen context.format (move number) line) (said_in (chosen context.format (move number) line) (move number) line)
   by_parts f context number line =
       ap (f (chosen context.format number line)) (in_format move (chosen context.format number line) number line)
@@ -154,7 +154,7 @@ module _ (move : ℕ → ℕ) where
 
   line_moved : (context : Context) (number : ℕ) (line : List ℕ) → map moved_fact (facts_of_line context number line) ≡ facts_of_line (moved_context context) (move number) line
   line_moved context number line =
-      let said : Said = said_in (chosen context.format number line) number line in
+      let said : LineSays = said_in (chosen context.format number line) number line in
       ap (λ (fs : List Fact). is_line (move number) (chosen context.format number line) (is_match said) ∷ fs) (of_said context said)
       ∙ ap (λ m. is_line (move number) (chosen context.format number line) m ∷ said_facts (moved_context context) (moved_said move said)) (sym (matched said))
       ∙ by_parts (λ format s. line_facts (move number) format (moved_context context) s) context number line

@@ -11,13 +11,13 @@ use Rattle.mt_import.specs.declared.fault.Rival.TheVariants.{Line}
 use Rattle.mt_import.specs.declared.format.Choice.{Choice}
 use Rattle.mt_import.specs.declared.format.Format.{Format}
 use Rattle.mt_import.specs.declared.reading.Context.{Context}
-use Rattle.mt_import.specs.declared.reading.Said.{Said}
-use Rattle.mt_import.specs.declared.reading.Said.TheVariants.{Nothing, Announces, Value, Turns, Shows, Begins, FixedRanges, VariableRanges, Width, Warns, Long}
+use Rattle.mt_import.specs.declared.reading.LineSays.{LineSays}
+use Rattle.mt_import.specs.declared.reading.LineSays.TheVariants.{Nothing, Announces, Value, Turns, Shows, Begins, FixedRanges, VariableRanges, Width, Warns, Long}
 use Rattle.mt_import.specs.declared.shape.Announced.{Announced}
 use Rattle.mt_import.specs.declared.shape.Shown.{Shown}
 use Rattle.mt_import.specs.declared.shape.Tally.{Tally}
-use Rattle.mt_import.specs.Import.{log_told}
-use Rattle.mt_import.specs.Outcome.{Seen, Slots, Told, dump_told, ended, ended_by, ended_with, facts_fault, firm_of, hint_of, is_empty, known_of, missing_of, notes_of, nothing_seen, or_fault, processors, refusal, remarks, seen_after, seen_with, slot_shown, unless, values_of, warning_text}
+use Rattle.mt_import.specs.Import.{log_outcome}
+use Rattle.mt_import.specs.Outcome.{Seen, Slots, Outcome, dump_outcome, ended, ended_by, ended_with, facts_fault, firm_of, hint_of, is_empty, known_of, missing_of, notes_of, nothing_seen, or_fault, processors, refusal, remarks, seen_after, seen_with, slot_shown, unless, values_of, warning_text}
 use Rattle.mt_import.specs.Pieces.{shown_as}
 use Rattle.mt_import.specs.Readings.{Fact, context_after, fixed_facts, fixed_line, fixed_shows, is_fault, is_fixed_clash, is_line, is_match, is_register, is_register_value, is_warning, is_width, line_facts, reading_facts, said_facts, shown_facts, shows_facts, starts, value_facts, variable_shows}
 use Rattle.mt_import.specs.Shown.{chosen, context_behind, facts_from, facts_of_line, format_of, is_auto, said_in, shown}
@@ -65,7 +65,7 @@ keeps_fixed context enabled alone place =
     keeps_if (is_fixed_clash context.fixed enabled) (is_fault (Contradiction place 0x2ff (Line (fixed_line context.fixed))) ∷ []) (shows_facts 0 context.table (fixed_shows enabled alone place))
     (λ seen. (refl, refl)) (keeps_shows 0 context.table (fixed_shows enabled alone place))
 
-keeps_said : (context : Context) (said : Said) → Keeps (said_facts context said)
+keeps_said : (context : Context) (said : LineSays) → Keeps (said_facts context said)
 keeps_said context Nothing seen = (refl, refl)
 keeps_said context (Announces processor number) seen = (refl, refl)
 keeps_said context (Value value place) seen = keeps_value context.announced context.table value place seen
@@ -87,7 +87,7 @@ tallied : (lines : List (List ℕ)) (context : Context) (number : ℕ) (seen : S
     → IsTallied (context_after_lines context number lines) (number + length lines) (seen_after seen (facts_from context number lines))
 tallied [] context number seen is = let e : number ≡ number + 0 = omega arith in record { lines = is.lines ∙ e; format = is.format }
 tallied (line ∷ lines) context number seen is =
-    let said : Said = said_in (chosen context.format number line) number line in
+    let said : LineSays = said_in (chosen context.format number line) number line in
     let counted : Seen = seen_with seen (is_line number (chosen context.format number line) (is_match said)) in
     let kept = keeps_said context said counted in
     let behind : Seen = seen_after seen (facts_of_line context number line) in
@@ -101,12 +101,12 @@ tallied (line ∷ lines) context number seen is =
 abbrev quiet : Context → Context
 quiet context = record { format = context.format; announced = None; processor = context.processor; table = context.table; fixed = context.fixed }
 
-record IsQuiet (context : Context) (format : Option Format) (said : Said) : Type 0 where
+record IsQuiet (context : Context) (format : Option Format) (said : LineSays) : Type 0 where
   facts : said_facts (quiet context) said ≡ said_facts context said
   behind : context_after (quiet context) format said ≡ context_after context format said
 
 -- What is no value doesn't ask for the call.
-no_value : (context : Context) (format : Option Format) (said : Said) → ((value : ℕ) (place : Place) → said ≢ Value value place) → IsQuiet context format said
+no_value : (context : Context) (format : Option Format) (said : LineSays) → ((value : ℕ) (place : Place) → said ≢ Value value place) → IsQuiet context format said
 no_value context format Nothing other = record { facts = refl; behind = refl }
 no_value context format (Announces processor number) other = record { facts = refl; behind = refl }
 no_value context format (Value value place) other = absurd (other value place refl)
@@ -125,7 +125,7 @@ quiet_facts context number others (none_waits none) =
 quiet_facts context number [] (no_value_next next) = refl
 quiet_facts context number (line ∷ lines) (no_value_next next) =
     let format : Option Format = chosen context.format number line in
-    let said : Said = said_in format number line in
+    let said : LineSays = said_in format number line in
     let same = no_value context format said next in
     ap (λ (fs : List Fact). is_line number format (is_match said) ∷ fs ++ facts_from (context_after (quiet context) format said) (number + 1) lines) same.facts
     ∙ ap (λ (c : Context). is_line number format (is_match said) ∷ said_facts context said ++ facts_from c (number + 1) lines) same.behind
@@ -197,8 +197,8 @@ module _ (at : ℕ) where
   refused tally missing = record { same = record { notes = refl; dump = refl; status = refl }; reasons = of_count tally (warning_text tally.warned ++ missing) refl refl }
 
   dumped : (auto : Bool) (missing notes : List ℕ) (tally : Tally) (values : ℕ → ℕ → Option ℕ) (count : ℕ) (width capabilities : Option ℕ)
-      → ComeToSameWithout at (dump_told (refusal tally missing) values count notes (remarks auto tally) width capabilities)
-      (dump_told (refusal (one_line_less tally) missing) values count notes (remarks auto (one_line_less tally)) width capabilities)
+      → ComeToSameWithout at (dump_outcome (refusal tally missing) values count notes (remarks auto tally) width capabilities)
+      (dump_outcome (refusal (one_line_less tally) missing) values count notes (remarks auto (one_line_less tally)) width capabilities)
   dumped auto missing notes tally values count (Some width) (Some capabilities) = record { same = record { notes = refl; dump = refl; status = refl }; reasons = remarked auto tally }
   dumped auto missing notes tally values count (Some width) None = refused tally missing
   dumped auto missing notes tally values count None capabilities = refused tally missing
@@ -208,8 +208,8 @@ module _ (at : ℕ) where
   less auto missing notes tally values count width = by (is_empty missing)
     where
       by : (test : Bool)
-          → ComeToSameWithout at (if test then dump_told (refusal tally missing) values count notes (remarks auto tally) width (values 0 0xfe) else refusal tally missing)
-          (if test then dump_told (refusal (one_line_less tally) missing) values count notes (remarks auto (one_line_less tally)) width (values 0 0xfe) else refusal (one_line_less tally) missing)
+          → ComeToSameWithout at (if test then dump_outcome (refusal tally missing) values count notes (remarks auto tally) width (values 0 0xfe) else refusal tally missing)
+          (if test then dump_outcome (refusal (one_line_less tally) missing) values count notes (remarks auto (one_line_less tally)) width (values 0 0xfe) else refusal (one_line_less tally) missing)
       by true = dumped auto missing notes tally values count width (values 0 0xfe)
       by false = refused tally missing
 
@@ -229,7 +229,7 @@ module _ (at : ℕ) where
       (less auto (missing_of supplied slots (processors seen.readings) known) (notes_of supplied slots (processors seen.readings) known) seen.tally (values_of supplied slots known) (processors seen.readings)
       (width_by supplied slots known.width))
 
-  by_fault : (fault : Option ImportFault) (longer shorter : Told) → ComeToSameWithout at longer shorter → ComeToSameWithout at (unless fault longer) (unless (moved_faults (number_without at) fault) shorter)
+  by_fault : (fault : Option ImportFault) (longer shorter : Outcome) → ComeToSameWithout at longer shorter → ComeToSameWithout at (unless fault longer) (unless (moved_faults (number_without at) fault) shorter)
   by_fault None longer shorter same = same
   by_fault (Some fault) longer shorter same = record { same = record { notes = refl; dump = refl; status = refl }; reasons = of_fault fault refl refl }
 
@@ -255,7 +255,7 @@ module _ (choice : Choice) (supplied : Supplied) (longer shorter : List ℕ) (ha
   later number = facts_from context number has.others
 
   -- what the spare line leads to
-  of_spare : {A : Type 0} (f : Option Format → Said → A) → f (chosen context.format at has.line) (said_in (chosen context.format at has.line) at has.line) ≡ f context.format Nothing
+  of_spare : {A : Type 0} (f : Option Format → LineSays → A) → f (chosen context.format at has.line) (said_in (chosen context.format at has.line) at has.line) ≡ f context.format Nothing
   of_spare f = ap (λ o. f o (said_in o at has.line)) has.spare.0 ∙ ap (f context.format) has.spare.1
 
   longer_facts : shown (format_of choice) longer ≡ first ++ blank ∷ later (at + 1)
@@ -328,10 +328,10 @@ module _ (choice : Choice) (supplied : Supplied) (longer shorter : List ℕ) (ha
       let parts = length-append has.before (has.line ∷ has.others) in
       omega (arith, all, size, parts)
 
-  pub without : ComeToSameWithout at (log_told choice supplied longer) (log_told choice supplied shorter)
+  pub without : ComeToSameWithout at (log_outcome choice supplied longer) (log_outcome choice supplied shorter)
   without =
       let some = counts_all in
-      subst (λ f. ComeToSameWithout at (log_told choice supplied longer) (unless f (ended (is_auto choice) supplied (seen_of choice shorter)))) same_fault
+      subst (λ f. ComeToSameWithout at (log_outcome choice supplied longer) (unless f (ended (is_auto choice) supplied (seen_of choice shorter)))) same_fault
       (by_fault at (facts_fault supplied start (shown (format_of choice) longer)) (ended (is_auto choice) supplied (seen_of choice longer)) (ended (is_auto choice) supplied (seen_of choice shorter))
       (subst (λ (s : Seen). ComeToSameWithout at (ended (is_auto choice) supplied (seen_of choice longer)) (ended (is_auto choice) supplied s)) same_seen
       (moved_ended at (is_auto choice) supplied (seen_of choice longer) (omega (arith, some)) some)))

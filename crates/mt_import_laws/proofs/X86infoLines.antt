@@ -15,8 +15,8 @@ use Rattle.mt_text.specs.declared.place.Place.{Place}
 use Rattle.mt_text.proofs.Plain.{is_plain, plain_ending}
 use Rattle.mt_dump.specs.Canon.{value_text}
 use Rattle.mt_import.specs.declared.format.Format.TheVariants.{Coreboot, Edk2, Inteltool, Linux, X86info, Xen}
-use Rattle.mt_import.specs.declared.reading.Said.{Said}
-use Rattle.mt_import.specs.declared.reading.Said.TheVariants.{Nothing, Warns, Width}
+use Rattle.mt_import.specs.declared.reading.LineSays.{LineSays}
+use Rattle.mt_import.specs.declared.reading.LineSays.TheVariants.{Nothing, Warns, Width}
 use Rattle.mt_import.specs.Kernel.{is_warning_text}
 use Rattle.mt_import.specs.LineWords.{behind_stamp, is_iso, kernel_end}
 use Rattle.mt_import.specs.Linux.{linux_words_said}
@@ -143,7 +143,7 @@ name_bytes (byte ∷ name) all =
 -- ---- a line
 
 -- what words say in each format
-abbrev said_in_each_of : ℕ → List (ℕ × List ℕ) → Said
+abbrev said_in_each_of : ℕ → List (ℕ × List ℕ) → LineSays
 said_in_each_of number words = if is_warning_text (drop (kernel_end words) words) then Warns else sizes_by_words number (take 7 words)
 
 -- a name and a number are no kernel's warning, also where the name is taken as a date
@@ -242,7 +242,7 @@ module _ (names : Names) (are : AreNames names) (key : Key) (is_key : IsKey key)
         ∙ ap (λ found. said_by found number (text ks)) (no_processor ks)
         ∙ ap (λ ws. said_by_words number (take 7 ws)) words
 
-    read_as : (number : ℕ) (said : Said) → said_by_words number (take 7 (placed 0 (first ks ∷ later ks) tail)) ≡ said → said_or_sizes said number (text ks) ≡ said → said_of X86info number (text ks) ≡ said
+    read_as : (number : ℕ) (said : LineSays) → said_by_words number (take 7 (placed 0 (first ks ∷ later ks) tail)) ≡ said → said_or_sizes said number (text ks) ≡ said → said_of X86info number (text ks) ≡ said
     read_as number said by same = rw short (ap (λ s. said_or_sizes s number (text ks)) (said_words number ∙ by) ∙ same)
 
   -- ---- behind two names at most the register is read

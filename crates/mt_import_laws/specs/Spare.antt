@@ -10,9 +10,9 @@ use Rattle.mt_import.specs.declared.fault.Rival.{Rival}
 use Rattle.mt_import.specs.declared.fault.Rival.TheVariants.{Line, Word, CapabilityLine, CapabilityWord, RegisterLine}
 use Rattle.mt_import.specs.declared.format.Choice.{Choice}
 use Rattle.mt_import.specs.declared.reading.Context.{Context}
-use Rattle.mt_import.specs.declared.reading.Said.TheVariants.{Value}
+use Rattle.mt_import.specs.declared.reading.LineSays.TheVariants.{Value}
 use Rattle.mt_import.specs.declared.shape.Tally.{Tally}
-use Rattle.mt_import.specs.Outcome.{Told, count_line, fault_line}
+use Rattle.mt_import.specs.Outcome.{Outcome, count_line, fault_line}
 use Rattle.mt_import.specs.Readings.{starts}
 use Rattle.mt_import.specs.Shown.{chosen, format_of, said_in}
 use Rattle.mt_import_laws.specs.Alike.{MatchesNothing}
@@ -75,6 +75,6 @@ pub data AreMovedReasons (at : ℕ) (longer shorter : List ℕ) : Type 0 where
   of_fault : (fault : ImportFault) → longer ≡ fault_line fault → shorter ≡ fault_line (moved_fault (number_without at) fault) → AreMovedReasons at longer shorter
   of_count : (tally : Tally) (others : List ℕ) → longer ≡ count_line tally ++ others → shorter ≡ count_line (one_line_less tally) ++ others → AreMovedReasons at longer shorter
 
-pub record ComeToSameWithout (at : ℕ) (longer shorter : Told) : Type 0 where
+pub record ComeToSameWithout (at : ℕ) (longer shorter : Outcome) : Type 0 where
   pub same : ComeToSame longer shorter
   pub reasons : AreMovedReasons at longer.reasons shorter.reasons

@@ -4,7 +4,7 @@ ghost use Rattle.mt_regs.specs.RegisterFile.{RegisterFile, pair_at};
 ghost use Rattle.mt_import.specs.declared.format.Choice.TheVariants.{Only};
 ghost use Rattle.mt_import.specs.declared.format.Format.TheVariants.{Coreboot, Edk2, Inteltool, Linux, Rdmsr, X86info, Xen};
 ghost use Rattle.mt_dump.specs.Canon.{ended};
-ghost use Rattle.mt_import.specs.Import.{log_told};
+ghost use Rattle.mt_import.specs.Import.{log_outcome};
 ghost use Rattle.mt_import.specs.Supplied.{Supplied, command_of};
 ghost use Rattle.mt_import_laws.specs.FirstLine.{IsOfNoHost, LinesTellFirst};
 ghost use Rattle.mt_import_laws.specs.Printed.{ReadsAs, TableReadsBack, TableReadsInOrder, TellsNoMore, TextReadsAs, TextReadsBack, dump_of_all};
@@ -49,7 +49,7 @@ pub fn what_x86info_prints_reads_back()
 /// doesn't print. A word is for all processors.
 pub fn what_x86info_prints_of_all_reads_back()
     ensures { (cpus : List (Print × RegisterFile)) (supplied : Supplied) → SuitsX86infoOfAll cpus supplied
-        → ReadsAs (log_told (Only X86info) supplied (ended (cpu_lines 0 cpus))) (dump_of_all (files_in cpus)) }
+        → ReadsAs (log_outcome (Only X86info) supplied (ended (cpu_lines 0 cpus))) (dump_of_all (files_in cpus)) }
 {}
 
 /// What coreboot displays of a register file reads back as the file, if words supply its width and its PAT. So does any log that has
