@@ -13,13 +13,13 @@ use Rattle.mt_import.specs.declared.fault.ImportFault.{ImportFault}
 use Rattle.mt_import.specs.declared.format.Choice.{Choice}
 use Rattle.mt_import.specs.declared.format.Format.{Format}
 use Rattle.mt_import.specs.declared.reading.Context.{Context}
-use Rattle.mt_import.specs.declared.reading.Said.{Said}
-use Rattle.mt_import.specs.declared.reading.Said.TheVariants.{Long}
+use Rattle.mt_import.specs.declared.reading.LineSays.{LineSays}
+use Rattle.mt_import.specs.declared.reading.LineSays.TheVariants.{Long}
 use Rattle.mt_import.specs.Readings.{Fact, context_after, line_facts, starts}
 use Rattle.mt_import.specs.Shown.{chosen, context_behind, facts_from, facts_of_line, format_of, is_auto, said_in}
 use Rattle.mt_import.specs.Supplied.{Supplied}
-use Rattle.mt_import.specs.Outcome.{Seen, Told, ended_with, facts_fault, nothing_seen, outcome, seen_after, unless}
-use Rattle.mt_import.specs.Import.{log_told}
+use Rattle.mt_import.specs.Outcome.{Seen, Outcome, ended_with, facts_fault, nothing_seen, facts_outcome, seen_after, unless}
+use Rattle.mt_import.specs.Import.{log_outcome}
 use Rattle.mt_import.specs.Reader.{HasTaken, State, known_in, slots_of}
 use Rattle.mt_import.proofs.Facts.{fault_append, seen_append}
 use Rattle.mt_import.proofs.Same.{same_end}
@@ -28,7 +28,7 @@ use Rattle.mt_import.proofs.Same.{same_end}
 pub record LeadsOn (choice : Choice) (supplied : Supplied) (bytes : List ℕ) (left : Option (List ℕ)) (feed : Feeding) (context : Context) (seen : Seen) : Type 0 where
   pub after : List ℕ
   pub left_is : left ≡ Some after
-  pub says : outcome (is_auto choice) supplied seen (facts_from context feed.place.line (lines_of (feed.pending ++ after))) ≡ log_told choice supplied bytes
+  pub says : facts_outcome (is_auto choice) supplied seen (facts_from context feed.place.line (lines_of (feed.pending ++ after))) ≡ log_outcome choice supplied bytes
 
 -- between two lines
 pub record IsReading (choice : Choice) (supplied : Supplied) (left_first left : Option (List ℕ)) (given_first given : ℕ) (feed : Feeding) (reader : State) : Type 0 where
@@ -48,10 +48,10 @@ at_first choice supplied left given feed reader start held context = record {
 
 -- ---- the facts of a line
 
-goes_past : (auto : Bool) (supplied : Supplied) (seen : Seen) (facts others : List Fact) → facts_fault supplied seen facts ≡ None → outcome auto supplied seen (facts ++ others) ≡ outcome auto supplied (seen_after seen facts) others
+goes_past : (auto : Bool) (supplied : Supplied) (seen : Seen) (facts others : List Fact) → facts_fault supplied seen facts ≡ None → facts_outcome auto supplied seen (facts ++ others) ≡ facts_outcome auto supplied (seen_after seen facts) others
 goes_past auto supplied seen facts others none = rw (fault_append supplied seen facts others, none, seen_append seen facts others) refl
 
-fails : (auto : Bool) (supplied : Supplied) (seen : Seen) (facts others : List Fact) (fault : ImportFault) (told : Told) → facts_fault supplied seen facts ≡ Some fault → outcome auto supplied seen (facts ++ others) ≡ unless (Some fault) told
+fails : (auto : Bool) (supplied : Supplied) (seen : Seen) (facts others : List Fact) (fault : ImportFault) (told : Outcome) → facts_fault supplied seen facts ≡ Some fault → facts_outcome auto supplied seen (facts ++ others) ≡ unless (Some fault) told
 fails auto supplied seen facts others fault told found = rw (fault_append supplied seen facts others, found) refl
 
 -- ---- one line
@@ -90,7 +90,7 @@ said_cut : (format : Option Format) (number : ℕ) (line : List ℕ) → said_in
 said_cut format number line = same_cut (said_in format number) line (λ far. said_long format number (take 4097 line) (is_cut line far) ∙ sym (said_long format number line far))
 
 -- what follows from the format that is known behind a line, and from what the line says
-by_line : {A : Type 0} (f : Option Format → Said → A) (format : Option Format) (number : ℕ) (line : List ℕ)
+by_line : {A : Type 0} (f : Option Format → LineSays → A) (format : Option Format) (number : ℕ) (line : List ℕ)
     → f (chosen format number (take 4097 line)) (said_in (chosen format number (take 4097 line)) number (take 4097 line)) ≡ f (chosen format number line) (said_in (chosen format number line) number line)
 by_line f format number line =
     ap (λ c. f c (said_in c number (take 4097 line))) (chosen_cut format number line) ∙ ap (f (chosen format number line)) (said_cut (chosen format number line) number line)
@@ -122,16 +122,16 @@ module _ (left_first left after : Option (List ℕ)) (given_first given given_af
 
   -- what this line and those behind it come to
   leads : (bytes : List ℕ) (told : LeadsOn choice supplied bytes left feed reader.context reading.seen)
-      → outcome (is_auto choice) supplied reading.seen (facts ++ facts_from behind (line.number + 1) (next_of bytes told).2.others) ≡ log_told choice supplied bytes
+      → facts_outcome (is_auto choice) supplied reading.seen (facts ++ facts_from behind (line.number + 1) (next_of bytes told).2.others) ≡ log_outcome choice supplied bytes
   leads bytes told =
       let lent = (next_of bytes told).2 in
       let later = (next_of bytes told).0 in
-      ap (λ fs. outcome (is_auto choice) supplied reading.seen (fs ++ facts_from behind (line.number + 1) lent.others)) (facts_lent feed new told.after later line lent reader.context)
-      ∙ ap (λ c. outcome (is_auto choice) supplied reading.seen (facts_of_line reader.context feed.place.line lent.first ++ facts_from c (line.number + 1) lent.others)) (context_lent feed new told.after later line lent reader.context)
-      ∙ ap (λ n. outcome (is_auto choice) supplied reading.seen (facts_of_line reader.context feed.place.line lent.first ++ facts_from (context_behind reader.context feed.place.line lent.first) (n + 1) lent.others)) lent.number
-      ∙ sym (ap (λ ls. outcome (is_auto choice) supplied reading.seen (facts_from reader.context feed.place.line ls)) lent.lines) ∙ told.says
+      ap (λ fs. facts_outcome (is_auto choice) supplied reading.seen (fs ++ facts_from behind (line.number + 1) lent.others)) (facts_lent feed new told.after later line lent reader.context)
+      ∙ ap (λ c. facts_outcome (is_auto choice) supplied reading.seen (facts_of_line reader.context feed.place.line lent.first ++ facts_from c (line.number + 1) lent.others)) (context_lent feed new told.after later line lent reader.context)
+      ∙ ap (λ n. facts_outcome (is_auto choice) supplied reading.seen (facts_of_line reader.context feed.place.line lent.first ++ facts_from (context_behind reader.context feed.place.line lent.first) (n + 1) lent.others)) lent.number
+      ∙ sym (ap (λ ls. facts_outcome (is_auto choice) supplied reading.seen (facts_from reader.context feed.place.line ls)) lent.lines) ∙ told.says
 
-  pub offends : (bytes : List ℕ) (fault : ImportFault) (result : Told) → left_first ≡ Some bytes → facts_fault supplied reading.seen facts ≡ Some fault → result ≡ unless (Some fault) result → result ≡ log_told choice supplied bytes
+  pub offends : (bytes : List ℕ) (fault : ImportFault) (result : Outcome) → left_first ≡ Some bytes → facts_fault supplied reading.seen facts ≡ Some fault → result ≡ unless (Some fault) result → result ≡ log_outcome choice supplied bytes
   offends bytes fault result is found told_is =
       let told = reading.told bytes is in
       told_is ∙ sym (fails (is_auto choice) supplied reading.seen facts (facts_from behind (line.number + 1) (next_of bytes told).2.others) fault result found) ∙ leads bytes told
@@ -145,7 +145,7 @@ module _ (left_first left after : Option (List ℕ)) (given_first given given_af
       record {
         after = next.0;
         left_is = next.1;
-        says = ap (outcome (is_auto choice) supplied (seen_after reading.seen facts)) same
+        says = ap (facts_outcome (is_auto choice) supplied (seen_after reading.seen facts)) same
             ∙ sym (goes_past (is_auto choice) supplied reading.seen facts (facts_from behind (line.number + 1) lent.others) none) ∙ leads bytes told;
       }
 
@@ -161,9 +161,9 @@ module _ (left_first left after : Option (List ℕ)) (given_first given given_af
 -- at the end of all lines
 module _ (left_first left after : Option (List ℕ)) (given_first given given_after : ℕ) (feed new : Feeding) (choice : Choice) (supplied : Supplied) (reader : State) (reading : IsReading choice supplied left_first left given_first given feed reader)
     (lines : Lines feed new left after given given_after (Ok None)) where
-  pub ends : (bytes : List ℕ) → left_first ≡ Some bytes → ended_with (is_auto choice) supplied (slots_of reader) reader.processors (known_in reader) reader.tally ≡ log_told choice supplied bytes
+  pub ends : (bytes : List ℕ) → left_first ≡ Some bytes → ended_with (is_auto choice) supplied (slots_of reader) reader.processors (known_in reader) reader.tally ≡ log_outcome choice supplied bytes
   ends bytes is =
       let told = reading.told bytes is in
       let next = lends_lines feed new told.after after given given_after (Ok None) (rw told.left_is at lines) in
       same_end (is_auto choice) supplied reader reading.seen reading.held
-      ∙ ap (λ l. outcome (is_auto choice) supplied reading.seen (facts_from reader.context feed.place.line (lines_of l))) (sym next.2.0) ∙ told.says
+      ∙ ap (λ l. facts_outcome (is_auto choice) supplied reading.seen (facts_from reader.context feed.place.line (lines_of l))) (sym next.2.0) ∙ told.says

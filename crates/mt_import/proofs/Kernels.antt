@@ -3,7 +3,7 @@ use Rattle.std.proofs.Common.{◌≡◌, ◌<◌, ◌≤◌, ◌+◌, ◌-◌, �
 use Rattle.std.proofs.lemmas.Bool.Decides.{nat_tests}
 use Rattle.mt_text.specs.Words.{text_of}
 use Rattle.mt_text.specs.declared.place.Place.{Place}
-use Rattle.mt_import.specs.declared.reading.Said.TheVariants.{Nothing, Shows}
+use Rattle.mt_import.specs.declared.reading.LineSays.TheVariants.{Nothing, Shows}
 use Rattle.mt_import.specs.Kernel.{all_fixed_shown, types_said}
 use Rattle.mt_import.specs.Rdmsr.{announced, call_from, option_at, register_named}
 

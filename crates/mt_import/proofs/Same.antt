@@ -9,7 +9,7 @@ use Rattle.mt_import.specs.declared.shape.Tally.{Tally}
 use Rattle.mt_import.specs.declared.supplied.Assumed.{Assumed}
 use Rattle.mt_import.specs.Supplied.{IsSupplied, Supplied, all_assumed, supplied_value}
 use Rattle.mt_import.specs.Values.{Known, assumed_capabilities, assumed_of, assumed_pair, assumed_value, assumed_zero, base_of, disabled_value, firm_value, firm_width, has_pairs, is_unshown, mask_of, masks_in, only_if, or_supplied, pair_count, shown_pairs, shows_only_fix, shows_pairs, widest, width_by}
-use Rattle.mt_import.specs.Outcome.{Seen, Slots, Told, dump_told, ended, ended_by, ended_with, file_of, files_of, first_pairs, firm_of, fixed_of, hint_of, is_missing, known_by, known_of, missing_lines, missing_of, missing_width, needed, note_line, note_lines, noted, noted_of, notes_of, processors, refusal, remarks, slot_shown, value_or_zero, values_of, width_note}
+use Rattle.mt_import.specs.Outcome.{Seen, Slots, Outcome, dump_outcome, ended, ended_by, ended_with, file_of, files_of, first_pairs, firm_of, fixed_of, hint_of, is_missing, known_by, known_of, missing_lines, missing_of, missing_width, needed, note_line, note_lines, noted, noted_of, notes_of, processors, refusal, remarks, slot_shown, value_or_zero, values_of, width_note}
 use Rattle.mt_import.specs.Reader.{HasTaken, IsFit, State, known_in, slots_of, values_in}
 
 -- ---- the same slots of one processor
@@ -77,7 +77,7 @@ module _ (v w : ℕ → ℕ → Option ℕ) (same : (k n : ℕ) → v k n ≡ w 
   same_files width capabilities zero = refl
   same_files width capabilities (suc k) = rw (same_files width capabilities k, same_file k width capabilities) refl
 
-  same_told : (refused : Told) (count : ℕ) (notes reasons : List ℕ) (width capabilities : Option ℕ) → dump_told refused v count notes reasons width capabilities ≡ dump_told refused w count notes reasons width capabilities
+  same_told : (refused : Outcome) (count : ℕ) (notes reasons : List ℕ) (width capabilities : Option ℕ) → dump_outcome refused v count notes reasons width capabilities ≡ dump_outcome refused w count notes reasons width capabilities
   same_told refused count notes reasons (Some width) (Some capabilities) = rw (same_files width capabilities count) refl
   same_told refused count notes reasons (Some width) None = refl
   same_told refused count notes reasons None capabilities = refl

@@ -8,8 +8,8 @@ use Rattle.mt_text.specs.Words.{place_of, text_of}
 use Rattle.mt_text.specs.Number.{decimal_number}
 use Rattle.mt_text.specs.declared.fault.NumberFault.{NumberFault}
 use Rattle.mt_text.specs.declared.place.Place.{Place}
-use Rattle.mt_import.specs.declared.reading.Said.{Said}
-use Rattle.mt_import.specs.declared.reading.Said.TheVariants.{Nothing, Begins, Shows}
+use Rattle.mt_import.specs.declared.reading.LineSays.{LineSays}
+use Rattle.mt_import.specs.declared.reading.LineSays.TheVariants.{Nothing, Begins, Shows}
 use Rattle.mt_import.specs.Pieces.{before, behind, is_text, prefixed_number, prefixed_register, shown_as, shown_bits, shows_one, shows_width, whole_number}
 use Rattle.mt_import.specs.Readings.{one_shown, two_shown}
 use Rattle.mt_import.specs.Kernel.{default_shown}
@@ -70,7 +70,7 @@ register_named word =
     else if is_text (codes "IA32_MTRR_DEF_TYPE:") word then Some 0x2ff
     else pair_by (behind (codes "PHYBASE") word) word
 
-abbrev pub displayed_from : ℕ → ℕ → List (ℕ × List ℕ) → Said
+abbrev pub displayed_from : ℕ → ℕ → List (ℕ × List ℕ) → LineSays
 displayed_from first number words = shows_one None (register_named (text_of words (first + 1))) (colon_number (text_of words first)) (place_of number words first)
 
 -- ---- what is printed when registers are set
@@ -79,7 +79,7 @@ displayed_from first number words = shows_one None (register_named (text_of word
 abbrev pub is_fixed : ℕ → List (ℕ × List ℕ) → Bool
 is_fixed first words = is_text (codes "Fixed") (text_of words first) && is_text (codes "MSR") (text_of words (first + 1))
 
-abbrev pub fixed_from : Option ℕ → ℕ → ℕ → List (ℕ × List ℕ) → Said
+abbrev pub fixed_from : Option ℕ → ℕ → ℕ → List (ℕ × List ℕ) → LineSays
 fixed_from processor first number words = shows_one processor (prefixed_register (text_of words (first + 2))) (whole_number 18 (text_of words (first + 3))) (place_of number words (first + 3))
 
 -- `0 base 0xBASE mask 0xMASK type 6`
@@ -91,7 +91,7 @@ abbrev pub is_page : ℕ → Bool
 is_page address = nat_lt address 0x10000000000000 && address % page_bytes == 0
 
 -- PhysBase has the type in its low byte, and PhysMask has V set.
-abbrev pub shows_pair : Result ℕ NumberFault → Option ℕ → Option ℕ → Result ℕ NumberFault → Place → Place → Said
+abbrev pub shows_pair : Result ℕ NumberFault → Option ℕ → Option ℕ → Result ℕ NumberFault → Place → Place → LineSays
 shows_pair (Ok pair) (Some base) (Some mask) (Ok kind) base_place mask_place =
     if is_page base && is_page mask then Shows None (two_shown (shown_as (0x200 + 2 * pair) (base + kind) base_place) (shown_as (0x201 + 2 * pair) (mask + 0x800) mask_place))
     else Nothing
@@ -100,7 +100,7 @@ shows_pair (Ok pair) (Some base) None kind base_place mask_place = Nothing
 shows_pair (Ok pair) None mask kind base_place mask_place = Nothing
 shows_pair (Err fault) base mask kind base_place mask_place = Nothing
 
-abbrev pub pair_from : ℕ → ℕ → List (ℕ × List ℕ) → Said
+abbrev pub pair_from : ℕ → ℕ → List (ℕ × List ℕ) → LineSays
 pair_from first number words =
     shows_pair (decimal_number (text_of words first) 31) (prefixed_number (text_of words (first + 2))) (prefixed_number (text_of words (first + 4))) (decimal_number (text_of words (first + 6)) 255)
     (place_of number words (first + 2)) (place_of number words (first + 4))
@@ -111,7 +111,7 @@ is_size first words =
     is_text (codes "CPU") (text_of words first) && is_text (codes "physical") (text_of words (first + 1)) && is_text (codes "address") (text_of words (first + 2))
     && is_text (codes "size:") (text_of words (first + 3)) && is_text (codes "bits") (text_of words (first + 5))
 
-abbrev pub size_from : ℕ → ℕ → List (ℕ × List ℕ) → Said
+abbrev pub size_from : ℕ → ℕ → List (ℕ × List ℕ) → LineSays
 size_from first number words = if is_size first words then shows_width (decimal_number (text_of words (first + 4)) 255) (place_of number words (first + 4)) else Nothing
 
 -- `WB selected as default type.`: a table begins
@@ -123,11 +123,11 @@ is_default first words =
 abbrev pub default_named : List ℕ → Option ℕ
 default_named word = if is_text (codes "WB") word then Some 6 else if is_text (codes "UC") word then Some 0 else None
 
-abbrev pub default_from : ℕ → ℕ → List (ℕ × List ℕ) → Said
+abbrev pub default_from : ℕ → ℕ → List (ℕ × List ℕ) → LineSays
 default_from first number words = Begins (one_shown (default_shown (default_named (text_of words first)) (place_of number words first)))
 
 -- `Fixed MTRRs   : Enabled` and `Variable MTRRs: Enabled`: FE and E
-abbrev pub flag_said : ℕ → List ℕ → Place → Said
+abbrev pub flag_said : ℕ → List ℕ → Place → LineSays
 flag_said bit word place =
     if is_text (codes "Enabled") word then Shows None (one_shown (shown_bits 0x2ff bit bit place))
     else if is_text (codes "Disabled") word then Shows None (one_shown (shown_bits 0x2ff bit 0 place))
@@ -139,14 +139,14 @@ is_fixed_flag first words = is_text (codes "Fixed") (text_of words first) && is_
 abbrev pub is_variable_flag : ℕ → List (ℕ × List ℕ) → Bool
 is_variable_flag first words = is_text (codes "Variable") (text_of words first) && is_text (codes "MTRRs:") (text_of words (first + 1))
 
-abbrev pub other_from : ℕ → ℕ → List (ℕ × List ℕ) → Said
+abbrev pub other_from : ℕ → ℕ → List (ℕ × List ℕ) → LineSays
 other_from first number words =
     if is_fixed_flag first words then flag_said 0x400 (text_of words (first + 3)) (place_of number words (first + 3))
     else if is_variable_flag first words then flag_said 0x800 (text_of words (first + 2)) (place_of number words (first + 2))
     else displayed_from first number words
 
 -- behind `MTRR:`
-abbrev pub set_from : ℕ → ℕ → List (ℕ × List ℕ) → Said
+abbrev pub set_from : ℕ → ℕ → List (ℕ × List ℕ) → LineSays
 set_from first number words =
     if is_fixed first words then fixed_from None first number words
     else if is_pair first words then pair_from first number words
@@ -156,7 +156,7 @@ set_from first number words =
 -- ---- a line
 
 -- The processor is the one of this APIC ID.
-abbrev pub fixed_of : Option ℕ → ℕ → ℕ → List (ℕ × List ℕ) → Said
+abbrev pub fixed_of : Option ℕ → ℕ → ℕ → List (ℕ × List ℕ) → LineSays
 fixed_of None first number words = Nothing
 fixed_of (Some id) first number words = if nat_lt id 0x10000 then fixed_from (Some id) first number words else Nothing
 
@@ -169,13 +169,13 @@ abbrev pub is_setup : ℕ → List (ℕ × List ℕ) → Bool
 is_setup first words = is_text (codes "setup") (text_of words (first + 1)) && is_text (codes "mtrr") (text_of words (first + 2)) && is_text (codes "for") (text_of words (first + 3))
 
 -- behind `apic_id`
-abbrev pub said_of_id : ℕ → ℕ → List (ℕ × List ℕ) → Said
+abbrev pub said_of_id : ℕ → ℕ → List (ℕ × List ℕ) → LineSays
 said_of_id first number words =
     if is_fixed_of first words then fixed_of (colon_number (text_of words first)) (first + 2) number words
     else if is_setup first words then size_from (first + 4) number words
     else Nothing
 
-abbrev pub said_from : ℕ → ℕ → List (ℕ × List ℕ) → Said
+abbrev pub said_from : ℕ → ℕ → List (ℕ × List ℕ) → LineSays
 said_from first number words =
     if is_text (codes "apic_id") (text_of words first) then said_of_id (first + 1) number words
     else if is_text (codes "MTRR:") (text_of words first) then set_from (first + 1) number words
@@ -186,5 +186,5 @@ said_from first number words =
 abbrev pub level_words : List (ℕ × List ℕ) → ℕ
 level_words words = if is_text (codes "[DEBUG]") (text_of words 0) then 1 else 0
 
-abbrev pub coreboot_said : ℕ → List ℕ → Said
+abbrev pub coreboot_said : ℕ → List ℕ → LineSays
 coreboot_said number line = said_from (level_words (words_of line)) number (words_of line)

@@ -1,6 +1,6 @@
 -- What the program writes for a command line and a log, and the status that it ends with (own).
---     log_told choice supplied text      the texts and the status for a log
---     told_of words bytes      the same for a command line
+--     log_outcome choice supplied text      the texts and the status for a log
+--     outcome_of words bytes      the same for a command line
 --     output_of words bytes      one text and the status: the dump, or else the reasons
 use Rattle.std.specs.Prelude.{ℕ, ◌≡◌, ◌<◌, ◌⊎◌, ◌++◌, codes, List, [], length, if◌then◌else◌, Option, Some, None, ⊤}
 use Rattle.std.specs.Io.KnownBytes.{Appends}
@@ -15,34 +15,34 @@ use Rattle.mt_import.specs.declared.format.Choice.{Choice}
 use Rattle.mt_import.specs.Shown.{format_of, is_auto, shown}
 use Rattle.mt_import.specs.Help.{own_text}
 use Rattle.mt_import.specs.Supplied.{Supplied, command_of}
-use Rattle.mt_import.specs.Outcome.{Told, is_empty, nothing_seen, outcome}
+use Rattle.mt_import.specs.Outcome.{Outcome, is_empty, nothing_seen, facts_outcome}
 
-abbrev pub log_told : Choice → Supplied → List ℕ → Told
-log_told choice supplied text = outcome (is_auto choice) supplied (nothing_seen (format_of choice)) (shown (format_of choice) text)
+abbrev pub log_outcome : Choice → Supplied → List ℕ → Outcome
+log_outcome choice supplied text = facts_outcome (is_auto choice) supplied (nothing_seen (format_of choice)) (shown (format_of choice) text)
 
-abbrev pub own_told : List ℕ → Told
-own_told text = record { notes = []; dump = text; reasons = []; status = Done }
+abbrev pub own_outcome : List ℕ → Outcome
+own_outcome text = record { notes = []; dump = text; reasons = []; status = Done }
 
-abbrev pub usage_told : Told
-usage_told = record { notes = []; dump = []; reasons = line (codes "usage"); status = Usage }
+abbrev pub usage_outcome : Outcome
+usage_outcome = record { notes = []; dump = []; reasons = line (codes "usage"); status = Usage }
 
-abbrev pub told_by : Option (List ℕ) → Option (Choice × Supplied) → List ℕ → Told
-told_by (Some text) command bytes = own_told text
-told_by None None bytes = usage_told
-told_by None (Some command) bytes = log_told command.0 command.1 bytes
+abbrev pub outcome_by : Option (List ℕ) → Option (Choice × Supplied) → List ℕ → Outcome
+outcome_by (Some text) command bytes = own_outcome text
+outcome_by None None bytes = usage_outcome
+outcome_by None (Some command) bytes = log_outcome command.0 command.1 bytes
 
-abbrev pub told_of : List (List ℕ) → List ℕ → Told
-told_of words bytes = told_by (own_text words) (command_of words) bytes
+abbrev pub outcome_of : List (List ℕ) → List ℕ → Outcome
+outcome_of words bytes = outcome_by (own_text words) (command_of words) bytes
 
 -- the dump behind its comments
-abbrev pub dump_text : Told → List ℕ
+abbrev pub dump_text : Outcome → List ℕ
 dump_text texts = texts.notes ++ texts.dump
 
-abbrev pub one_text : Told → List ℕ
+abbrev pub one_text : Outcome → List ℕ
 one_text texts = if is_empty texts.dump then texts.reasons else dump_text texts
 
 abbrev pub output_of : List (List ℕ) → List ℕ → List ℕ × Status
-output_of words bytes = (one_text (told_of words bytes), (told_of words bytes).status)
+output_of words bytes = (one_text (outcome_of words bytes), (outcome_of words bytes).status)
 
 -- without a command, and for the program's own texts, nothing is read
 abbrev pub left_by : Option (List ℕ) → Option (Choice × Supplied) → List ℕ → List ℕ
@@ -84,14 +84,14 @@ pub record Taken : Type 0 where
 
 -- Reasons come first, and then the dump. Each sink took its text, and the status is that of the texts.
 -- Or the sink of the reasons failed, and the other took nothing. Or it took all reasons, and the other failed.
-abbrev pub WritesApart : Told → Taken → Taken → Status → Type 0
+abbrev pub WritesApart : Outcome → Taken → Taken → Status → Type 0
 WritesApart texts out errors result =
     ((result ≡ texts.status) × Appends out.old out.new (dump_text texts) × Appends errors.old errors.new texts.reasons)
     ⊎ ((result ≡ WriteFault) × (out.new ≡ out.old) × AppendsFront errors.old errors.new texts.reasons)
     ⊎ ((result ≡ WriteFault) × AppendsFront out.old out.new (dump_text texts) × Appends errors.old errors.new texts.reasons)
 
 pub data ImportsApart (words : List (List ℕ)) (bytes : List ℕ) (left : Option (List ℕ)) (out errors : Taken) (result : Status) : Type 0 where
-  told : left ≡ Some (left_of words bytes) → WritesApart (told_of words bytes) out errors result → ImportsApart words bytes left out errors result
+  told : left ≡ Some (left_of words bytes) → WritesApart (outcome_of words bytes) out errors result → ImportsApart words bytes left out errors result
   unread : out.new ≡ out.old → errors.new ≡ errors.old → IsUnread bytes result → ImportsApart words bytes left out errors result
 
 -- the same where the arguments may have found no memory: then nothing is read or written

@@ -4,8 +4,8 @@ use Rattle.std.specs.Prelude.{ℕ, ◌+◌, ◌*◌, ◌==◌, ◌&&◌, nat_lt,
 use Rattle.mt_text.specs.Words.{first_words, place_of, text_of}
 use Rattle.mt_text.specs.Number.{decimal_number}
 use Rattle.mt_text.specs.declared.fault.NumberFault.{NumberFault}
-use Rattle.mt_import.specs.declared.reading.Said.{Said}
-use Rattle.mt_import.specs.declared.reading.Said.TheVariants.{Nothing, Turns}
+use Rattle.mt_import.specs.declared.reading.LineSays.{LineSays}
+use Rattle.mt_import.specs.declared.reading.LineSays.TheVariants.{Nothing, Turns}
 use Rattle.mt_import.specs.Pieces.{before, is_text, prefixed_register, shows_one, unread_processor, whole_number}
 
 -- a value by its upper and its lower half
@@ -25,12 +25,12 @@ halves_at word (Some at) = of_halves (whole_number 10 (take at word)) (whole_num
 abbrev pub halves_value : List ℕ → Option ℕ
 halves_value word = halves_at word (position is_colon word)
 
-abbrev pub turned_to : Result ℕ NumberFault → Said
+abbrev pub turned_to : Result ℕ NumberFault → LineSays
 turned_to (Ok processor) = Turns processor
 turned_to (Err fault) = Turns unread_processor
 
 -- `N)`
-abbrev pub turned_by : Option (List ℕ) → Said
+abbrev pub turned_by : Option (List ℕ) → LineSays
 turned_by (Some digits) = turned_to (decimal_number digits 65535)
 turned_by None = Turns unread_processor
 
@@ -46,12 +46,12 @@ is_shared words = is_text (codes "SHARED") (text_of words 1) && is_text (codes "
 abbrev pub is_unique : List (ℕ × List ℕ) → Bool
 is_unique words = is_text (codes "UNIQUE") (text_of words 1) && is_text (codes "MSRs") (text_of words 2) && is_text (codes "(core") (text_of words 3)
 
-abbrev pub said_by_words : ℕ → List (ℕ × List ℕ) → Said
+abbrev pub said_by_words : ℕ → List (ℕ × List ℕ) → LineSays
 said_by_words number words =
     if is_register_line words then shows_one None (prefixed_register (text_of words 1)) (halves_value (text_of words 3)) (place_of number words 3)
     else if is_shared words then Turns 0
     else if is_unique words then turned_by (before (codes ")") (text_of words 4))
     else Nothing
 
-abbrev pub inteltool_said : ℕ → List ℕ → Said
+abbrev pub inteltool_said : ℕ → List ℕ → LineSays
 inteltool_said number line = said_by_words number (first_words number line).words

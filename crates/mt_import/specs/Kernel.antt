@@ -8,8 +8,8 @@ use Rattle.mt_text.specs.Text.{words_of}
 use Rattle.mt_text.specs.Words.{text_of, place_of}
 use Rattle.mt_text.specs.Number.{hex_number, decimal_number}
 use Rattle.mt_text.specs.declared.place.Place.{Place}
-use Rattle.mt_import.specs.declared.reading.Said.{Said}
-use Rattle.mt_import.specs.declared.reading.Said.TheVariants.{Nothing, Shows, Begins, FixedRanges, VariableRanges}
+use Rattle.mt_import.specs.declared.reading.LineSays.{LineSays}
+use Rattle.mt_import.specs.declared.reading.LineSays.TheVariants.{Nothing, Shows, Begins, FixedRanges, VariableRanges}
 use Rattle.mt_import.specs.declared.shape.Shown.{Shown}
 use Rattle.mt_import.specs.Pieces.{is_text, number_in, shown_bits, value_at}
 use Rattle.mt_import.specs.LineWords.{kernel_end, words_behind}
@@ -30,11 +30,11 @@ type_named word =
 abbrev pub enabled_by : List ℕ → Option Bool
 enabled_by word = if is_text (codes "enabled:") word then Some true else if is_text (codes "disabled:") word then Some false else None
 
-abbrev pub fixed_said : Bool → Place → Option Bool → Said
+abbrev pub fixed_said : Bool → Place → Option Bool → LineSays
 fixed_said alone place None = Nothing
 fixed_said alone place (Some enabled) = FixedRanges enabled alone place
 
-abbrev pub variable_said : Place → Option Bool → Said
+abbrev pub variable_said : Place → Option Bool → LineSays
 variable_said place None = Nothing
 variable_said place (Some enabled) = VariableRanges enabled place
 
@@ -43,7 +43,7 @@ abbrev pub default_shown : Option ℕ → Place → Option Shown
 default_shown None place = None
 default_shown (Some code) place = shown_bits 0x2ff 0xfffffffffffff3ff code place
 
-abbrev pub head_said : Bool → ℕ → List (ℕ × List ℕ) → Said
+abbrev pub head_said : Bool → ℕ → List (ℕ × List ℕ) → LineSays
 head_said alone number words =
     if is_text (codes "default") (text_of words 1) && is_text (codes "type:") (text_of words 2) then Begins (one_shown (default_shown (type_named (text_of words 3)) (place_of number words 3)))
     else if not (is_text (codes "ranges") (text_of words 2)) then Nothing
@@ -90,20 +90,20 @@ all_fixed_shown first end code place =
     ∷ fixed_shown first end code place 48 0x26b ∷ fixed_shown first end code place 56 0x26c ∷ fixed_shown first end code place 64 0x26d
     ∷ fixed_shown first end code place 72 0x26e ∷ fixed_shown first end code place 80 0x26f ∷ []
 
-abbrev pub types_said : Option ℕ → Option ℕ → Option ℕ → Place → Said
+abbrev pub types_said : Option ℕ → Option ℕ → Option ℕ → Place → LineSays
 types_said None end code place = Nothing
 types_said (Some first) None code place = Nothing
 types_said (Some first) (Some end) None place = Nothing
 types_said (Some first) (Some end) (Some code) place =
     if nat_lt first end then Shows (Some 0) (all_fixed_shown first end code place) else Nothing
 
-abbrev pub addresses_said : Option ℕ → Option ℕ → Option ℕ → Place → Said
+abbrev pub addresses_said : Option ℕ → Option ℕ → Option ℕ → Place → LineSays
 addresses_said None last code place = Nothing
 addresses_said (Some first) None code place = Nothing
 addresses_said (Some first) (Some last) code place =
     if nat_lt last 0x100000 then types_said (range_at first) (range_at (last + 1)) code place else Nothing
 
-abbrev pub run_said : ℕ → List (ℕ × List ℕ) → Said
+abbrev pub run_said : ℕ → List (ℕ × List ℕ) → LineSays
 run_said number words =
     if length (text_of words 0) == 11 && is_text (codes "-") (take 1 (drop 5 (text_of words 0)))
     then addresses_said (number_in (hex_number (take 5 (text_of words 0)))) (number_in (hex_number (drop 6 (text_of words 0)))) (type_named (text_of words 1)) (place_of number words 1)
@@ -122,7 +122,7 @@ abbrev pub mask_value : Option ℕ → Option ℕ
 mask_value None = None
 mask_value (Some mask) = if mask % page_bytes == 0 then Some (mask + 0x800) else None
 
-abbrev pub pair_said : Option ℕ → ℕ → List (ℕ × List ℕ) → Said
+abbrev pub pair_said : Option ℕ → ℕ → List (ℕ × List ℕ) → LineSays
 pair_said None number words = Nothing
 pair_said (Some pair) number words = Shows (Some 0) (two_shown
     (value_at (0x200 + 2 * pair) (place_of number words 2) (base_value (number_in (hex_number (text_of words 2))) (type_named (text_of words 5))))
@@ -130,7 +130,7 @@ pair_said (Some pair) number words = Shows (Some 0) (two_shown
 
 -- ---- `N disabled`: V is clear
 
-abbrev pub disabled_said : Option ℕ → Place → Said
+abbrev pub disabled_said : Option ℕ → Place → LineSays
 disabled_said None place = Nothing
 disabled_said (Some pair) place = Shows (Some 0) (one_shown (shown_bits (0x201 + 2 * pair) 0x800 0 place))
 
@@ -145,7 +145,7 @@ is_warning_line line = is_warning_text (words_behind (kernel_end (words_of line)
 
 -- ---- all lines
 
-abbrev pub kernel_said : Bool → ℕ → List (ℕ × List ℕ) → Said
+abbrev pub kernel_said : Bool → ℕ → List (ℕ × List ℕ) → LineSays
 kernel_said alone number words =
     if length words == 4 && is_text (codes "MTRR") (text_of words 0) then head_said alone number words
     else if length words == 2 && is_text (codes "disabled") (text_of words 1) then disabled_said (number_in (decimal_number (text_of words 0) 31)) (place_of number words 1)

@@ -7,8 +7,8 @@ use Rattle.mt_text.specs.Words.{text_of, place_of}
 use Rattle.mt_text.specs.Number.{hex_number, decimal_number}
 use Rattle.mt_text.specs.declared.fault.NumberFault.{NumberFault}
 use Rattle.mt_text.specs.declared.place.Place.{Place}
-use Rattle.mt_import.specs.declared.reading.Said.{Said}
-use Rattle.mt_import.specs.declared.reading.Said.TheVariants.{Nothing, Shows}
+use Rattle.mt_import.specs.declared.reading.LineSays.{LineSays}
+use Rattle.mt_import.specs.declared.reading.LineSays.TheVariants.{Nothing, Shows}
 use Rattle.mt_import.specs.declared.shape.Shown.{Shown}
 use Rattle.mt_import.specs.Pieces.{before, behind, is_text, number_in, prefixed_number, shown_bits, shows_one, value_at}
 use Rattle.mt_import.specs.Readings.{one_shown, two_shown}
@@ -56,7 +56,7 @@ abbrev pub is_configuration : List ℕ → Bool
 is_configuration word = is_text (codes "Configuration") word || is_text (codes "configuration") word
 
 -- behind `[0-7]:`, the word of this number
-abbrev pub pat_from : ℕ → ℕ → List (ℕ × List ℕ) → Said
+abbrev pub pat_from : ℕ → ℕ → List (ℕ × List ℕ) → LineSays
 pat_from at number words =
     if length words == at + 9 && is_text (codes "[0-7]:") (text_of words at) && is_configuration (text_of words (at - 1))
     then shows_one (Some 0) (Some 0x277) (pat_told (bytes_value (entries_from (at + 1) words))) (place_of number words (at + 1))
@@ -66,7 +66,7 @@ pat_from at number words =
 abbrev pub pat_word : List (ℕ × List ℕ) → ℕ
 pat_word words = if is_text (codes "[0-7]:") (text_of words 2) then 2 else 3
 
-abbrev pub pat_said : ℕ → List (ℕ × List ℕ) → Said
+abbrev pub pat_said : ℕ → List (ℕ × List ℕ) → LineSays
 pat_said number words = pat_from (pat_word words) number words
 
 -- ---- `x86 PAT enabled: cpu 0, old 0x7040600070406, new 0x7010600070106`
@@ -77,7 +77,7 @@ is_pat_change words =
     length words == 9 && is_text (codes "PAT") (text_of words 1) && is_text (codes "enabled:") (text_of words 2) && is_text (codes "cpu") (text_of words 3)
     && is_text (codes "0,") (text_of words 4) && is_text (codes "old") (text_of words 5) && is_text (codes "new") (text_of words 7)
 
-abbrev pub pat_changed : ℕ → List (ℕ × List ℕ) → Said
+abbrev pub pat_changed : ℕ → List (ℕ × List ℕ) → LineSays
 pat_changed number words =
     if is_pat_change words then shows_one (Some 0) (Some 0x277) (prefixed_number (text_of words 8)) (place_of number words 8) else Nothing
 
@@ -107,7 +107,7 @@ abbrev pub size_shown : ℕ → Place → Option ℕ → Option Shown
 size_shown pair place None = None
 size_shown pair place (Some size) = if is_size size then shown_bits (0x201 + 2 * pair) (2 * size - 1) (size + 0x800) place else None
 
-abbrev pub pair_shown : Option ℕ → Place → Option ℕ → Place → Option ℕ → Said
+abbrev pub pair_shown : Option ℕ → Place → Option ℕ → Place → Option ℕ → LineSays
 pair_shown None base_place base size_place size = Nothing
 pair_shown (Some pair) base_place base size_place size = Shows (Some 0) (two_shown (value_at (0x200 + 2 * pair) base_place base) (size_shown pair size_place size))
 
@@ -159,13 +159,13 @@ type_in None = None
 type_in (Some word) = type_named word
 
 -- with this amount and type
-abbrev pub region_by : Option ℕ → Option ℕ → ℕ → List (ℕ × List ℕ) → Said
+abbrev pub region_by : Option ℕ → Option ℕ → ℕ → List (ℕ × List ℕ) → LineSays
 region_by size code number words =
     pair_shown (pair_numbered (codes "reg") (codes ":") (text_of words 0)) (place_of number words 1) (base_value (number_behind (codes "base=") (text_of words 1)) code)
     (place_of number words (amount_word words)) size
 
 -- `.. size= 2048MB, count=1: uncachable`, or in Linux's own document `.. size= 128MB: write-back, count=1`
-abbrev pub region_said : ℕ → List (ℕ × List ℕ) → Said
+abbrev pub region_said : ℕ → List (ℕ × List ℕ) → LineSays
 region_said number words =
     if not (length words == amount_word words + 3) then Nothing
     else if is_count (text_of words (amount_word words + 1))
@@ -188,7 +188,7 @@ abbrev pub pair_by : Option (List ℕ) → Option ℕ
 pair_by None = None
 pair_by (Some digits) = number_in (decimal_number digits 31)
 
-abbrev pub cleanup_said : ℕ → List (ℕ × List ℕ) → Said
+abbrev pub cleanup_said : ℕ → List (ℕ × List ℕ) → LineSays
 cleanup_said number words =
     if is_cleanup words
     then pair_shown (pair_by (before (codes ",") (text_of words 1))) (place_of number words 3)
@@ -220,18 +220,18 @@ entries_in None = None
 entries_in (Some digits) = number_in (decimal_number digits 999)
 
 -- VCNT is bits 7:0 of the capability register: Intel SDM, volume 3A, section IA32_MTRRCAP MSR
-abbrev pub count_said : Option ℕ → Place → Said
+abbrev pub count_said : Option ℕ → Place → LineSays
 count_said None place = Nothing
 count_said (Some count) place = Shows (Some 0) (one_shown (shown_bits 0xfe 0xff count place))
 
-abbrev pub map_said : ℕ → List (ℕ × List ℕ) → Said
+abbrev pub map_said : ℕ → List (ℕ × List ℕ) → LineSays
 map_said number words =
     count_said (map_count (entries_in (behind (codes "(") (text_of words 4))) (entries_in (before (codes "),") (text_of words 10))) (number_in (decimal_number (text_of words 13) 255)))
     (place_of number words 13)
 
 -- ---- all lines
 
-abbrev pub linux_words_said : ℕ → List (ℕ × List ℕ) → Said
+abbrev pub linux_words_said : ℕ → List (ℕ × List ℕ) → LineSays
 linux_words_said number words =
     if is_text (codes "x86") (text_of words 0) then pat_changed number words
     else if is_pat_name (text_of words 0) then pat_said number words
@@ -240,5 +240,5 @@ linux_words_said number words =
     else if is_map words then map_said number words
     else kernel_said false number words
 
-abbrev pub linux_said : ℕ → List ℕ → Said
+abbrev pub linux_said : ℕ → List ℕ → LineSays
 linux_said number line = linux_words_said number (words_behind (head_end (words_of line)) line)

@@ -1,5 +1,5 @@
 -- What facts and supplied words come to: the texts and the status (own).
---     outcome auto supplied seen facts      what facts come to that stand behind others
+--     facts_outcome auto supplied seen facts      what facts come to that stand behind others
 use Rattle.std.specs.Prelude.{ℕ, zero, suc, ◌+◌, ◌-◌, ◌*◌, ◌/◌, ◌%◌, ◌==◌, ◌&&◌, ◌||◌, nat_lt, not, max, bit_or, codes, decimal, Bool, true, false, List, [], ◌∷◌, ◌++◌, map, replicate, if◌then◌else◌, Option, Some, None, is_none, unwrap_or}
 use Rattle.mt_ports.specs.Causes.{one_more}
 use Rattle.mt_ports.specs.declared.status.Status.{Status}
@@ -374,7 +374,7 @@ width_note None (Some width) = line (codes "# assumed maxphyaddr " ++ decimal wi
 -- ---- the texts and the status
 
 -- the texts for standard output, of which comments come first, and for standard error, and the status
-pub record Told : Type 0 where
+pub record Outcome : Type 0 where
   pub notes : List ℕ
   pub dump : List ℕ
   pub reasons : List ℕ
@@ -402,7 +402,7 @@ warning_text false = []
 abbrev pub remarks : Bool → Tally → List ℕ
 remarks auto tally = (if auto then count_line tally else []) ++ warning_text tally.warned
 
-abbrev pub refusal : Tally → List ℕ → Told
+abbrev pub refusal : Tally → List ℕ → Outcome
 refusal tally missing = record { notes = []; dump = []; reasons = count_line tally ++ (warning_text tally.warned ++ missing); status = Refused }
 
 abbrev pub Slots : Type 0
@@ -435,17 +435,17 @@ notes_of supplied slots count shown =
     ++ note_lines (firm_of supplied slots) (values_of supplied slots shown) count (needed (values_of supplied slots shown 0 0xfe))
 
 -- the dump, where its width and its capability register are known
-abbrev pub dump_told : Told → (ℕ → ℕ → Option ℕ) → ℕ → List ℕ → List ℕ → Option ℕ → Option ℕ → Told
-dump_told refused values count notes reasons (Some width) (Some capabilities) = record { notes = notes; dump = canon (dump_in values count width capabilities); reasons = reasons; status = Done }
-dump_told refused values count notes reasons (Some width) None = refused
-dump_told refused values count notes reasons None capabilities = refused
+abbrev pub dump_outcome : Outcome → (ℕ → ℕ → Option ℕ) → ℕ → List ℕ → List ℕ → Option ℕ → Option ℕ → Outcome
+dump_outcome refused values count notes reasons (Some width) (Some capabilities) = record { notes = notes; dump = canon (dump_in values count width capabilities); reasons = reasons; status = Done }
+dump_outcome refused values count notes reasons (Some width) None = refused
+dump_outcome refused values count notes reasons None capabilities = refused
 
 -- the dump, or what is missing
-abbrev pub ended_by : List ℕ → List ℕ → Tally → Bool → (ℕ → ℕ → Option ℕ) → ℕ → Option ℕ → Told
+abbrev pub ended_by : List ℕ → List ℕ → Tally → Bool → (ℕ → ℕ → Option ℕ) → ℕ → Option ℕ → Outcome
 ended_by missing notes tally auto values count width =
-    if is_empty missing then dump_told (refusal tally missing) values count notes (remarks auto tally) width (values 0 0xfe) else refusal tally missing
+    if is_empty missing then dump_outcome (refusal tally missing) values count notes (remarks auto tally) width (values 0 0xfe) else refusal tally missing
 
-abbrev pub ended_with : Bool → Supplied → Slots → ℕ → Known → Tally → Told
+abbrev pub ended_with : Bool → Supplied → Slots → ℕ → Known → Tally → Outcome
 ended_with auto supplied slots count shown tally =
     ended_by (missing_of supplied slots count shown) (notes_of supplied slots count shown) tally auto (values_of supplied slots shown) count (width_by supplied slots shown.width)
 
@@ -453,12 +453,12 @@ ended_with auto supplied slots count shown tally =
 abbrev pub known_of : Seen → Known
 known_of seen = record { width = seen.width; format = seen.tally.format }
 
-abbrev pub ended : Bool → Supplied → Seen → Told
+abbrev pub ended : Bool → Supplied → Seen → Outcome
 ended auto supplied seen = ended_with auto supplied (slot_shown seen.readings) (processors seen.readings) (known_of seen) seen.tally
 
-abbrev pub unless : Option ImportFault → Told → Told
+abbrev pub unless : Option ImportFault → Outcome → Outcome
 unless (Some fault) told = record { notes = []; dump = []; reasons = fault_line fault; status = BadText }
 unless None told = told
 
-abbrev pub outcome : Bool → Supplied → Seen → List Fact → Told
-outcome auto supplied seen facts = unless (facts_fault supplied seen facts) (ended auto supplied (seen_after seen facts))
+abbrev pub facts_outcome : Bool → Supplied → Seen → List Fact → Outcome
+facts_outcome auto supplied seen facts = unless (facts_fault supplied seen facts) (ended auto supplied (seen_after seen facts))

@@ -5,8 +5,8 @@ use Rattle.mt_text.specs.Number.{hex_number}
 use Rattle.mt_text.specs.declared.fault.NumberFault.{NumberFault}
 use Rattle.mt_text.specs.declared.place.Place.{Place}
 use Rattle.mt_regs.specs.Registers.{number_limit}
-use Rattle.mt_import.specs.declared.reading.Said.{Said}
-use Rattle.mt_import.specs.declared.reading.Said.TheVariants.{Nothing, Shows, Width}
+use Rattle.mt_import.specs.declared.reading.LineSays.{LineSays}
+use Rattle.mt_import.specs.declared.reading.LineSays.TheVariants.{Nothing, Shows, Width}
 use Rattle.mt_import.specs.declared.shape.Shown.{Shown}
 use Rattle.mt_import.specs.Slot.{all_bits}
 
@@ -71,11 +71,11 @@ abbrev pub unread_processor : ℕ
 unread_processor = 65535
 
 -- one register of a processor, or else of the one that the lines are of
-abbrev pub shows_one : Option ℕ → Option ℕ → Option ℕ → Place → Said
+abbrev pub shows_one : Option ℕ → Option ℕ → Option ℕ → Place → LineSays
 shows_one processor None value place = Nothing
 shows_one processor (Some number) None place = Nothing
 shows_one processor (Some number) (Some value) place = Shows processor (shown_as number value place ∷ replicate 10 None)
 
-abbrev pub shows_width : Result ℕ NumberFault → Place → Said
+abbrev pub shows_width : Result ℕ NumberFault → Place → LineSays
 shows_width (Ok width) place = Width width place
 shows_width (Err fault) place = Nothing

@@ -6,9 +6,9 @@ use Rattle.mt_text.specs.Words.{text_of, place_of}
 use Rattle.mt_text.specs.Number.{hex_number, decimal_number}
 use Rattle.mt_text.specs.declared.fault.NumberFault.{NumberFault}
 use Rattle.mt_text.specs.declared.place.Place.{Place}
-use Rattle.mt_import.specs.declared.reading.Said.{Said}
+use Rattle.mt_import.specs.declared.reading.LineSays.{LineSays}
 use Rattle.mt_import.specs.Pieces.{before, behind, is_prefixed, is_text, number_in, prefixed_register, register_in, shows_one}
-use Rattle.mt_import.specs.declared.reading.Said.TheVariants.{Nothing, Announces, Turns, Value}
+use Rattle.mt_import.specs.declared.reading.LineSays.TheVariants.{Nothing, Announces, Turns, Value}
 
 -- A register as `rdmsr` takes it: hexadecimal behind `0x`, else decimal. Each register's number has three decimal digits, so that a number that C takes as octal is none.
 abbrev pub register_named : List ℕ → Option ℕ
@@ -26,7 +26,7 @@ abbrev pub unread_call : ℕ
 unread_call = 65534
 
 -- Columns behind a call that is read but for its register are of its processor.
-abbrev pub announced : Option ℕ → Option ℕ → Said
+abbrev pub announced : Option ℕ → Option ℕ → LineSays
 announced processor None = Turns (unwrap_or processor unread_call)
 announced processor (Some number) = Announces processor number
 
@@ -64,18 +64,18 @@ option_at at processor words =
     else with_processor 1 (digits_in (behind (codes "-p") (text_of words at)))
 
 -- what a call says behind an option, where the rest says something
-abbrev pub call_behind : (ℕ → Option ℕ → Said) → Option (ℕ × Option ℕ) → Said
+abbrev pub call_behind : (ℕ → Option ℕ → LineSays) → Option (ℕ × Option ℕ) → LineSays
 call_behind rest None = Turns unread_call
 call_behind rest (Some found) = rest found.0 found.1
 
 -- the words of a call from this one on: options, so many at most, and the register
-abbrev pub call_from : ℕ → ℕ → Option ℕ → List (ℕ × List ℕ) → Said
+abbrev pub call_from : ℕ → ℕ → Option ℕ → List (ℕ × List ℕ) → LineSays
 call_from zero at processor words = if length words == at + 1 then announced processor (register_named (text_of words at)) else Turns unread_call
 call_from (suc options) at processor words =
     if length words == at + 1 then announced processor (register_named (text_of words at))
     else call_behind (λ size next. call_from options (at + size) next words) (option_at at processor words)
 
-abbrev pub said_value : Place → Result ℕ NumberFault → Said
+abbrev pub said_value : Place → Result ℕ NumberFault → LineSays
 said_value place (Ok value) = Value value place
 said_value place (Err fault) = Nothing
 
@@ -84,7 +84,7 @@ abbrev pub column_register : Option (List ℕ) → List ℕ → Option ℕ
 column_register (Some name) word = prefixed_register name
 column_register None word = prefixed_register word
 
-abbrev pub column_said : ℕ → List (ℕ × List ℕ) → Said
+abbrev pub column_said : ℕ → List (ℕ × List ℕ) → LineSays
 column_said number words =
     shows_one None (column_register (before (codes ":") (text_of words 0)) (text_of words 0)) (number_in (hex_number (text_of words 1))) (place_of number words 1)
 
@@ -92,18 +92,18 @@ column_said number words =
 abbrev pub is_traced : List ℕ → Bool
 is_traced word = is_text (codes "+") word || is_text (codes "++") word
 
-abbrev pub call_said : List (ℕ × List ℕ) → Said
+abbrev pub call_said : List (ℕ × List ℕ) → LineSays
 call_said words =
     if is_text (codes "rdmsr") (text_of words 1) then call_from 3 2 (Some 0) words
     else if is_text (codes "sudo") (text_of words 1) && is_text (codes "rdmsr") (text_of words 2) then call_from 3 3 (Some 0) words
     else Nothing
 
-abbrev pub said_by_words : ℕ → List (ℕ × List ℕ) → Said
+abbrev pub said_by_words : ℕ → List (ℕ × List ℕ) → LineSays
 said_by_words number words =
     if is_traced (text_of words 0) then call_said words
     else if length words == 1 then said_value (place_of number words 0) (hex_number (text_of words 0))
     else if length words == 2 then column_said number words
     else Nothing
 
-abbrev pub rdmsr_said : ℕ → List ℕ → Said
+abbrev pub rdmsr_said : ℕ → List ℕ → LineSays
 rdmsr_said number line = said_by_words number (words_of line)

@@ -11,8 +11,8 @@ use Rattle.mt_import.specs.declared.fault.ImportFault.TheVariants.{Contradiction
 use Rattle.mt_import.specs.declared.fault.Rival.TheVariants.{Line}
 use Rattle.mt_import.specs.declared.format.Format.{Format}
 use Rattle.mt_import.specs.declared.reading.Context.{Context}
-use Rattle.mt_import.specs.declared.reading.Said.{Said}
-use Rattle.mt_import.specs.declared.reading.Said.TheVariants.{Nothing, Announces, Value, Turns, Shows, Begins, FixedRanges, VariableRanges, Width, Warns, Long}
+use Rattle.mt_import.specs.declared.reading.LineSays.{LineSays}
+use Rattle.mt_import.specs.declared.reading.LineSays.TheVariants.{Nothing, Announces, Value, Turns, Shows, Begins, FixedRanges, VariableRanges, Width, Warns, Long}
 use Rattle.mt_import.specs.declared.shape.Announced.{Announced}
 use Rattle.mt_import.specs.declared.shape.FixedLine.{FixedLine}
 use Rattle.mt_import.specs.declared.shape.Reading.{Reading}
@@ -39,7 +39,7 @@ pub data Fact : Type 0 where
 abbrev pub starts : Option Format → Context
 starts format = record { format = format; announced = None; processor = 0; table = 0; fixed = None }
 
-abbrev pub is_match : Said → Bool
+abbrev pub is_match : LineSays → Bool
 is_match Nothing = false
 is_match (Announces processor number) = true
 is_match (Value value place) = true
@@ -122,7 +122,7 @@ fixed_facts context enabled alone place =
 -- ---- a line
 
 -- what a line comes to behind lines that lead to this
-abbrev pub said_facts : Context → Said → List Fact
+abbrev pub said_facts : Context → LineSays → List Fact
 said_facts context Nothing = []
 said_facts context (Announces processor number) = []
 said_facts context (Value value place) = value_facts context.announced context.table value place
@@ -136,7 +136,7 @@ said_facts context Warns = is_warning ∷ []
 said_facts context (Long place) = is_fault (LongLine place) ∷ []
 
 -- the same with the line itself, which has this number
-abbrev pub line_facts : ℕ → Option Format → Context → Said → List Fact
+abbrev pub line_facts : ℕ → Option Format → Context → LineSays → List Fact
 line_facts number format context said = is_line number format (is_match said) ∷ said_facts context said
 
 -- the next processor's register, where the value of each follows
@@ -150,7 +150,7 @@ announced_by (Some processor) number = record { processor = processor; number = 
 announced_by None number = record { processor = 0; number = number; goes_on = true }
 
 -- what is announced by a line
-abbrev pub announced_after : Said → Option Announced → Option Announced
+abbrev pub announced_after : LineSays → Option Announced → Option Announced
 announced_after (Announces processor number) before = Some (announced_by processor number)
 announced_after (Value value place) before = next_announced before
 announced_after Nothing before = None
@@ -169,7 +169,7 @@ processor_called (Some processor) = processor
 processor_called None = unread_processor
 
 -- the processor that lines behind this line are of
-abbrev pub processor_after : Said → ℕ → ℕ
+abbrev pub processor_after : LineSays → ℕ → ℕ
 processor_after (Turns processor) before = processor
 processor_after (Announces processor number) before = processor_called processor
 processor_after Nothing before = before
@@ -183,7 +183,7 @@ processor_after Warns before = before
 processor_after (Long place) before = before
 
 -- how many tables have begun
-abbrev pub table_behind : Said → ℕ → ℕ
+abbrev pub table_behind : LineSays → ℕ → ℕ
 table_behind (Begins shows) before = one_more before
 table_behind Nothing before = before
 table_behind (Announces processor number) before = before
@@ -197,7 +197,7 @@ table_behind Warns before = before
 table_behind (Long place) before = before
 
 -- the last line on fixed ranges
-abbrev pub fixed_after : Said → ℕ → Option FixedLine → Option FixedLine
+abbrev pub fixed_after : LineSays → ℕ → Option FixedLine → Option FixedLine
 fixed_after (FixedRanges enabled alone place) table before = Some (record { is_enabled = enabled; table = table; line = place.line })
 fixed_after Nothing table before = before
 fixed_after (Announces processor number) table before = before
@@ -210,7 +210,7 @@ fixed_after (Width width place) table before = before
 fixed_after Warns table before = before
 fixed_after (Long place) table before = before
 
-abbrev pub context_after : Context → Option Format → Said → Context
+abbrev pub context_after : Context → Option Format → LineSays → Context
 context_after context format said = record {
   format = format;
   announced = announced_after said context.announced;

@@ -9,8 +9,8 @@ use Rattle.mt_import.specs.declared.format.Choice.TheVariants.{Auto, Only}
 use Rattle.mt_import.specs.declared.format.Format.{Format}
 use Rattle.mt_import.specs.declared.format.Format.TheVariants.{Rdmsr, X86info, Inteltool, Coreboot, Edk2, Linux, Xen}
 use Rattle.mt_import.specs.declared.reading.Context.{Context}
-use Rattle.mt_import.specs.declared.reading.Said.{Said}
-use Rattle.mt_import.specs.declared.reading.Said.TheVariants.{Nothing, Announces, Value, Turns, Shows, Begins, FixedRanges, VariableRanges, Width, Warns, Long}
+use Rattle.mt_import.specs.declared.reading.LineSays.{LineSays}
+use Rattle.mt_import.specs.declared.reading.LineSays.TheVariants.{Nothing, Announces, Value, Turns, Shows, Begins, FixedRanges, VariableRanges, Width, Warns, Long}
 use Rattle.mt_import.specs.Coreboot.{coreboot_said}
 use Rattle.mt_import.specs.Inteltool.{inteltool_said}
 use Rattle.mt_import.specs.Pieces.{unread_processor}
@@ -22,7 +22,7 @@ use Rattle.mt_import.specs.Linux.{linux_said}
 use Rattle.mt_import.specs.Xen.{xen_said}
 use Rattle.mt_import.specs.Readings.{Fact, context_after, line_facts, starts}
 
-abbrev pub said_by_line : Format → ℕ → List ℕ → Said
+abbrev pub said_by_line : Format → ℕ → List ℕ → LineSays
 said_by_line Rdmsr number line = rdmsr_said number line
 said_by_line X86info number line = x86info_said number line
 said_by_line Inteltool number line = inteltool_said number line
@@ -32,10 +32,10 @@ said_by_line Linux number line = linux_said number line
 said_by_line Xen number line = xen_said number line
 
 -- what a line says in each format: that a kernel warns, or the width by the sizes of addresses
-abbrev pub said_in_each : ℕ → List ℕ → Said
+abbrev pub said_in_each : ℕ → List ℕ → LineSays
 said_in_each number line = if is_warning_line line then Warns else sizes_said number line
 
-abbrev pub said_or_sizes : Said → ℕ → List ℕ → Said
+abbrev pub said_or_sizes : LineSays → ℕ → List ℕ → LineSays
 said_or_sizes Nothing number line = said_in_each number line
 said_or_sizes (Announces processor register) number line = Announces processor register
 said_or_sizes (Value value place) number line = Value value place
@@ -49,7 +49,7 @@ said_or_sizes Warns number line = Warns
 said_or_sizes (Long place) number line = Long place
 
 -- A line of more than 4,096 bytes isn't read.
-abbrev pub said_of : Format → ℕ → List ℕ → Said
+abbrev pub said_of : Format → ℕ → List ℕ → LineSays
 said_of format number line =
     if is_too_long line then Long (past_limit number)
     else said_or_sizes (said_by_line format number line) number line
@@ -57,7 +57,7 @@ said_of format number line =
 -- ---- `auto`: the format of the first line that tells it
 
 -- A value alone tells no format. Nor does a line that turns to processor 0, or to one whose number can't be read.
-abbrev pub is_telling : Said → Bool
+abbrev pub is_telling : LineSays → Bool
 is_telling (Announces processor register) = true
 is_telling (Shows processor shows) = true
 is_telling (Begins shows) = true
@@ -90,7 +90,7 @@ chosen (Some format) number line = Some format
 chosen None number line = format_told number line
 
 -- what a line says in a format, where one is known
-abbrev pub said_in : Option Format → ℕ → List ℕ → Said
+abbrev pub said_in : Option Format → ℕ → List ℕ → LineSays
 said_in (Some format) number line = said_of format number line
 said_in None number line = if is_too_long line then Long (past_limit number) else said_in_each number line
 

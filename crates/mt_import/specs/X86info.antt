@@ -7,17 +7,17 @@ use Rattle.mt_text.specs.Text.{without_return}
 use Rattle.mt_text.specs.Words.{first_words, place_of, text_of}
 use Rattle.mt_text.specs.Number.{decimal_number}
 use Rattle.mt_text.specs.declared.fault.NumberFault.{NumberFault}
-use Rattle.mt_import.specs.declared.reading.Said.{Said}
-use Rattle.mt_import.specs.declared.reading.Said.TheVariants.{Nothing, Turns}
+use Rattle.mt_import.specs.declared.reading.LineSays.{LineSays}
+use Rattle.mt_import.specs.declared.reading.LineSays.TheVariants.{Nothing, Turns}
 use Rattle.mt_import.specs.Pieces.{before, behind, is_text, prefixed_register, shows_one, shows_width, unread_processor, whole_number}
 
 -- x86info counts processors from 1.
-abbrev pub turned_to : Result ℕ NumberFault → Said
+abbrev pub turned_to : Result ℕ NumberFault → LineSays
 turned_to (Ok number) = if number == 0 then Turns unread_processor else Turns (number - 1)
 turned_to (Err fault) = Turns unread_processor
 
 -- `N:`
-abbrev pub turned_by : Option (List ℕ) → Said
+abbrev pub turned_by : Option (List ℕ) → LineSays
 turned_by (Some digits) = turned_to (decimal_number digits 65536)
 turned_by None = Turns unread_processor
 
@@ -37,7 +37,7 @@ abbrev pub is_name : List ℕ → Bool
 is_name word = is_some (behind (codes "MTRR") word)
 
 -- The name, the number and the value of a register, which has sixteen digits, from this word on.
-abbrev pub register_from : ℕ → ℕ → List (ℕ × List ℕ) → Said
+abbrev pub register_from : ℕ → ℕ → List (ℕ × List ℕ) → LineSays
 register_from first number words =
     if is_name (text_of words first) then shows_one None (named_register (text_of words (first + 1))) (whole_number 18 (text_of words (first + 2))) (place_of number words (first + 2))
     else Nothing
@@ -60,23 +60,23 @@ is_size words = is_text (codes "Address") (text_of words 0) && is_text (codes "S
 abbrev pub is_listed : List (ℕ × List ℕ) → Bool
 is_listed words = is_text (codes "Address") (text_of words 0) && is_text (codes "sizes:") (text_of words 1) && is_text (codes "physical,") (text_of words 4)
 
-abbrev pub sizes_by_words : ℕ → List (ℕ × List ℕ) → Said
+abbrev pub sizes_by_words : ℕ → List (ℕ × List ℕ) → LineSays
 sizes_by_words number words =
     if is_sizes words then shows_width (decimal_number (text_of words 3) 255) (place_of number words 3)
     else if is_size words then shows_width (decimal_number (text_of words 5) 255) (place_of number words 5)
     else if is_listed words then shows_width (decimal_number (text_of words 2) 255) (place_of number words 2)
     else Nothing
 
-abbrev pub sizes_said : ℕ → List ℕ → Said
+abbrev pub sizes_said : ℕ → List ℕ → LineSays
 sizes_said number line = sizes_by_words number (first_words number line).words
 
-abbrev pub said_by_words : ℕ → List (ℕ × List ℕ) → Said
+abbrev pub said_by_words : ℕ → List (ℕ × List ℕ) → LineSays
 said_by_words number words = register_from (first_read words) number words
 
 -- `CPU #N:`, cut behind its `#`, or another line
-abbrev pub said_by : Option (List ℕ) → ℕ → List ℕ → Said
+abbrev pub said_by : Option (List ℕ) → ℕ → List ℕ → LineSays
 said_by (Some rest) number line = turned_by (before (codes ":") rest)
 said_by None number line = said_by_words number (first_words number line).words
 
-abbrev pub x86info_said : ℕ → List ℕ → Said
+abbrev pub x86info_said : ℕ → List ℕ → LineSays
 x86info_said number line = said_by (behind (codes "CPU #") (without_return line)) number line

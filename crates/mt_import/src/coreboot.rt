@@ -3,7 +3,7 @@ ghost use Rattle.mt_text.specs.Number.{decimal_number};
 ghost use Rattle.mt_text.specs.Text.{words_of};
 ghost use Rattle.mt_import.specs.Coreboot.{colon_number, coreboot_said, default_from, default_named, displayed_from, fixed_16k_named, fixed_4k_by, fixed_from, fixed_of, flag_said, is_default, is_fixed, is_fixed_flag, is_fixed_of, is_page, is_pair, is_setup, is_size, is_variable_flag, level_words, of_pair, other_from, pair_digits, pair_from, register_named, said_from, said_of_id, set_from, shows_pair, size_from};
 
-use crate::Said;
+use crate::LineSays;
 use crate::kernel::default_shown;
 use crate::pieces::{
     VALUE_SIZE, before, behind, is_text, prefixed_number, prefixed_register, shown_as, shown_bits,
@@ -114,7 +114,7 @@ fn register_named(word: &[u8]) -> Option<u32>
     }
 }
 
-fn displayed_from(first: usize, line: &Line<'_>) -> Said
+fn displayed_from(first: usize, line: &Line<'_>) -> LineSays
     requires { first ≤ 8 }
     ensures { result ≡ displayed_from first line.now.number (words_of line.now.bytes.now) }
 {
@@ -133,7 +133,7 @@ fn is_fixed(first: usize, line: &Line<'_>) -> bool
     is_text(b"Fixed", word_text(line, first)) && is_text(b"MSR", word_text(line, first + 1))
 }
 
-fn fixed_from(processor: Option<u32>, first: usize, line: &Line<'_>) -> Said
+fn fixed_from(processor: Option<u32>, first: usize, line: &Line<'_>) -> LineSays
     requires { first ≤ 8 }
     ensures { result ≡ fixed_from processor first line.now.number (words_of line.now.bytes.now) }
 {
@@ -167,32 +167,32 @@ fn shows_pair(
     kind: Result<u64, NumberFault>,
     base_place: Place,
     mask_place: Place,
-) -> Said
+) -> LineSays
     requires few { IfOk pair (λ pair. pair ≤ 31) }
     requires byte { IfOk kind (λ kind. kind ≤ 255) }
     ensures { result ≡ shows_pair pair base mask kind base_place mask_place }
 {
     let Ok(pair) = pair else {
-        return Said::Nothing;
+        return LineSays::Nothing;
     };
     let Some(base) = base else {
-        return Said::Nothing;
+        return LineSays::Nothing;
     };
     let Some(mask) = mask else {
-        return Said::Nothing;
+        return LineSays::Nothing;
     };
     let Ok(kind) = kind else {
-        return Said::Nothing;
+        return LineSays::Nothing;
     };
     if !(is_page(base) && is_page(mask)) {
-        return Said::Nothing;
+        return LineSays::Nothing;
     }
     let base = shown_as(FIRST_PAIR + 2 * pair as u32, base + kind, base_place);
     let mask = shown_as(FIRST_MASK + 2 * pair as u32, mask + VALID, mask_place);
-    Said::Shows(None, two_shown(base, mask))
+    LineSays::Shows(None, two_shown(base, mask))
 }
 
-fn pair_from(first: usize, line: &Line<'_>) -> Said
+fn pair_from(first: usize, line: &Line<'_>) -> LineSays
     requires { first ≤ 8 }
     ensures { result ≡ pair_from first line.now.number (words_of line.now.bytes.now) }
 {
@@ -217,7 +217,7 @@ fn is_size(first: usize, line: &Line<'_>) -> bool
         && is_text(b"bits", word_text(line, first + 5))
 }
 
-fn size_from(first: usize, line: &Line<'_>) -> Said
+fn size_from(first: usize, line: &Line<'_>) -> LineSays
     requires { first ≤ 8 }
     ensures { result ≡ size_from first line.now.number (words_of line.now.bytes.now) }
 {
@@ -227,7 +227,7 @@ fn size_from(first: usize, line: &Line<'_>) -> Said
             word_place(line, first + 4),
         )
     } else {
-        Said::Nothing
+        LineSays::Nothing
     }
 }
 
@@ -254,23 +254,23 @@ fn default_named(word: &[u8]) -> Option<u8>
     }
 }
 
-fn default_from(first: usize, line: &Line<'_>) -> Said
+fn default_from(first: usize, line: &Line<'_>) -> LineSays
     requires { first ≤ 8 }
     ensures { result ≡ default_from first line.now.number (words_of line.now.bytes.now) }
 {
     let code = default_named(word_text(line, first));
-    Said::Begins(one_shown(default_shown(code, word_place(line, first))))
+    LineSays::Begins(one_shown(default_shown(code, word_place(line, first))))
 }
 
-fn flag_said(bit: u64, word: &[u8], place: Place) -> Said
+fn flag_said(bit: u64, word: &[u8], place: Place) -> LineSays
     ensures { result ≡ flag_said bit word.now place }
 {
     if is_text(b"Enabled", word) {
-        Said::Shows(None, one_shown(shown_bits(DEFAULT_TYPE, bit, bit, place)))
+        LineSays::Shows(None, one_shown(shown_bits(DEFAULT_TYPE, bit, bit, place)))
     } else if is_text(b"Disabled", word) {
-        Said::Shows(None, one_shown(shown_bits(DEFAULT_TYPE, bit, 0, place)))
+        LineSays::Shows(None, one_shown(shown_bits(DEFAULT_TYPE, bit, 0, place)))
     } else {
-        Said::Nothing
+        LineSays::Nothing
     }
 }
 
@@ -292,7 +292,7 @@ fn is_variable_flag(first: usize, line: &Line<'_>) -> bool
     is_text(b"Variable", word_text(line, first)) && is_text(b"MTRRs:", word_text(line, first + 1))
 }
 
-fn other_from(first: usize, line: &Line<'_>) -> Said
+fn other_from(first: usize, line: &Line<'_>) -> LineSays
     requires { first ≤ 8 }
     ensures { result ≡ other_from first line.now.number (words_of line.now.bytes.now) }
 {
@@ -308,7 +308,7 @@ fn other_from(first: usize, line: &Line<'_>) -> Said
 }
 
 // Behind `MTRR:`.
-fn set_from(first: usize, line: &Line<'_>) -> Said
+fn set_from(first: usize, line: &Line<'_>) -> LineSays
     requires { first ≤ 8 }
     ensures { result ≡ set_from first line.now.number (words_of line.now.bytes.now) }
 {
@@ -319,17 +319,17 @@ fn set_from(first: usize, line: &Line<'_>) -> Said
     } else if is_default(first, line) {
         default_from(first, line)
     } else {
-        Said::Nothing
+        LineSays::Nothing
     }
 }
 
-fn fixed_of(id: Option<u64>, first: usize, line: &Line<'_>) -> Said
+fn fixed_of(id: Option<u64>, first: usize, line: &Line<'_>) -> LineSays
     requires { first ≤ 8 }
     ensures { result ≡ fixed_of id first line.now.number (words_of line.now.bytes.now) }
 {
     match id {
         Some(id) if id < IDS => fixed_from(Some(id as u32), first, line),
-        _ => Said::Nothing,
+        _ => LineSays::Nothing,
     }
 }
 
@@ -350,7 +350,7 @@ fn is_setup(first: usize, line: &Line<'_>) -> bool
 }
 
 // Behind `apic_id`.
-fn said_of_id(first: usize, line: &Line<'_>) -> Said
+fn said_of_id(first: usize, line: &Line<'_>) -> LineSays
     requires { first ≤ 4 }
     ensures { result ≡ said_of_id first line.now.number (words_of line.now.bytes.now) }
 {
@@ -359,11 +359,11 @@ fn said_of_id(first: usize, line: &Line<'_>) -> Said
     } else if is_setup(first, line) {
         size_from(first + 4, line)
     } else {
-        Said::Nothing
+        LineSays::Nothing
     }
 }
 
-fn said_from(first: usize, line: &Line<'_>) -> Said
+fn said_from(first: usize, line: &Line<'_>) -> LineSays
     requires { first ≤ 1 }
     ensures { result ≡ said_from first line.now.number (words_of line.now.bytes.now) }
 {
@@ -391,7 +391,7 @@ fn level_words(line: &Line<'_>) -> usize
 }
 
 /// What a line says.
-pub(crate) fn coreboot_said(line: &Line<'_>) -> Said
+pub(crate) fn coreboot_said(line: &Line<'_>) -> LineSays
     ensures { result ≡ coreboot_said line.now.number line.now.bytes.now }
 {
     said_from(level_words(line), line)

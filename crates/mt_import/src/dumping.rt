@@ -2,13 +2,13 @@ ghost use Rattle.std.specs.Prelude.{◌≡◌, ◌≤◌, ◌<◌, ◌+◌, ℕ,
 ghost use Rattle.mt_regs.specs.Registers.{fixed_numbers};
 ghost use Rattle.mt_kinds.specs.Bits.{is_bit_set};
 ghost use Rattle.mt_regs.specs.RegisterFile.{low_byte};
-ghost use Rattle.mt_import.specs.Outcome.{dump_in, dump_told, ended_with, file_of, files_of, first_pairs, fixed_of, is_empty, notes_of, refusal, remarks, value_or_zero, version_of};
+ghost use Rattle.mt_import.specs.Outcome.{dump_in, dump_outcome, ended_with, file_of, files_of, first_pairs, fixed_of, is_empty, notes_of, refusal, remarks, value_or_zero, version_of};
 ghost use Rattle.mt_import.specs.Reader.{IsFit, known_in, slots_of, values_in};
 ghost use Rattle.mt_import.specs.Values.{width_by};
 ghost use Rattle.mt_import.specs.Import.{IsWritten, dump_text};
 
 use crate::shape::Tally;
-use crate::text::{Imported, count_line, is_empty, warning_text};
+use crate::text::{Outcome, count_line, is_empty, warning_text};
 use crate::{LogReader, Supplied};
 use arrayvec::ArrayVec;
 use mt_dump::{Dump, TextBuffer, append_text, canonical_text};
@@ -146,13 +146,13 @@ impl LogReader {
     }
 
     // The dump, where nothing is missing.
-    fn dump_told(&self, is_auto: bool, supplied: &Supplied, missing: &[u8]) -> Imported
+    fn dump_outcome(&self, is_auto: bool, supplied: &Supplied, missing: &[u8]) -> Outcome
         requires some { 1 ≤ self.now.processors }
         requires few { self.now.processors ≤ 16 }
         requires pairs { (value : ℕ) → values_in supplied.now self.now 0 0xfe ≡ Some value → low_byte value ≤ 32 }
         requires fit { IfSome self.now.width IsFit }
         requires room { length missing.now ≤ 0x7000 }
-        ensures told { result ≡ dump_told (refusal self.now.tally missing.now) (values_in supplied.now self.now) self.now.processors
+        ensures told { result ≡ dump_outcome (refusal self.now.tally missing.now) (values_in supplied.now self.now) self.now.processors
             (notes_of supplied.now (slots_of self.now) self.now.processors (known_in self.now)) (remarks is_auto self.now.tally)
             (width_by supplied.now (slots_of self.now) self.now.width) (values_in supplied.now self.now 0 0xfe) }
         ensures written { IsWritten result.status (dump_text result) }
@@ -164,7 +164,7 @@ impl LogReader {
         let Some(capabilities) = self.value(supplied, 0, CAPABILITIES) else {
             return refusal(&tally, missing);
         };
-        Imported {
+        Outcome {
             notes: self.notes(supplied),
             dump: canonical_text(&self.dump(supplied, width, capabilities)),
             reasons: remarks(is_auto, &tally),
@@ -173,7 +173,7 @@ impl LogReader {
     }
 
     /// The dump of all lines that were taken, or what is missing.
-    pub fn finish(&self, is_auto: bool, supplied: &Supplied) -> Imported
+    pub fn finish(&self, is_auto: bool, supplied: &Supplied) -> Outcome
         requires some { 1 ≤ self.now.processors }
         requires few { self.now.processors ≤ 16 }
         requires pairs { (value : ℕ) → values_in supplied.now self.now 0 0xfe ≡ Some value → low_byte value ≤ 32 }
@@ -184,7 +184,7 @@ impl LogReader {
         let missing = self.missing(supplied);
         let text = missing.as_slice();
         if is_empty(text) {
-            self.dump_told(is_auto, supplied, text)
+            self.dump_outcome(is_auto, supplied, text)
         } else {
             refusal(&self.tally(), text)
         }
@@ -204,7 +204,7 @@ fn remarks(is_auto: bool, tally: &Tally) -> TextBuffer
 }
 
 // What is told in place of a dump.
-fn refusal(tally: &Tally, missing: &[u8]) -> Imported
+fn refusal(tally: &Tally, missing: &[u8]) -> Outcome
     requires { length missing.now ≤ 0x7000 }
     ensures told { result ≡ refusal tally.now missing.now }
     ensures written { IsWritten result.status (dump_text result) }
@@ -213,7 +213,7 @@ fn refusal(tally: &Tally, missing: &[u8]) -> Imported
     append_text(&mut reasons, count_line(tally).as_slice());
     append_text(&mut reasons, warning_text(tally.warned));
     append_text(&mut reasons, missing);
-    Imported {
+    Outcome {
         notes: ArrayVec::new(),
         dump: ArrayVec::new(),
         reasons,

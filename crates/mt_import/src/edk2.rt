@@ -1,7 +1,7 @@
 ghost use Rattle.std.specs.Prelude.{◌≡◌, ◌<◌, IfSome};
 ghost use Rattle.mt_import.specs.Edk2.{edk2_said, fixed_number, said_by_words, shows_pair, value_behind};
 
-use crate::Said;
+use crate::LineSays;
 use crate::linux::pair_numbered;
 use crate::pieces::{behind, is_text, shows_one, sixteen_digits, value_at};
 use crate::reading::two_shown;
@@ -29,15 +29,15 @@ fn shows_pair(
     base: Option<u64>,
     mask_place: Place,
     mask: Option<u64>,
-) -> Said
+) -> LineSays
     requires { IfSome pair (λ pair. pair < 32) }
     ensures { result ≡ shows_pair pair base_place base mask_place mask }
 {
     let Some(pair) = pair else {
-        return Said::Nothing;
+        return LineSays::Nothing;
     };
     let number = FIRST_PAIR + 2 * pair as u32;
-    Said::Shows(
+    LineSays::Shows(
         Some(0),
         two_shown(
             value_at(number, base_place, base),
@@ -56,11 +56,11 @@ fn value_behind(head: &[u8], word: &[u8]) -> Option<u64>
     }
 }
 
-fn said_by_words(words: &Words<'_>) -> Said
+fn said_by_words(words: &Words<'_>) -> LineSays
     ensures { result ≡ said_by_words words.now.number words.now.words }
 {
     if words.count() != 4 {
-        return Said::Nothing;
+        return LineSays::Nothing;
     }
     if is_text(b"MTRR", words.text(0))
         && is_text(b"Default", words.text(1))
@@ -88,12 +88,12 @@ fn said_by_words(words: &Words<'_>) -> Said
             value_behind(b"Mask=", words.text(3)),
         )
     } else {
-        Said::Nothing
+        LineSays::Nothing
     }
 }
 
 /// What a line says.
-pub(crate) fn edk2_said(line: &Line<'_>) -> Said
+pub(crate) fn edk2_said(line: &Line<'_>) -> LineSays
     ensures { result ≡ edk2_said line.now.number line.now.bytes.now }
 {
     said_by_words(&line.first_words())

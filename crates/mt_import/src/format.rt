@@ -1,7 +1,7 @@
 ghost use Rattle.std.specs.Prelude.{◌≡◌};
 ghost use Rattle.mt_import.specs.Shown.{chosen, format_of, format_told, is_auto, is_telling, said_by_line, said_in, said_in_each, said_of, said_or_sizes, tells};
 
-use crate::Said;
+use crate::LineSays;
 use crate::coreboot::coreboot_said;
 use crate::edk2::edk2_said;
 use crate::inteltool::inteltool_said;
@@ -62,7 +62,7 @@ impl Choice {
 }
 
 impl Format {
-    fn said_by_line(self, line: &Line<'_>) -> Said
+    fn said_by_line(self, line: &Line<'_>) -> LineSays
         ensures { result ≡ said_by_line self line.now.number line.now.bytes.now }
     {
         match self {
@@ -77,11 +77,11 @@ impl Format {
     }
 
     /// What a line says, whatever the other lines say.
-    pub fn said_of(self, line: &Line<'_>) -> Said
+    pub fn said_of(self, line: &Line<'_>) -> LineSays
         ensures { result ≡ said_of self line.now.number line.now.bytes.now }
     {
         if line.too_long() {
-            return Said::Long(line.past_limit());
+            return LineSays::Long(line.past_limit());
         }
         said_or_sizes(self.said_by_line(line), line)
     }
@@ -94,36 +94,36 @@ impl Format {
 }
 
 // What a line says in each format.
-fn said_in_each(line: &Line<'_>) -> Said
+fn said_in_each(line: &Line<'_>) -> LineSays
     ensures { result ≡ said_in_each line.now.number line.now.bytes.now }
 {
     if is_warning_line(line) {
-        Said::Warns
+        LineSays::Warns
     } else {
         sizes_said(line)
     }
 }
 
-fn said_or_sizes(said: Said, line: &Line<'_>) -> Said
+fn said_or_sizes(said: LineSays, line: &Line<'_>) -> LineSays
     ensures { result ≡ said_or_sizes said line.now.number line.now.bytes.now }
 {
     match said {
-        Said::Nothing => said_in_each(line),
+        LineSays::Nothing => said_in_each(line),
         said => said,
     }
 }
 
-fn is_telling(said: &Said) -> bool
+fn is_telling(said: &LineSays) -> bool
     ensures { result ≡ is_telling said.now }
 {
     match said {
-        Said::Announces(..)
-        | Said::Shows(..)
-        | Said::Begins(_)
-        | Said::FixedRanges(..)
-        | Said::VariableRanges(..)
-        | Said::Width(..) => true,
-        Said::Turns(processor) => 0 < *processor && *processor < UNREAD_PROCESSOR,
+        LineSays::Announces(..)
+        | LineSays::Shows(..)
+        | LineSays::Begins(_)
+        | LineSays::FixedRanges(..)
+        | LineSays::VariableRanges(..)
+        | LineSays::Width(..) => true,
+        LineSays::Turns(processor) => 0 < *processor && *processor < UNREAD_PROCESSOR,
         _ => false,
     }
 }
@@ -163,12 +163,12 @@ pub(crate) fn chosen(format: Option<Format>, line: &Line<'_>) -> Option<Format>
 }
 
 /// What a line says in a format, if one is known.
-pub(crate) fn said_in(format: Option<Format>, line: &Line<'_>) -> Said
+pub(crate) fn said_in(format: Option<Format>, line: &Line<'_>) -> LineSays
     ensures { result ≡ said_in format line.now.number line.now.bytes.now }
 {
     match format {
         Some(format) => format.said_of(line),
-        None if line.too_long() => Said::Long(line.past_limit()),
+        None if line.too_long() => LineSays::Long(line.past_limit()),
         None => said_in_each(line),
     }
 }

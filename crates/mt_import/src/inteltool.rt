@@ -3,7 +3,7 @@ ghost use Rattle.mt_import.specs.Pieces.{before};
 ghost use Rattle.mt_text.specs.Number.{decimal_number};
 ghost use Rattle.mt_import.specs.Inteltool.{halves_at, halves_value, inteltool_said, is_colon, is_register_line, is_shared, is_unique, of_halves, said_by_words, turned_by, turned_to};
 
-use crate::Said;
+use crate::LineSays;
 use crate::pieces::{
     UNREAD_PROCESSOR, before, is_text, prefixed_register, shows_one, whole_number,
 };
@@ -48,12 +48,12 @@ fn halves_value(word: &[u8]) -> Option<u64>
     }
 }
 
-fn turned_to(digits: &[u8]) -> Said
+fn turned_to(digits: &[u8]) -> LineSays
     ensures { result ≡ turned_to (decimal_number digits.now 65535) }
 {
     match decimal(digits, 65535) {
-        Ok(processor) => Said::Turns(processor as u32),
-        Err(_) => Said::Turns(UNREAD_PROCESSOR),
+        Ok(processor) => LineSays::Turns(processor as u32),
+        Err(_) => LineSays::Turns(UNREAD_PROCESSOR),
     }
 }
 
@@ -77,16 +77,16 @@ fn is_unique(words: &Words<'_>) -> bool
         && is_text(b"(core", words.text(3))
 }
 
-fn turned_by(word: &[u8]) -> Said
+fn turned_by(word: &[u8]) -> LineSays
     ensures { result ≡ turned_by (before (codes ")") word.now) }
 {
     match before(b")", word) {
         Some(digits) => turned_to(digits),
-        None => Said::Turns(UNREAD_PROCESSOR),
+        None => LineSays::Turns(UNREAD_PROCESSOR),
     }
 }
 
-fn said_by_words(words: &Words<'_>) -> Said
+fn said_by_words(words: &Words<'_>) -> LineSays
     ensures { result ≡ said_by_words words.now.number words.now.words }
 {
     if is_register_line(words) {
@@ -98,16 +98,16 @@ fn said_by_words(words: &Words<'_>) -> Said
         );
     }
     if is_shared(words) {
-        Said::Turns(0)
+        LineSays::Turns(0)
     } else if is_unique(words) {
         turned_by(words.text(4))
     } else {
-        Said::Nothing
+        LineSays::Nothing
     }
 }
 
 /// What a line says.
-pub(crate) fn inteltool_said(line: &Line<'_>) -> Said
+pub(crate) fn inteltool_said(line: &Line<'_>) -> LineSays
     ensures { result ≡ inteltool_said line.now.number line.now.bytes.now }
 {
     said_by_words(&line.first_words())

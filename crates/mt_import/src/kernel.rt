@@ -4,7 +4,7 @@ ghost use Rattle.mt_import.specs.Kernel.{addresses_said, all_fixed_shown, base_v
 use crate::line_words::{LineWords, kernel_end};
 use crate::pieces::{is_text, number_in, shown_bits, value_at};
 use crate::reading::{one_shown, two_shown};
-use crate::{Said, Shown, Shows};
+use crate::{LineSays, Shown, Shows};
 use mt_kinds::PAGE_BYTES;
 use mt_regs::{DEFAULT_TYPE, FIRST_PAIR};
 use mt_text::{Line, Place, decimal, hex64};
@@ -47,21 +47,21 @@ fn enabled_by(word: &[u8]) -> Option<bool>
     }
 }
 
-fn fixed_said(is_alone: bool, place: Place, enabled: Option<bool>) -> Said
+fn fixed_said(is_alone: bool, place: Place, enabled: Option<bool>) -> LineSays
     ensures { result ≡ fixed_said is_alone place enabled }
 {
     match enabled {
-        Some(is_enabled) => Said::FixedRanges(is_enabled, is_alone, place),
-        None => Said::Nothing,
+        Some(is_enabled) => LineSays::FixedRanges(is_enabled, is_alone, place),
+        None => LineSays::Nothing,
     }
 }
 
-fn variable_said(place: Place, enabled: Option<bool>) -> Said
+fn variable_said(place: Place, enabled: Option<bool>) -> LineSays
     ensures { result ≡ variable_said place enabled }
 {
     match enabled {
-        Some(is_enabled) => Said::VariableRanges(is_enabled, place),
-        None => Said::Nothing,
+        Some(is_enabled) => LineSays::VariableRanges(is_enabled, place),
+        None => LineSays::Nothing,
     }
 }
 
@@ -75,20 +75,20 @@ pub(crate) fn default_shown(code: Option<u8>, place: Place) -> Option<Shown>
     }
 }
 
-fn head_said(alone: bool, words: &LineWords<'_>) -> Said
+fn head_said(alone: bool, words: &LineWords<'_>) -> LineSays
     ensures { result ≡ head_said alone words.now.number words.now.words }
 {
     if is_text(b"default", words.text(1)) && is_text(b"type:", words.text(2)) {
         let code = type_named(words.text(3));
-        Said::Begins(one_shown(default_shown(code, words.place(3))))
+        LineSays::Begins(one_shown(default_shown(code, words.place(3))))
     } else if !is_text(b"ranges", words.text(2)) {
-        Said::Nothing
+        LineSays::Nothing
     } else if is_text(b"fixed", words.text(1)) {
         fixed_said(alone, words.place(3), enabled_by(words.text(3)))
     } else if is_text(b"variable", words.text(1)) {
         variable_said(words.place(3), enabled_by(words.text(3)))
     } else {
-        Said::Nothing
+        LineSays::Nothing
     }
 }
 
@@ -181,27 +181,27 @@ fn all_fixed_shown(first: u32, end: u32, code: u8, place: Place) -> Shows
     ]
 }
 
-fn types_said(first: Option<u32>, end: Option<u32>, code: Option<u8>, place: Place) -> Said
+fn types_said(first: Option<u32>, end: Option<u32>, code: Option<u8>, place: Place) -> LineSays
     requires { IfSome code (λ code. code ≤ 6) }
     ensures { result ≡ types_said first end code place }
 {
     let Some(first) = first else {
-        return Said::Nothing;
+        return LineSays::Nothing;
     };
     let Some(end) = end else {
-        return Said::Nothing;
+        return LineSays::Nothing;
     };
     let Some(code) = code else {
-        return Said::Nothing;
+        return LineSays::Nothing;
     };
     if first < end {
-        Said::Shows(Some(0), all_fixed_shown(first, end, code, place))
+        LineSays::Shows(Some(0), all_fixed_shown(first, end, code, place))
     } else {
-        Said::Nothing
+        LineSays::Nothing
     }
 }
 
-fn addresses_said(first: Option<u64>, last: Option<u64>, code: Option<u8>, place: Place) -> Said
+fn addresses_said(first: Option<u64>, last: Option<u64>, code: Option<u8>, place: Place) -> LineSays
     requires { IfSome code (λ code. code ≤ 6) }
     ensures { result ≡ addresses_said first last code place }
 {
@@ -209,11 +209,11 @@ fn addresses_said(first: Option<u64>, last: Option<u64>, code: Option<u8>, place
         (Some(first), Some(last)) if last < 0x100000 => {
             types_said(range_at(first), range_at(last + 1), code, place)
         }
-        _ => Said::Nothing,
+        _ => LineSays::Nothing,
     }
 }
 
-fn run_said(words: &LineWords<'_>) -> Said
+fn run_said(words: &LineWords<'_>) -> LineSays
     ensures { result ≡ run_said words.now.number words.now.words }
 {
     let addresses = words.text(0);
@@ -222,7 +222,7 @@ fn run_said(words: &LineWords<'_>) -> Said
         let last = number_in(hex64(&addresses[6..]));
         addresses_said(first, last, type_named(words.text(1)), words.place(1))
     } else {
-        Said::Nothing
+        LineSays::Nothing
     }
 }
 
@@ -246,17 +246,17 @@ fn mask_value(mask: Option<u64>) -> Option<u64>
     }
 }
 
-fn pair_said(pair: Option<u64>, words: &LineWords<'_>) -> Said
+fn pair_said(pair: Option<u64>, words: &LineWords<'_>) -> LineSays
     requires { IfSome pair (λ pair. pair < 32) }
     ensures { result ≡ pair_said pair words.now.number words.now.words }
 {
     let Some(pair) = pair else {
-        return Said::Nothing;
+        return LineSays::Nothing;
     };
     let number = FIRST_PAIR + 2 * pair as u32;
     let base = base_value(number_in(hex64(words.text(2))), type_named(words.text(5)));
     let mask = mask_value(number_in(hex64(words.text(4))));
-    Said::Shows(
+    LineSays::Shows(
         Some(0),
         two_shown(
             value_at(number, words.place(2), base),
@@ -265,16 +265,16 @@ fn pair_said(pair: Option<u64>, words: &LineWords<'_>) -> Said
     )
 }
 
-fn disabled_said(pair: Option<u64>, place: Place) -> Said
+fn disabled_said(pair: Option<u64>, place: Place) -> LineSays
     requires { IfSome pair (λ pair. pair < 32) }
     ensures { result ≡ disabled_said pair place }
 {
     match pair {
         Some(pair) => {
             let number = FIRST_PAIR + 1 + 2 * pair as u32;
-            Said::Shows(Some(0), one_shown(shown_bits(number, VALID, 0, place)))
+            LineSays::Shows(Some(0), one_shown(shown_bits(number, VALID, 0, place)))
         }
-        None => Said::Nothing,
+        None => LineSays::Nothing,
     }
 }
 
@@ -295,7 +295,7 @@ pub(crate) fn is_warning_line(line: &Line<'_>) -> bool
 
 /// What a line of these words says. `alone` tells whether the line on fixed ranges shows FE also
 /// without E.
-pub(crate) fn kernel_said(alone: bool, words: &LineWords<'_>) -> Said
+pub(crate) fn kernel_said(alone: bool, words: &LineWords<'_>) -> LineSays
     ensures { result ≡ kernel_said alone words.now.number words.now.words }
 {
     let count = words.count();
@@ -308,6 +308,6 @@ pub(crate) fn kernel_said(alone: bool, words: &LineWords<'_>) -> Said
     } else if count == 6 && is_text(b"base", words.text(1)) && is_text(b"mask", words.text(3)) {
         pair_said(number_in(decimal(words.text(0), 31)), words)
     } else {
-        Said::Nothing
+        LineSays::Nothing
     }
 }

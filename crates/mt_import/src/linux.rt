@@ -8,7 +8,7 @@ use crate::pieces::{
     before, behind, is_text, number_in, prefixed_number, shown_bits, shows_one, value_at,
 };
 use crate::reading::{one_shown, two_shown};
-use crate::{Said, Shown};
+use crate::{LineSays, Shown};
 use mt_regs::{CAPABILITIES, FIRST_PAIR, PAT, POWER_UP_PAT};
 use mt_text::{Line, Place, decimal, hex64};
 
@@ -92,7 +92,7 @@ fn is_configuration(word: &[u8]) -> bool
 }
 
 // Behind `[0-7]:`, the word of this number.
-fn pat_from(at: u8, words: &LineWords<'_>) -> Said
+fn pat_from(at: u8, words: &LineWords<'_>) -> LineSays
     requires some { 1 ≤ at }
     requires few { at ≤ 3 }
     ensures { result ≡ pat_from at words.now.number words.now.words }
@@ -104,7 +104,7 @@ fn pat_from(at: u8, words: &LineWords<'_>) -> Said
         let value = pat_told(bytes_value(&entries_from(at + 1, words)));
         shows_one(Some(0), Some(PAT), value, words.place(at + 1))
     } else {
-        Said::Nothing
+        LineSays::Nothing
     }
 }
 
@@ -121,7 +121,7 @@ fn pat_word(words: &LineWords<'_>) -> u8
     }
 }
 
-fn pat_said(words: &LineWords<'_>) -> Said
+fn pat_said(words: &LineWords<'_>) -> LineSays
     ensures { result ≡ pat_said words.now.number words.now.words }
 {
     pat_from(pat_word(words), words)
@@ -140,14 +140,14 @@ fn is_pat_change(words: &LineWords<'_>) -> bool
 }
 
 // `x86 PAT enabled: cpu 0, old 0x7040600070406, new 0x7010600070106`
-fn pat_changed(words: &LineWords<'_>) -> Said
+fn pat_changed(words: &LineWords<'_>) -> LineSays
     ensures { result ≡ pat_changed words.now.number words.now.words }
 {
     if is_pat_change(words) {
         let value = prefixed_number(words.text(8));
         shows_one(Some(0), Some(PAT), value, words.place(8))
     } else {
-        Said::Nothing
+        LineSays::Nothing
     }
 }
 
@@ -217,15 +217,15 @@ fn pair_shown(
     base: Option<u64>,
     size_place: Place,
     size: Option<u64>,
-) -> Said
+) -> LineSays
     requires { IfSome pair (λ pair. pair < 32) }
     ensures { result ≡ pair_shown pair base_place base size_place size }
 {
     let Some(pair) = pair else {
-        return Said::Nothing;
+        return LineSays::Nothing;
     };
     let base = value_at(FIRST_PAIR + 2 * pair as u32, base_place, base);
-    Said::Shows(
+    LineSays::Shows(
         Some(0),
         two_shown(base, size_shown(pair as u8, size_place, size)),
     )
@@ -319,7 +319,7 @@ fn type_before_comma(word: &[u8]) -> Option<u8>
     }
 }
 
-fn region_by(size: Option<u64>, code: Option<u8>, words: &LineWords<'_>) -> Said
+fn region_by(size: Option<u64>, code: Option<u8>, words: &LineWords<'_>) -> LineSays
     requires { IfSome code (λ code. code ≤ 6) }
     ensures { result ≡ region_by size code words.now.number words.now.words }
 {
@@ -333,12 +333,12 @@ fn region_by(size: Option<u64>, code: Option<u8>, words: &LineWords<'_>) -> Said
     )
 }
 
-fn region_said(words: &LineWords<'_>) -> Said
+fn region_said(words: &LineWords<'_>) -> LineSays
     ensures { result ≡ region_said words.now.number words.now.words }
 {
     let at = amount_word(words);
     if words.count() != at as usize + 3 {
-        Said::Nothing
+        LineSays::Nothing
     } else if is_count(words.text(at + 1)) {
         let code = type_named(words.text(at + 2));
         region_by(amount_of(b",", words), code, words)
@@ -346,7 +346,7 @@ fn region_said(words: &LineWords<'_>) -> Said
         let code = type_before_comma(words.text(at + 1));
         region_by(amount_of(b":", words), code, words)
     } else {
-        Said::Nothing
+        LineSays::Nothing
     }
 }
 
@@ -385,11 +385,11 @@ fn cleanup_type(word: &[u8]) -> Option<u8>
 }
 
 // `reg 0, base: 2GB, range: 256MB, type UC`, of the cleanup.
-fn cleanup_said(words: &LineWords<'_>) -> Said
+fn cleanup_said(words: &LineWords<'_>) -> LineSays
     ensures { result ≡ cleanup_said words.now.number words.now.words }
 {
     if !is_cleanup(words) {
-        return Said::Nothing;
+        return LineSays::Nothing;
     }
     let base = amount_before(b",", words.text(3));
     pair_shown(
@@ -463,20 +463,20 @@ fn entries_before(word: &[u8]) -> Option<u64>
     }
 }
 
-fn count_said(count: Option<u64>, place: Place) -> Said
+fn count_said(count: Option<u64>, place: Place) -> LineSays
     ensures { result ≡ count_said count place }
 {
     match count {
-        Some(count) => Said::Shows(
+        Some(count) => LineSays::Shows(
             Some(0),
             one_shown(shown_bits(CAPABILITIES, 0xff, count, place)),
         ),
-        None => Said::Nothing,
+        None => LineSays::Nothing,
     }
 }
 
 // `MTRR map: 5 entries (3 fixed + 2 variable; max 23), built from 10 variable MTRRs`
-fn map_said(words: &LineWords<'_>) -> Said
+fn map_said(words: &LineWords<'_>) -> LineSays
     ensures { result ≡ map_said words.now.number words.now.words }
 {
     let fixed = entries_behind(words.text(4));
@@ -485,7 +485,7 @@ fn map_said(words: &LineWords<'_>) -> Said
     count_said(map_count(fixed, most, count), words.place(13))
 }
 
-fn linux_words_said(words: &LineWords<'_>) -> Said
+fn linux_words_said(words: &LineWords<'_>) -> LineSays
     ensures { result ≡ linux_words_said words.now.number words.now.words }
 {
     let word = words.text(0);
@@ -505,7 +505,7 @@ fn linux_words_said(words: &LineWords<'_>) -> Said
 }
 
 /// What a line says.
-pub(crate) fn linux_said(line: &Line<'_>) -> Said
+pub(crate) fn linux_said(line: &Line<'_>) -> LineSays
     ensures { result ≡ linux_said line.now.number line.now.bytes.now }
 {
     linux_words_said(&LineWords::behind(head_end(line), line))

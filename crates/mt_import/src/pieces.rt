@@ -4,7 +4,7 @@ ghost use Rattle.mt_text.specs.Text.{words_of};
 ghost use Rattle.mt_text.specs.Words.{place_of, text_of};
 ghost use Rattle.mt_import.specs.Pieces.{before, behind, is_prefixed, is_text, number_in, prefixed_number, prefixed_register, register_in, shown_as, shown_bits, shows_one, shows_width, whole_number, sixteen_digits, value_at};
 
-use crate::{Said, Shown};
+use crate::{LineSays, Shown};
 use mt_text::{Line, NumberFault, Place, Word, hex64};
 
 // Registers with three hexadecimal digits.
@@ -148,17 +148,17 @@ pub(crate) fn shows_one(
     number: Option<u32>,
     value: Option<u64>,
     place: Place,
-) -> Said
+) -> LineSays
     ensures { result ≡ shows_one processor number value place }
 {
     let Some(number) = number else {
-        return Said::Nothing;
+        return LineSays::Nothing;
     };
     let Some(value) = value else {
-        return Said::Nothing;
+        return LineSays::Nothing;
     };
     let shown = shown_as(number, value, place);
-    Said::Shows(
+    LineSays::Shows(
         processor,
         [
             shown, None, None, None, None, None, None, None, None, None, None,
@@ -167,12 +167,12 @@ pub(crate) fn shows_one(
 }
 
 /// The width that a line shows, where this is one.
-pub(crate) fn shows_width(width: Result<u64, NumberFault>, place: Place) -> Said
+pub(crate) fn shows_width(width: Result<u64, NumberFault>, place: Place) -> LineSays
     ensures { result ≡ shows_width width place }
 {
     match width {
-        Ok(width) => Said::Width(width, place),
-        Err(_) => Said::Nothing,
+        Ok(width) => LineSays::Width(width, place),
+        Err(_) => LineSays::Nothing,
     }
 }
 

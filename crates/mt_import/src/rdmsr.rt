@@ -3,7 +3,7 @@ ghost use Rattle.mt_text.specs.Number.{hex_number};
 ghost use Rattle.mt_import.specs.Pieces.{before, behind};
 ghost use Rattle.mt_import.specs.Rdmsr.{announced, call_from, call_said, column_register, column_said, digits_in, is_all, is_hex_option, is_padded, is_traced, option_at, processor_named, rdmsr_said, register_named, said_by_words, said_value, with_processor};
 
-use crate::Said;
+use crate::LineSays;
 use crate::line_words::LineWords;
 use crate::pieces::{
     before, behind, is_prefixed, is_text, number_in, prefixed_register, register_in, shows_one,
@@ -33,12 +33,12 @@ fn is_hex_option(word: &[u8]) -> bool
     is_text(b"-0", word) || is_text(b"-x", word) || is_text(b"-X", word) || is_text(b"-c", word)
 }
 
-fn announced(processor: Option<u32>, register: Option<u32>) -> Said
+fn announced(processor: Option<u32>, register: Option<u32>) -> LineSays
     ensures { result ≡ announced processor register }
 {
     match register {
-        Some(number) => Said::Announces(processor, number),
-        None => Said::Turns(processor.unwrap_or(UNREAD_CALL)),
+        Some(number) => LineSays::Announces(processor, number),
+        None => LineSays::Turns(processor.unwrap_or(UNREAD_CALL)),
     }
 }
 
@@ -106,7 +106,7 @@ fn option_at(at: u8, processor: Option<u32>, words: &LineWords<'_>) -> Option<(u
 }
 
 // The words of a call from this one on: options, so many at most, and the register.
-fn call_from(options: u8, at: u8, processor: Option<u32>, words: &LineWords<'_>) -> Said
+fn call_from(options: u8, at: u8, processor: Option<u32>, words: &LineWords<'_>) -> LineSays
     requires { at + 2 * options ≤ 12 }
     ensures { result ≡ call_from options at processor words.now.words }
 {
@@ -114,20 +114,20 @@ fn call_from(options: u8, at: u8, processor: Option<u32>, words: &LineWords<'_>)
         return announced(processor, register_named(words.text(at)));
     }
     if options == 0 {
-        return Said::Turns(UNREAD_CALL);
+        return LineSays::Turns(UNREAD_CALL);
     }
     match option_at(at, processor, words) {
         Some((size, next)) => call_from(options - 1, at + size, next, words),
-        None => Said::Turns(UNREAD_CALL),
+        None => LineSays::Turns(UNREAD_CALL),
     }
 }
 
-fn said_value(place: Place, word: &[u8]) -> Said
+fn said_value(place: Place, word: &[u8]) -> LineSays
     ensures { result ≡ said_value place (hex_number word.now) }
 {
     match hex64(word) {
-        Ok(value) => Said::Value(value, place),
-        Err(_) => Said::Nothing,
+        Ok(value) => LineSays::Value(value, place),
+        Err(_) => LineSays::Nothing,
     }
 }
 
@@ -141,7 +141,7 @@ fn column_register(word: &[u8]) -> Option<u32>
 }
 
 // `0x200 6` or `0x200: 6`, of the processor of the last call.
-fn column_said(words: &LineWords<'_>) -> Said
+fn column_said(words: &LineWords<'_>) -> LineSays
     ensures { result ≡ column_said words.now.number words.now.words }
 {
     shows_one(
@@ -158,7 +158,7 @@ fn is_traced(word: &[u8]) -> bool
     is_text(b"+", word) || is_text(b"++", word)
 }
 
-fn call_said(words: &LineWords<'_>) -> Said
+fn call_said(words: &LineWords<'_>) -> LineSays
     ensures { result ≡ call_said words.now.words }
 {
     if is_text(b"rdmsr", words.text(1)) {
@@ -166,11 +166,11 @@ fn call_said(words: &LineWords<'_>) -> Said
     } else if is_text(b"sudo", words.text(1)) && is_text(b"rdmsr", words.text(2)) {
         call_from(3, 3, Some(0), words)
     } else {
-        Said::Nothing
+        LineSays::Nothing
     }
 }
 
-fn said_by_words(words: &LineWords<'_>) -> Said
+fn said_by_words(words: &LineWords<'_>) -> LineSays
     ensures { result ≡ said_by_words words.now.number words.now.words }
 {
     if is_traced(words.text(0)) {
@@ -179,12 +179,12 @@ fn said_by_words(words: &LineWords<'_>) -> Said
     match words.count() {
         1 => said_value(words.place(0), words.text(0)),
         2 => column_said(words),
-        _ => Said::Nothing,
+        _ => LineSays::Nothing,
     }
 }
 
 /// What a line says.
-pub(crate) fn rdmsr_said(line: &Line<'_>) -> Said
+pub(crate) fn rdmsr_said(line: &Line<'_>) -> LineSays
     ensures { result ≡ rdmsr_said line.now.number line.now.bytes.now }
 {
     said_by_words(&LineWords::behind(0, line))

@@ -11,16 +11,16 @@ ghost use Rattle.mt_import.specs.Shown.{context_behind, facts_of_line};
 ghost use Rattle.mt_import.specs.Slot.{slot_with};
 ghost use Rattle.mt_import.specs.Outcome.{Seen, capabilities_after, capability_rival, contradiction, count_rival, counted, counts_fewer, enabled_pair, facts_fault, fix_shown, fixed_line_after, fixed_rival, fixless_rival, is_fit_width, lacks_fix, last_after, nothing_seen, one_if, or_fault, or_rival, pairs_fault, ranged_rival, reading_fault, rival, seen_after, seen_with, shows_fixed, shows_no_fix, slot_shown, tally_warned, tally_with, width_fault, width_rival};
 ghost use Rattle.mt_import.specs.Supplied.{bits_differ, differs};
-ghost use Rattle.mt_import.specs.Import.{IsWritten, dump_text, log_told};
+ghost use Rattle.mt_import.specs.Import.{IsWritten, dump_text, log_outcome};
 ghost use Rattle.mt_import.specs.Reader.{HasTaken, IsFit, IsShort, held_at, slot_of, slots_of};
 
 use crate::format::{chosen, said_in};
 use crate::pieces::{count_on, shown_as};
 use crate::reading::{MOST_SHOWN, fixed_shows, is_register};
 use crate::shape::{FixedLine, LastPair, Reading, Shown, Slot, Tally};
-use crate::text::{Imported, faulted};
+use crate::text::{Outcome, faulted};
 use crate::values::is_pair_number;
-use crate::{Choice, Context, Format, ImportFault, Rival, Said, Shows, Supplied};
+use crate::{Choice, Context, Format, ImportFault, LineSays, Rival, Shows, Supplied};
 use mt_kinds::is_bit_set;
 use mt_ports::Source;
 use mt_regs::{CAPABILITIES, DEFAULT_TYPE, FIRST_PAIR, MAX_PAIRS};
@@ -675,7 +675,7 @@ impl LogReader {
     }
 
     // Takes what a line says.
-    fn take_said(&mut self, supplied: &Supplied, said: &Said) -> Result<(), ImportFault>
+    fn take_said(&mut self, supplied: &Supplied, said: &LineSays) -> Result<(), ImportFault>
         ensures taken { (seen : Seen) → HasTaken self.old seen → MatchResult result
             (λ _. HasTaken self.new (seen_after seen (said_facts self.old.context said.now)) × (facts_fault supplied.now seen (said_facts self.old.context said.now) ≡ None))
             (λ fault. facts_fault supplied.now seen (said_facts self.old.context said.now) ≡ Some fault) }
@@ -684,26 +684,26 @@ impl LogReader {
     {
         let table = self.context.table;
         match said {
-            Said::Value(value, place) => self.take_value(supplied, *value, *place),
-            Said::Shows(processor, shows) => {
+            LineSays::Value(value, place) => self.take_value(supplied, *value, *place),
+            LineSays::Shows(processor, shows) => {
                 let processor = processor.unwrap_or(self.context.processor);
                 self.take_shows(supplied, processor, table, shows)
             }
-            Said::Begins(shows) => self.take_shows(supplied, 0, count_on(table), shows),
-            Said::FixedRanges(is_enabled, is_alone, place) => {
+            LineSays::Begins(shows) => self.take_shows(supplied, 0, count_on(table), shows),
+            LineSays::FixedRanges(is_enabled, is_alone, place) => {
                 self.take_fixed(supplied, *is_enabled, *is_alone, *place)
             }
-            Said::VariableRanges(is_enabled, place) => {
+            LineSays::VariableRanges(is_enabled, place) => {
                 let shows = self.context.variable_shows(*is_enabled, *place);
                 self.take_shows(supplied, 0, table, &shows)
             }
-            Said::Width(width, place) => self.take_width(supplied, *width, *place),
-            Said::Warns => {
+            LineSays::Width(width, place) => self.take_width(supplied, *width, *place),
+            LineSays::Warns => {
                 self.tally.warned = true;
                 Ok(())
             }
-            Said::Long(place) => Err(ImportFault::LongLine(*place)),
-            Said::Nothing | Said::Announces(..) | Said::Turns(_) => Ok(()),
+            LineSays::Long(place) => Err(ImportFault::LongLine(*place)),
+            LineSays::Nothing | LineSays::Announces(..) | LineSays::Turns(_) => Ok(()),
         }
     }
 
@@ -740,7 +740,7 @@ impl LogReader {
         supplied: &Supplied,
         number: u64,
         format: Option<Format>,
-        said: &Said,
+        said: &LineSays,
     ) -> Result<(), ImportFault>
         ensures taken { (seen : Seen) → HasTaken self.old seen → let facts = line_facts number format self.old.context said.now in MatchResult result
             (λ _. HasTaken self.new (seen_after seen facts) × (facts_fault supplied.now seen facts ≡ None))
@@ -780,9 +780,9 @@ fn read_lines<S: Source>(
     supplied: &Supplied,
     feed: &mut Feed,
     source: &mut S,
-) -> Result<Imported, FeedFault>
+) -> Result<Outcome, FeedFault>
     requires { feed.old ≡ at_start }
-    ensures answer { (bytes : List ℕ) → S.left source.old ≡ Some bytes → IfOk result (λ answer. answer ≡ log_told choice supplied.now bytes) }
+    ensures answer { (bytes : List ℕ) → S.left source.old ≡ Some bytes → IfOk result (λ answer. answer ≡ log_outcome choice supplied.now bytes) }
     ensures written { IfOk result (λ answer. IsWritten answer.status (dump_text answer)) }
     ensures end { IfOk result (λ _. IsAtEnd (S.left source.new)) }
     ensures fault { MatchResult result (λ _. feed.new.fault ≡ None) (λ fault. feed.new.fault ≡ Some fault) }
@@ -809,8 +809,8 @@ pub fn read_log<S: Source>(
     choice: Choice,
     supplied: &Supplied,
     source: &mut S,
-) -> Result<Imported, FeedFault>
-    ensures answer { (bytes : List ℕ) → S.left source.old ≡ Some bytes → IfOk result (λ answer. answer ≡ log_told choice supplied.now bytes) }
+) -> Result<Outcome, FeedFault>
+    ensures answer { (bytes : List ℕ) → S.left source.old ≡ Some bytes → IfOk result (λ answer. answer ≡ log_outcome choice supplied.now bytes) }
     ensures written { IfOk result (λ answer. IsWritten answer.status (dump_text answer)) }
     ensures end { (bytes : List ℕ) → S.left source.old ≡ Some bytes → IfOk result (λ _. S.left source.new ≡ Some []) }
     ensures too_long { IsErrOf result FeedFault.TooLong ↔ GaveTooMuch (S.given source.old) (S.given source.new) }

@@ -25,7 +25,7 @@ pub type Shows = [Option<Shown>; MOST_SHOWN];
 
 /// What a line of a log says, whatever the other lines say.
 #[derive(Clone, Copy)]
-pub enum Said {
+pub enum LineSays {
     /// It is of another kind.
     Nothing,
     /// The next line has the value of this register of this processor, or the next lines have it of each processor in turn.
@@ -109,13 +109,13 @@ fn processor_called(processor: Option<u32>) -> u32
     }
 }
 
-impl Said {
+impl LineSays {
     /// Whether the line is of the format.
     pub(crate) fn is_match(&self) -> bool
         ensures { result ≡ is_match self.now }
     {
         match self {
-            Said::Nothing => false,
+            LineSays::Nothing => false,
             _ => true,
         }
     }
@@ -124,17 +124,17 @@ impl Said {
         ensures { result ≡ announced_after self.now before }
     {
         match self {
-            Said::Announces(Some(processor), number) => Some(Announced {
+            LineSays::Announces(Some(processor), number) => Some(Announced {
                 processor: *processor,
                 number: *number,
                 goes_on: false,
             }),
-            Said::Announces(None, number) => Some(Announced {
+            LineSays::Announces(None, number) => Some(Announced {
                 processor: 0,
                 number: *number,
                 goes_on: true,
             }),
-            Said::Value(_, _) => match before {
+            LineSays::Value(_, _) => match before {
                 Some(announced) if announced.goes_on && announced.processor < 65_535 => {
                     Some(Announced {
                         processor: announced.processor + 1,
@@ -152,8 +152,8 @@ impl Said {
         ensures { result ≡ processor_after self.now before }
     {
         match self {
-            Said::Turns(processor) => *processor,
-            Said::Announces(processor, _) => processor_called(*processor),
+            LineSays::Turns(processor) => *processor,
+            LineSays::Announces(processor, _) => processor_called(*processor),
             _ => before,
         }
     }
@@ -162,7 +162,7 @@ impl Said {
         ensures { result ≡ table_behind self.now before }
     {
         match self {
-            Said::Begins(_) => count_on(before),
+            LineSays::Begins(_) => count_on(before),
             _ => before,
         }
     }
@@ -171,7 +171,7 @@ impl Said {
         ensures { result ≡ fixed_after self.now table before }
     {
         match self {
-            Said::FixedRanges(is_enabled, _, place) => Some(FixedLine {
+            LineSays::FixedRanges(is_enabled, _, place) => Some(FixedLine {
                 is_enabled: *is_enabled,
                 table,
                 line: place.line,
@@ -196,7 +196,7 @@ impl Context {
     }
 
     /// What a line leads to, behind lines that lead to this.
-    pub fn after(&self, format: Option<Format>, said: &Said) -> Context
+    pub fn after(&self, format: Option<Format>, said: &LineSays) -> Context
         ensures { result ≡ context_after self.now format said.now }
     {
         Context {

@@ -5,10 +5,10 @@ ghost use Rattle.mt_ports.specs.Causes.{Rose, StatusHasCause};
 ghost use Rattle.mt_text.specs.Feed.{GaveTooMuch};
 ghost use Rattle.mt_import.specs.Help.{own_text};
 ghost use Rattle.mt_import.specs.Supplied.{command_of};
-ghost use Rattle.mt_import.specs.Import.{HaveCause, Imports, ImportsApart, IsWritten, dump_text, left_of, own_told, told_of, usage_told};
+ghost use Rattle.mt_import.specs.Import.{HaveCause, Imports, ImportsApart, IsWritten, dump_text, left_of, own_outcome, outcome_of, usage_outcome};
 
 use crate::help::own_text;
-use crate::text::Imported;
+use crate::text::Outcome;
 use crate::writing::{written_apart, written_in_one};
 use crate::{command_of, read_log};
 use arrayvec::ArrayVec;
@@ -16,13 +16,13 @@ use mt_dump::append_text;
 use mt_ports::{Sink, Source, Status};
 use mt_text::FeedFault;
 
-fn own_told(text: &[u8]) -> Imported
+fn own_outcome(text: &[u8]) -> Outcome
     requires { length text.now ≤ 0x8000 }
-    ensures { result ≡ own_told text.now }
+    ensures { result ≡ own_outcome text.now }
 {
     let mut dump = ArrayVec::new();
     append_text(&mut dump, text);
-    Imported {
+    Outcome {
         notes: ArrayVec::new(),
         dump,
         reasons: ArrayVec::new(),
@@ -30,12 +30,12 @@ fn own_told(text: &[u8]) -> Imported
     }
 }
 
-fn usage_told() -> Imported
-    ensures { result ≡ usage_told }
+fn usage_outcome() -> Outcome
+    ensures { result ≡ usage_outcome }
 {
     let mut reasons = ArrayVec::new();
     append_text(&mut reasons, b"usage\n");
-    Imported {
+    Outcome {
         notes: ArrayVec::new(),
         dump: ArrayVec::new(),
         reasons,
@@ -44,8 +44,8 @@ fn usage_told() -> Imported
 }
 
 // What the words and the source come to.
-fn imported<S: Source>(words: &[String], source: &mut S) -> Result<Imported, FeedFault>
-    ensures answer { (bytes : List ℕ) → S.left source.old ≡ Some bytes → IfOk result (λ answer. answer ≡ told_of (map string_bytes words.now) bytes) }
+fn command_outcome<S: Source>(words: &[String], source: &mut S) -> Result<Outcome, FeedFault>
+    ensures answer { (bytes : List ℕ) → S.left source.old ≡ Some bytes → IfOk result (λ answer. answer ≡ outcome_of (map string_bytes words.now) bytes) }
     ensures end { (bytes : List ℕ) → S.left source.old ≡ Some bytes → IfOk result (λ _. S.left source.new ≡ Some (left_of (map string_bytes words.now) bytes)) }
     ensures written { IfOk result (λ answer. IsWritten answer.status (dump_text answer)) }
     ensures unread { command_of (map string_bytes words.now) ≡ None → source.new ≡ source.old }
@@ -56,11 +56,11 @@ fn imported<S: Source>(words: &[String], source: &mut S) -> Result<Imported, Fee
     ensures stands { (IsErrOf result FeedFault.ReadFault → ⊥) → S.faults source.new ≡ S.faults source.old }
 {
     if let Some(text) = own_text(words) {
-        return Ok(own_told(text));
+        return Ok(own_outcome(text));
     }
     match command_of(words) {
         Some((choice, supplied)) => read_log(choice, &supplied, source),
-        None => Ok(usage_told()),
+        None => Ok(usage_outcome()),
     }
 }
 
@@ -91,8 +91,8 @@ pub fn import<S: Source, K: Sink>(words: &[String], source: &mut S, sink: &mut K
     ensures write_fault { StatusHasCause Status.WriteFault (K.faults sink.old) (K.faults sink.new) result }
     ensures too_long { (result ≡ Status.TooLong) ↔ GaveTooMuch (S.given source.old) (S.given source.new) }
 {
-    match imported(words, source) {
-        Ok(imported) => written_in_one(sink, &imported),
+    match command_outcome(words, source) {
+        Ok(outcome) => written_in_one(sink, &outcome),
         Err(fault) => status_of(fault),
     }
 }
@@ -117,8 +117,8 @@ pub fn import_apart<S: Source, K: Sink, E: Sink>(
     ensures write_fault { HaveCause (K.faults sink.old, K.faults sink.new) (E.faults errors.old, E.faults errors.new) result }
     ensures too_long { (result ≡ Status.TooLong) ↔ GaveTooMuch (S.given source.old) (S.given source.new) }
 {
-    match imported(words, source) {
-        Ok(imported) => written_apart(sink, errors, &imported),
+    match command_outcome(words, source) {
+        Ok(outcome) => written_apart(sink, errors, &outcome),
         Err(fault) => status_of(fault),
     }
 }

@@ -1,6 +1,6 @@
 ghost use Rattle.std.specs.Prelude.{◌≡◌, ◌≤◌, ◌<◌, ◌+◌, ◌++◌, codes, decimal, length, Some, None};
 ghost use Rattle.arrayvec.specs.ArrayVec.{array_vec_len};
-ghost use Rattle.mt_import.specs.Outcome.{Told, assumption_text, contradiction_line, count_line, fault_line, format_name, hint_text, is_empty, missing_line, note_by, number_if, rival_text, unless, warning_text, width_hint, width_line, width_note};
+ghost use Rattle.mt_import.specs.Outcome.{Outcome as Texts, assumption_text, contradiction_line, count_line, fault_line, format_name, hint_text, is_empty, missing_line, note_by, number_if, rival_text, unless, warning_text, width_hint, width_line, width_note};
 ghost use Rattle.mt_import.specs.Import.{IsWritten, dump_text};
 ghost use Rattle.mt_import.specs.Reader.{IsShort};
 ghost use Rattle.mt_regs.specs.Registers.{HasThreeDigits};
@@ -17,17 +17,17 @@ use std::marker::Model;
 
 /// What a log comes to: the texts for standard output, of which comments come first, and for standard error, and the status.
 #[derive(Drop)]
-pub struct Imported {
+pub struct Outcome {
     pub notes: TextBuffer,
     pub dump: TextBuffer,
     pub reasons: TextBuffer,
     pub status: Status,
 }
 
-impl Model for Imported {
-    ghost use Rattle.mt_import.specs.Outcome.{Told};
+impl Model for Outcome {
+    ghost use Rattle.mt_import.specs.Outcome.{Outcome as Texts};
 
-    ghost Value = { Told };
+    ghost Value = { Texts };
 
     ghost view = { λ i. record { notes = i.notes.items; dump = i.dump.items; reasons = i.reasons.items; status = i.status } };
 }
@@ -107,14 +107,14 @@ fn fault_line(fault: &ImportFault) -> LineBuffer
 }
 
 /// What a fault comes to.
-pub(crate) fn faulted(fault: &ImportFault) -> Imported
+pub(crate) fn faulted(fault: &ImportFault) -> Outcome
     requires { IsShort fault.now }
-    ensures told { (told : Told) → result ≡ unless (Some fault.now) told }
+    ensures told { (texts : Texts) → result ≡ unless (Some fault.now) texts }
     ensures written { IsWritten result.status (dump_text result) }
 {
     let mut reasons = ArrayVec::new();
     append_text(&mut reasons, fault_line(fault).as_slice());
-    Imported {
+    Outcome {
         notes: ArrayVec::new(),
         dump: ArrayVec::new(),
         reasons,

@@ -4,7 +4,7 @@ ghost use Rattle.mt_ports.specs.Puts.{Puts};
 ghost use Rattle.mt_output.specs.Written.{Writes};
 ghost use Rattle.mt_import.specs.Import.{HaveCause, IsWritten, WritesApart, dump_text, one_text};
 
-use crate::text::Imported;
+use crate::text::Outcome;
 use mt_output::written;
 use mt_ports::{Failed, Sink, Status, put};
 
@@ -31,19 +31,19 @@ fn written_both<K: Sink>(sink: &mut K, first: &[u8], second: &[u8], status: Stat
 }
 
 /// Writes the dump with its comments, or else the reasons, and returns the status unless the sink fails.
-pub(crate) fn written_in_one<K: Sink>(sink: &mut K, imported: &Imported) -> Status
-    requires { IsWritten imported.now.status (dump_text imported.now) }
-    ensures bytes { Writes (one_text imported.now) imported.now.status (K.taken sink.old) (K.taken sink.new) result }
+pub(crate) fn written_in_one<K: Sink>(sink: &mut K, outcome: &Outcome) -> Status
+    requires { IsWritten outcome.now.status (dump_text outcome.now) }
+    ensures bytes { Writes (one_text outcome.now) outcome.now.status (K.taken sink.old) (K.taken sink.new) result }
     ensures cause { StatusHasCause Status.WriteFault (K.faults sink.old) (K.faults sink.new) result }
 {
-    if imported.dump.is_empty() {
-        written(sink, imported.reasons.as_slice(), imported.status)
+    if outcome.dump.is_empty() {
+        written(sink, outcome.reasons.as_slice(), outcome.status)
     } else {
         written_both(
             sink,
-            imported.notes.as_slice(),
-            imported.dump.as_slice(),
-            imported.status,
+            outcome.notes.as_slice(),
+            outcome.dump.as_slice(),
+            outcome.status,
         )
     }
 }
@@ -52,22 +52,22 @@ pub(crate) fn written_in_one<K: Sink>(sink: &mut K, imported: &Imported) -> Stat
 pub(crate) fn written_apart<K: Sink, E: Sink>(
     sink: &mut K,
     errors: &mut E,
-    imported: &Imported,
+    outcome: &Outcome,
 ) -> Status
-    requires { IsWritten imported.now.status (dump_text imported.now) }
-    ensures bytes { WritesApart imported.now
+    requires { IsWritten outcome.now.status (dump_text outcome.now) }
+    ensures bytes { WritesApart outcome.now
         (record { old = K.taken sink.old; new = K.taken sink.new }) (record { old = E.taken errors.old; new = E.taken errors.new }) result }
     ensures alone { result ≢ Status.Done → result ≢ Status.WriteFault → sink.new ≡ sink.old }
     ensures memory { result ≢ Status.NoMemory }
     ensures cause { HaveCause (K.faults sink.old, K.faults sink.new) (E.faults errors.old, E.faults errors.new) result }
 {
-    if put(errors, imported.reasons.as_slice()).is_err() {
+    if put(errors, outcome.reasons.as_slice()).is_err() {
         return Status::WriteFault;
     }
-    if imported.status != Status::Done {
-        return imported.status;
+    if outcome.status != Status::Done {
+        return outcome.status;
     }
-    match put_both(sink, imported.notes.as_slice(), imported.dump.as_slice()) {
+    match put_both(sink, outcome.notes.as_slice(), outcome.dump.as_slice()) {
         Ok(()) => Status::Done,
         Err(_) => Status::WriteFault,
     }

@@ -2,7 +2,7 @@ ghost use Rattle.std.specs.Prelude.{◌≡◌, ◌≤◌, codes};
 ghost use Rattle.mt_text.specs.Number.{decimal_number};
 ghost use Rattle.mt_import.specs.X86info.{first_read, is_listed, is_name, is_size, is_sizes, named_register, register_from, said_by_words, sizes_by_words, sizes_said, turned_to, x86info_said};
 
-use crate::Said;
+use crate::LineSays;
 use crate::pieces::{
     UNREAD_PROCESSOR, VALUE_SIZE, before, behind, is_text, prefixed_register, shows_one,
     shows_width, whole_number,
@@ -11,12 +11,12 @@ use mt_text::{Line, Words, decimal, without_ending};
 
 const PROCESSOR_LIMIT: u64 = 65_536;
 
-fn turned_to(digits: &[u8]) -> Said
+fn turned_to(digits: &[u8]) -> LineSays
     ensures { result ≡ turned_to (decimal_number digits.now 65536) }
 {
     match decimal(digits, PROCESSOR_LIMIT) {
-        Ok(number) if number > 0 => Said::Turns(number as u32 - 1),
-        _ => Said::Turns(UNREAD_PROCESSOR),
+        Ok(number) if number > 0 => LineSays::Turns(number as u32 - 1),
+        _ => LineSays::Turns(UNREAD_PROCESSOR),
     }
 }
 
@@ -39,12 +39,12 @@ fn is_name(word: &[u8]) -> bool
     behind(b"MTRR", word).is_some()
 }
 
-fn register_from(first: usize, words: &Words<'_>) -> Said
+fn register_from(first: usize, words: &Words<'_>) -> LineSays
     requires { first ≤ 4 }
     ensures { result ≡ register_from first words.now.number words.now.words }
 {
     if !is_name(words.text(first)) {
-        return Said::Nothing;
+        return LineSays::Nothing;
     }
     shows_one(
         None,
@@ -92,13 +92,13 @@ fn is_listed(words: &Words<'_>) -> bool
 }
 
 /// The width that a line on the sizes of addresses shows.
-pub(crate) fn sizes_said(line: &Line<'_>) -> Said
+pub(crate) fn sizes_said(line: &Line<'_>) -> LineSays
     ensures { result ≡ sizes_said line.now.number line.now.bytes.now }
 {
     sizes_by_words(&line.first_words())
 }
 
-fn sizes_by_words(words: &Words<'_>) -> Said
+fn sizes_by_words(words: &Words<'_>) -> LineSays
     ensures { result ≡ sizes_by_words words.now.number words.now.words }
 {
     if is_sizes(words) {
@@ -108,18 +108,18 @@ fn sizes_by_words(words: &Words<'_>) -> Said
     } else if is_listed(words) {
         shows_width(decimal(words.text(2), 255), words.place(2))
     } else {
-        Said::Nothing
+        LineSays::Nothing
     }
 }
 
-fn said_by_words(words: &Words<'_>) -> Said
+fn said_by_words(words: &Words<'_>) -> LineSays
     ensures { result ≡ said_by_words words.now.number words.now.words }
 {
     register_from(first_read(words), words)
 }
 
 /// What a line says.
-pub(crate) fn x86info_said(line: &Line<'_>) -> Said
+pub(crate) fn x86info_said(line: &Line<'_>) -> LineSays
     ensures { result ≡ x86info_said line.now.number line.now.bytes.now }
 {
     let Some(rest) = behind(b"CPU #", without_ending(line.bytes, b'\r')) else {
@@ -127,6 +127,6 @@ pub(crate) fn x86info_said(line: &Line<'_>) -> Said
     };
     match before(b":", rest) {
         Some(digits) => turned_to(digits),
-        None => Said::Turns(UNREAD_PROCESSOR),
+        None => LineSays::Turns(UNREAD_PROCESSOR),
     }
 }

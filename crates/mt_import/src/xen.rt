@@ -1,18 +1,18 @@
 ghost use Rattle.std.specs.Prelude.{◌≡◌};
 ghost use Rattle.mt_import.specs.Xen.{xen_said};
 
-use crate::Said;
+use crate::LineSays;
 use crate::kernel::kernel_said;
 use crate::line_words::{LineWords, behind_stamp};
 use crate::pieces::{is_text, word_text};
 use mt_text::Line;
 
 /// What a line says.
-pub(crate) fn xen_said(line: &Line<'_>) -> Said
+pub(crate) fn xen_said(line: &Line<'_>) -> LineSays
     ensures { result ≡ xen_said line.now.number line.now.bytes.now }
 {
     if !is_text(b"(XEN)", word_text(line, 0)) {
-        return Said::Nothing;
+        return LineSays::Nothing;
     }
     kernel_said(true, &LineWords::behind(behind_stamp(1, line), line))
 }

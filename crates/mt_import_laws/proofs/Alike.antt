@@ -5,12 +5,12 @@ use Rattle.mt_text.specs.Text.{lines_of}
 use Rattle.mt_import.specs.declared.format.Choice.{Choice}
 use Rattle.mt_import.specs.declared.format.Format.{Format}
 use Rattle.mt_import.specs.declared.reading.Context.{Context}
-use Rattle.mt_import.specs.declared.reading.Said.{Said}
+use Rattle.mt_import.specs.declared.reading.LineSays.{LineSays}
 use Rattle.mt_import.specs.Readings.{Fact, context_after, line_facts, starts}
 use Rattle.mt_import.specs.Shown.{chosen, context_behind, facts_from, facts_of_line, format_of, is_auto, said_in}
 use Rattle.mt_import.specs.Supplied.{Supplied}
-use Rattle.mt_import.specs.Outcome.{nothing_seen, outcome}
-use Rattle.mt_import.specs.Import.{log_told}
+use Rattle.mt_import.specs.Outcome.{nothing_seen, facts_outcome}
+use Rattle.mt_import.specs.Import.{log_outcome}
 use Rattle.mt_import_laws.specs.Alike.{AreAlike, AreAlikeLines, AreAlikeLogs}
 
 -- the lines lead to one format, and say the same in it
@@ -24,7 +24,7 @@ AllSaySame context number [] (y ∷ ys) = ⊥
 AllSaySame context number (x ∷ xs) [] = ⊥
 AllSaySame context number (x ∷ xs) (y ∷ ys) = SaySame context number x y × AllSaySame (context_behind context number x) (number + 1) xs ys
 
-same_line : {A : Type 0} (f : Option Format → Said → A) (context : Context) (number : ℕ) (x y : List ℕ) → SaySame context number x y
+same_line : {A : Type 0} (f : Option Format → LineSays → A) (context : Context) (number : ℕ) (x y : List ℕ) → SaySame context number x y
     → f (chosen context.format number x) (said_in (chosen context.format number x) number x) ≡ f (chosen context.format number y) (said_in (chosen context.format number y) number y)
 same_line f context number x y same = ap (λ c. f c (said_in (chosen context.format number x) number x)) same.0 ∙ ap (f (chosen context.format number y)) same.1
 
@@ -39,8 +39,8 @@ same_facts context number (x ∷ xs) (y ∷ ys) same =
     ∙ ap (λ (fs : List Fact). facts_of_line context number y ++ fs) (same_facts (context_behind context number x) (number + 1) xs ys same.1)
     ∙ ap (λ (c : Context). facts_of_line context number y ++ facts_from c (number + 1) ys) behind
 
-pub same_logs : (choice : Choice) (supplied : Supplied) (a b : List ℕ) → AllSaySame (starts (format_of choice)) 1 (lines_of a) (lines_of b) → log_told choice supplied a ≡ log_told choice supplied b
-same_logs choice supplied a b same = ap (outcome (is_auto choice) supplied (nothing_seen (format_of choice))) (same_facts (starts (format_of choice)) 1 (lines_of a) (lines_of b) same)
+pub same_logs : (choice : Choice) (supplied : Supplied) (a b : List ℕ) → AllSaySame (starts (format_of choice)) 1 (lines_of a) (lines_of b) → log_outcome choice supplied a ≡ log_outcome choice supplied b
+same_logs choice supplied a b same = ap (facts_outcome (is_auto choice) supplied (nothing_seen (format_of choice))) (same_facts (starts (format_of choice)) 1 (lines_of a) (lines_of b) same)
 
 -- ---- lines that match nothing
 
@@ -57,5 +57,5 @@ alike_lines context number [] (y ∷ ys) alike = absurd alike
 alike_lines context number (x ∷ xs) [] alike = absurd alike
 alike_lines context number (x ∷ xs) (y ∷ ys) alike = (alike_line context number x y alike.0, alike_lines (context_behind context number x) (number + 1) xs ys alike.1)
 
-pub alike_logs : (choice : Choice) (supplied : Supplied) (a b : List ℕ) → AreAlikeLogs choice a b → log_told choice supplied a ≡ log_told choice supplied b
+pub alike_logs : (choice : Choice) (supplied : Supplied) (a b : List ℕ) → AreAlikeLogs choice a b → log_outcome choice supplied a ≡ log_outcome choice supplied b
 alike_logs choice supplied a b alike = same_logs choice supplied a b (alike_lines (starts (format_of choice)) 1 (lines_of a) (lines_of b) alike)

@@ -16,7 +16,7 @@ use Rattle.mt_import.specs.Supplied.{Supplied, supplied_value}
 use Rattle.mt_import.specs.Readings.{Fact, is_fault, is_line, is_register_value, is_warning, is_width}
 use Rattle.mt_import.specs.Slot.{all_bits}
 use Rattle.mt_import.specs.Values.{assumed_of, assumed_value, assumed_width, disabled_value, or_supplied, width_by}
-use Rattle.mt_import.specs.Outcome.{Seen, Slots, dump_told, ended, file_of, files_of, first_pairs, fixed_of, hint_of, is_empty, is_missing, known_by, known_of, missing_lines, missing_of, needed, notes_of, processors, refusal, remarks, seen_after, seen_with, slot_shown, value_or_zero, values_of, version_of}
+use Rattle.mt_import.specs.Outcome.{Seen, Slots, dump_outcome, ended, file_of, files_of, first_pairs, fixed_of, hint_of, is_empty, is_missing, known_by, known_of, missing_lines, missing_of, needed, notes_of, processors, refusal, remarks, seen_after, seen_with, slot_shown, value_or_zero, values_of, version_of}
 use Rattle.mt_import.proofs.Same.{value_is}
 use Rattle.mt_import_laws.specs.Origins.{IsAmong}
 use Rattle.mt_import_laws.specs.Printed.{ReadsAs}
@@ -113,7 +113,7 @@ module _ (values : ℕ → ℕ → Option ℕ) (files : ℕ → RegisterFile) (c
 
 by_parts : (auto : Bool) (tally : Tally) (values : ℕ → ℕ → Option ℕ) (first : RegisterFile) (wanted : List RegisterFile) (missing notes : List ℕ) (number count : ℕ) (width capabilities : Option ℕ)
     → files_of values first.width first.capabilities count ≡ wanted → missing ≡ [] → number ≡ count → width ≡ Some first.width → capabilities ≡ Some first.capabilities
-    → ReadsAs (if is_empty missing then dump_told (refusal tally missing) values number notes (remarks auto tally) width capabilities else refusal tally missing) (record { version = version_of count; files = wanted })
+    → ReadsAs (if is_empty missing then dump_outcome (refusal tally missing) values number notes (remarks auto tally) width capabilities else refusal tally missing) (record { version = version_of count; files = wanted })
 by_parts auto tally values first wanted missing notes number count width capabilities is none one own_width own_capabilities =
     rw (none, one, own_width, own_capabilities) (record { status = refl; dump = ap (λ fs. canon (record { version = version_of count; files = fs })) is })
 

@@ -14,7 +14,7 @@ use Rattle.mt_import.specs.Shown.{is_auto}
 use Rattle.mt_import.specs.Slot.{clashes, slot_with}
 use Rattle.mt_import.specs.Supplied.{Supplied}
 use Rattle.mt_import.specs.Outcome.{capabilities_after, capabilities_shown, capability_rival, count_rival, counted, counts_fewer, enabled_pair, ended, last_shown}
-use Rattle.mt_import.specs.Import.{log_told}
+use Rattle.mt_import.specs.Import.{log_outcome}
 use Rattle.mt_import_laws.specs.Origins.{ContradictInCapabilities, IsAmong, readings_of, seen_of}
 use Rattle.mt_import_laws.proofs.Bits.{bit_first, bit_second, same_number, value_kept, value_new}
 use Rattle.mt_import_laws.proofs.Faults.{fault_of, faulty, fine_of}
@@ -55,7 +55,7 @@ agreed supplied (other ∷ before) reading i fine (inr later) number one =
     (agreed supplied before reading i fine.1 later number one) (other.number == 0xfe) refl
 
 pub capability_contradictions : (choice : Choice) (supplied : Supplied) (text : List ℕ) (a b : Reading) → IsAmong a (readings_of choice text) → IsAmong b (readings_of choice text) → ContradictInCapabilities a b
-    → (log_told choice supplied text).status ≡ BadText
+    → (log_outcome choice supplied text).status ≡ BadText
 capability_contradictions choice supplied text a b has_a has_b apart =
     faulty (fault_of choice supplied text) (ended (is_auto choice) supplied (seen_of choice text)) (λ none.
     let fine = fine_of choice supplied text none in

@@ -1,30 +1,37 @@
 -- What a line of coreboot's display is read as.
-use Rattle.std.proofs.Common.{◌≡◌, ◌∙◌, ◌+◌, ◌-◌, ◌*◌, ◌^◌, ◌<◌, ◌≤◌, ◌==◌, ◌&&◌, not, nat_lt, ℕ, zero, suc, Bool, true, false, List, [], ◌∷◌, ◌++◌, length, Some, None, refl, ap, arith, lit≤, length-append, codes, decimal}
+use Rattle.std.proofs.Common.{◌≡◌, ◌∙◌, ◌+◌, ◌-◌, ◌*◌, ◌^◌, ◌<◌, ◌≤◌, ◌==◌, ◌&&◌, not, nat_eq, nat_lt, ℕ, zero, suc, Bool, true, false, List, [], ◌∷◌, ◌++◌, length, take, Some, None, refl, sym, ap, arith, drop, inr, lit≤, length-append, codes, decimal}
 use Rattle.std.specs.Fmt.{digits}
+use Rattle.std.specs.Prelude.{if◌then◌else◌}
 use Rattle.std.specs.List.{list_all}
 use Rattle.std.proofs.lemmas.Bool.{and_parts}
 use Rattle.std.proofs.lemmas.Bool.Decides.{nat_tests}
 use Rattle.std.proofs.Math.Seq.{drop-append_seam, take-append_seam}
-use Rattle.hex.specs.Hex.{lower_digits}
+use Rattle.hex.specs.Hex.{is_hex_digit, lower_digits}
 use Rattle.hex.proofs.HexLemmas.{IsDigits-lower_digits}
 use Rattle.mt_kinds.specs.Bits.{is_bit_set}
-use Rattle.mt_text.specs.Text.{goes_on, is_word_byte, words_of}
-use Rattle.mt_text.specs.Words.{place_of}
+use Rattle.mt_text.specs.Text.{goes_on, is_word_byte, words_from, words_of}
+use Rattle.mt_text.specs.Words.{place_of, text_of}
 use Rattle.mt_text.specs.declared.place.Place.{Place}
 use Rattle.mt_text.proofs.Plain.{is_plain}
 use Rattle.mt_regs.specs.declared.registers.Register.TheVariants.{PhysBase, PhysMask, FixedRange, Pat, DefaultType}
 use Rattle.mt_regs.specs.RegisterFile.{RegisterFile, pair_at}
 use Rattle.mt_dump.specs.Canon.{value_text}
-use Rattle.mt_import.specs.declared.format.Format.TheVariants.{Coreboot}
+use Rattle.mt_import.specs.declared.format.Format.TheVariants.{Coreboot, Linux, Xen}
+use Rattle.mt_import.specs.declared.reading.LineSays.TheVariants.{Nothing}
 use Rattle.mt_import.specs.Coreboot.{colon_number, coreboot_said, level_words, of_pair, pair_digits, register_named, said_from}
-use Rattle.mt_import.specs.Pieces.{before, shows_one}
-use Rattle.mt_import.specs.Shown.{said_of, said_or_sizes}
+use Rattle.mt_import.specs.LineWords.{behind_facility, behind_stamp, is_iso}
+use Rattle.mt_import.specs.Linux.{linux_words_said}
+use Rattle.mt_import.specs.Pieces.{before, is_text, shows_one}
+use Rattle.mt_import.specs.Shown.{format_told, is_telling, said_of, said_or_sizes, tells}
+use Rattle.mt_import_laws.specs.FirstLine.{IsOfNoHost}
 use Rattle.mt_import_laws.specs.Printed.{Key, number_at}
 use Rattle.mt_import_laws.specs.PrintedByCoreboot.{colon_if, display_line, is_tail_byte, name_of, number_word}
 use Rattle.mt_import_laws.proofs.PrintedDigits.{sixteen_all, sixteen_long, sixteen_read}
 use Rattle.mt_import_laws.proofs.LineWords.{AreWords, IsWord, all_append, digits_are_word, length_of_pieces, pieces_plain, placed, word_append, words_of_pieces}
 use Rattle.mt_import_laws.proofs.Below.{is_value, passes, some_value}
+use Rattle.mt_import_laws.proofs.Foreign.{and_left, if_nothing, if_off, kernel_none, linux_none, log_front}
 use Rattle.mt_import_laws.proofs.Keys.{IsKey}
+use Rattle.mt_import_laws.proofs.Tells.{linux_by, xen_by}
 
 -- ---- the value
 
@@ -208,3 +215,83 @@ module _ (key : Key) (value : ℕ) (name tail : List ℕ) (named : IsNamed key n
 
   pub register_said : (leveled : Bool) (number : ℕ) → value < 2 ^ 64 → said_of Coreboot number (display_line leveled value name tail) ≡ shows_one None (Some (number_at key)) (Some value) (place leveled number)
   register_said leveled number fits = rw (short leveled) (ap (λ s. said_or_sizes s number (display_line leveled value name tail)) (said leveled number fits))
+
+-- ---- the line of 0FEH tells the format
+
+no_dash : (byte : ℕ) → is_hex_digit byte ≡ true → nat_eq byte 45 ≡ false
+no_dash byte digit = grind (arith, nat_tests)
+
+third_digit : (digits : List ℕ) → 3 ≤ length digits → list_all is_hex_digit digits ≡ true → is_text (codes "-") (take 1 (drop 2 (digits ++ codes ":"))) ≡ false
+third_digit [] long_enough all = absurd (omega (arith, long_enough))
+third_digit (a ∷ []) long_enough all = absurd (omega (arith, long_enough))
+third_digit (a ∷ b ∷ []) long_enough all = absurd (omega (arith, long_enough))
+third_digit (a ∷ b ∷ c ∷ digits) long_enough all =
+    let later = and_parts (is_hex_digit b) (list_all is_hex_digit (c ∷ digits)) (and_parts (is_hex_digit a) (list_all is_hex_digit (b ∷ c ∷ digits)) all).1 in
+    rw (no_dash c (and_parts (is_hex_digit c) (list_all is_hex_digit digits) later.1).0) refl
+
+-- a value is no date
+no_date : (value : ℕ) → is_iso (number_word value) ≡ false
+no_date value =
+    let size = long value in
+    and_left _ _ (third_digit (value_text value) (omega (arith, size)) (sixteen_all lower_digits IsDigits-lower_digits value))
+
+module _ (value : ℕ) (tail : List ℕ) (few : length tail ≤ 200) (ends : goes_on tail ≡ false) (all : list_all is_tail_byte tail ≡ true) where
+  abbrev first_name : List ℕ
+  first_name = codes "IA32_MTRRCAP:"
+
+  abbrev line : Bool → List ℕ
+  line leveled = display_line leveled value first_name tail
+
+  first_named : IsNamed None first_name
+  first_named = record { read = refl; word = (lit≤ tt, refl, refl); short = lit≤ tt }
+
+  abbrev found_words : Bool → List (ℕ × List ℕ)
+  found_words true = placed 0 ((0, codes "[DEBUG]") ∷ (2, number_word value) ∷ (1, first_name) ∷ []) tail
+  found_words false = placed 0 ((0, number_word value) ∷ (1, first_name) ∷ []) tail
+
+  found : (leveled : Bool) → words_of (line leveled) ≡ found_words leveled
+  found true = words None value first_name tail first_named few ends all true
+  found false = words None value first_name tail first_named few ends all false
+
+  not_eleven : (length (number_word value) == 11) ≡ false
+  not_eleven =
+      let one = long value in
+      let two = length-append (value_text value) (codes ":") in
+      let size : length (number_word value) ≡ 19 = omega (arith, one, two) in
+      ap (λ n. n == 11) size
+
+  -- its words from the value on, of which the first is at this byte
+  abbrev own_words : ℕ → List (ℕ × List ℕ)
+  own_words at = (at, number_word value) ∷ (at + length (number_word value) + 1, first_name) ∷ words_from (at + length (number_word value) + 1 + length first_name) tail
+
+  not_linux : (number at : ℕ) → linux_words_said number (own_words at) ≡ Nothing
+  not_linux number at =
+      let ws : List (ℕ × List ℕ) = own_words at in
+      linux_none number ws refl refl refl refl refl
+      (kernel_none number ws false (if_nothing _ _ _ refl refl) refl (inr (if_off _ _ _ (and_left _ _ not_eleven) refl)) refl)
+
+  no_linux : (leveled : Bool) (number : ℕ) → IsOfNoHost (line leveled) → tells Linux number (line leveled) ≡ false
+  no_linux leveled number host =
+      let third = ap (λ ws. is_text (codes "kernel:") (text_of ws 2)) (sym (found leveled)) ∙ host.third in
+      let fifth = ap (λ ws. is_text (codes "kernel:") (text_of ws 4)) (sym (found leveled)) ∙ host.fifth in
+      linux_by number (line leveled) (found_words leveled) (found leveled)
+      ∙ ap (λ at. is_telling (linux_words_said number (drop (behind_stamp at (found_words leveled)) (found_words leveled)))) (log_front (found_words leveled) third fifth)
+      ∙ by leveled
+    where
+      by : (leveled_too : Bool)
+          → is_telling (linux_words_said number (drop (behind_stamp (if is_iso (text_of (found_words leveled_too) 0) then 1 else behind_facility (found_words leveled_too)) (found_words leveled_too)) (found_words leveled_too))) ≡ false
+      by true = ap is_telling (not_linux number 9)
+      by false =
+          ap (λ date. is_telling (linux_words_said number (drop (behind_stamp (if date then 1 else behind_facility (found_words false)) (found_words false)) (found_words false)))) (no_date value)
+          ∙ ap is_telling (not_linux number 0)
+
+  no_xen : (leveled : Bool) (number : ℕ) → tells Xen number (line leveled) ≡ false
+  no_xen true number = xen_by number (line true) (found_words true) (found true)
+  no_xen false number = xen_by number (line false) (found_words false) (found false)
+
+  own : (leveled : Bool) (number : ℕ) → value < 2 ^ 64 → tells Coreboot number (line leveled) ≡ true
+  unfolding tells
+  own leveled number fits = ap is_telling (said None value first_name tail first_named few ends all leveled number fits)
+
+  pub told : (leveled : Bool) (number : ℕ) → value < 2 ^ 64 → IsOfNoHost (line leveled) → format_told number (line leveled) ≡ Some Coreboot
+  told leveled number fits host = rw (short None value first_name tail first_named few ends all leveled, no_xen leveled number, no_linux leveled number host, own leveled number fits) refl

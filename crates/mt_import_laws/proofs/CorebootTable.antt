@@ -10,11 +10,12 @@ use Rattle.mt_regs.specs.Registers.{IsWithin, writable}
 use Rattle.mt_regs.proofs.ByNumber.{place_in_writable}
 use Rattle.mt_import.specs.declared.format.Format.TheVariants.{Coreboot}
 use Rattle.mt_import.specs.Supplied.{Supplied}
+use Rattle.mt_import_laws.specs.FirstLine.{IsOfNoHost, LinesTellFirst}
 use Rattle.mt_import_laws.specs.Origins.{IsAmong}
 use Rattle.mt_import_laws.specs.Printed.{Key, TableReadsBack, value_in}
 use Rattle.mt_import_laws.specs.PrintedByCoreboot.{SuitsCoreboot, Tails, coreboot_lines, displayed, is_fixed, is_of_pair, line_of, name_of}
 use Rattle.mt_import_laws.proofs.Among.{all_map, among_at, among_filter, among_join, among_map, each_among, filter_among, join_among_first, join_among_second, map_among}
-use Rattle.mt_import_laws.proofs.CorebootLines.{IsNamed, is_displayed, line_plain, named, place, register_said}
+use Rattle.mt_import_laws.proofs.CorebootLines.{IsNamed, is_displayed, line_plain, named, place, register_said, told}
 use Rattle.mt_import_laws.proofs.KeyLines.{ShowsAlone, has_line, lines_true}
 use Rattle.mt_import_laws.proofs.Keys.{IsKey, all_within}
 use Rattle.mt_import_laws.proofs.PrintedBack.{HasLine, IsGiven, IsInFile, fits, key_in_file, table_back}
@@ -114,3 +115,10 @@ module _ (leveled : Bool) (tails : Tails) (file : RegisterFile) (supplied : Supp
         each = lines_true 0 file Coreboot (line_of leveled tails file) (displayed file) are_keys all_fit shows;
         all = each_key;
       }) table_plain
+
+-- The line of 0FEH is the first, and tells the format.
+pub told_first : (leveled : Bool) (tails : Tails) (file : RegisterFile) (supplied : Supplied) → SuitsCoreboot tails file supplied → IsOfNoHost (line_of leveled tails file None)
+    → LinesTellFirst Coreboot 1 (coreboot_lines leveled tails file)
+told_first leveled tails file supplied suits host =
+    let tail = suits.are_tails None in
+    inl (told file.capabilities (tails None) tail.0 tail.1 tail.2 leveled 1 (fits file None suits.is_file suits.has_words tt) host)

@@ -15,7 +15,7 @@ use Rattle.mt_import.specs.Shown.{is_auto}
 use Rattle.mt_import.specs.Slot.{clashes, slot_with}
 use Rattle.mt_import.specs.Supplied.{Supplied, supplied_value}
 use Rattle.mt_import.specs.Outcome.{capabilities_shown, capability_rival, count_rival, counted, counts_fewer, enabled_pair, ended, last_after, last_shown, unless}
-use Rattle.mt_import.specs.Import.{log_told}
+use Rattle.mt_import.specs.Import.{log_outcome}
 use Rattle.mt_import_laws.specs.Origins.{CountsPair, IsAmong, readings_of, seen_of}
 use Rattle.mt_import_laws.proofs.Faults.{fault_of, fine_of}
 use Rattle.mt_import_laws.proofs.Fine.{IsFine, tests_of_rival}
@@ -77,7 +77,7 @@ most (reading ∷ before) a among = by (most before a) (nat_lt (last_shown befor
     by earlier false less (inl same) = subst (λ (r : Reading). enabled_pair r ≤ (last_shown before).count) same (grind (arith, nat_tests, less))
     by earlier false less (inr later) = earlier later
 
-pub pairs_counted : (choice : Choice) (supplied : Supplied) (text : List ℕ) → (log_told choice supplied text).status ≡ Done → (a : Reading) → IsAmong a (readings_of choice text) → CountsPair supplied (readings_of choice text) a
+pub pairs_counted : (choice : Choice) (supplied : Supplied) (text : List ℕ) → (log_outcome choice supplied text).status ≡ Done → (a : Reading) → IsAmong a (readings_of choice text) → CountsPair supplied (readings_of choice text) a
 pairs_counted choice supplied text done a among = by (fault_of choice supplied text) refl done
   where
     by : (fault : Option ImportFault) → fault_of choice supplied text ≡ fault → (unless fault (ended (is_auto choice) supplied (seen_of choice text))).status ≡ Done → CountsPair supplied (readings_of choice text) a

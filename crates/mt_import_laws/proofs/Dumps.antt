@@ -10,8 +10,8 @@ use Rattle.mt_import.specs.Shown.{is_auto}
 use Rattle.mt_import.specs.Slot.{is_disabled, whole_value}
 use Rattle.mt_import.specs.Supplied.{Supplied, supplied_value}
 use Rattle.mt_import.specs.Values.{Known, assumed_of, assumed_value, disabled_value, firm_value, is_pair_number, mask_of, or_supplied, width_by}
-use Rattle.mt_import.specs.Outcome.{Seen, Told, dump_told, ended, file_of, is_empty, is_missing, known_by, known_of, missing_line, missing_lines, missing_of, missing_width, needed, notes_of, processors, refusal, remarks, slot_shown, unless, values_of, hint_of}
-use Rattle.mt_import.specs.Import.{log_told}
+use Rattle.mt_import.specs.Outcome.{Seen, Outcome, dump_outcome, ended, file_of, is_empty, is_missing, known_by, known_of, missing_line, missing_lines, missing_of, missing_width, needed, notes_of, processors, refusal, remarks, slot_shown, unless, values_of, hint_of}
+use Rattle.mt_import.specs.Import.{log_outcome}
 use Rattle.mt_import.proofs.Parts.{length_files}
 use Rattle.mt_import.proofs.Same.{value_is}
 use Rattle.mt_import_laws.specs.Origins.{HasOrigins, IsAmong, IsUnshown, IsUntold, Origin, by_assumption, by_disabled, by_lines, by_word, readings_of, seen_of}
@@ -116,8 +116,8 @@ module _ (supplied : Supplied) (seen : Seen) (auto : Bool) (fine : IsFine suppli
 
   -- with this width and this capability register, where nothing is missing
   dumped : (width capabilities : Option ℕ) → width_by supplied (slot_shown seen.readings) seen.width ≡ width → values 0 0xfe ≡ capabilities → missing ≡ []
-      → (dump_told (refusal seen.tally missing) values (processors seen.readings) notes (remarks auto seen.tally) width capabilities).status ≡ Done
-      → HasOrigins supplied seen (dump_told (refusal seen.tally missing) values (processors seen.readings) notes (remarks auto seen.tally) width capabilities)
+      → (dump_outcome (refusal seen.tally missing) values (processors seen.readings) notes (remarks auto seen.tally) width capabilities).status ≡ Done
+      → HasOrigins supplied seen (dump_outcome (refusal seen.tally missing) values (processors seen.readings) notes (remarks auto seen.tally) width capabilities)
   dumped (Some width) (Some capabilities) is_width is_capabilities empty done =
       let both = empty_both (missing_width (width_by supplied (slot_shown seen.readings) seen.width) _) (missing_lines (hint_of supplied (slot_shown seen.readings) (known_of seen)) values (processors seen.readings) (needed (values 0 0xfe))) empty in
       record {
@@ -142,15 +142,15 @@ module _ (supplied : Supplied) (seen : Seen) (auto : Bool) (fine : IsFine suppli
   dumped None capabilities is_width is_capabilities empty done = cc done
 
   pub ended_dump : (test : Bool) → is_empty missing ≡ test
-      → (if test then dump_told (refusal seen.tally missing) values (processors seen.readings) notes (remarks auto seen.tally) (width_by supplied (slot_shown seen.readings) seen.width) (values 0 0xfe) else refusal seen.tally missing).status ≡ Done
-      → HasOrigins supplied seen (if test then dump_told (refusal seen.tally missing) values (processors seen.readings) notes (remarks auto seen.tally) (width_by supplied (slot_shown seen.readings) seen.width) (values 0 0xfe) else refusal seen.tally missing)
+      → (if test then dump_outcome (refusal seen.tally missing) values (processors seen.readings) notes (remarks auto seen.tally) (width_by supplied (slot_shown seen.readings) seen.width) (values 0 0xfe) else refusal seen.tally missing).status ≡ Done
+      → HasOrigins supplied seen (if test then dump_outcome (refusal seen.tally missing) values (processors seen.readings) notes (remarks auto seen.tally) (width_by supplied (slot_shown seen.readings) seen.width) (values 0 0xfe) else refusal seen.tally missing)
   ended_dump true is done = dumped (width_by supplied (slot_shown seen.readings) seen.width) (values 0 0xfe) refl refl (empty_text missing is) done
   ended_dump false is done = cc done
 
-pub origins : (choice : Choice) (supplied : Supplied) (text : List ℕ) → (log_told choice supplied text).status ≡ Done → HasOrigins supplied (seen_of choice text) (log_told choice supplied text)
+pub origins : (choice : Choice) (supplied : Supplied) (text : List ℕ) → (log_outcome choice supplied text).status ≡ Done → HasOrigins supplied (seen_of choice text) (log_outcome choice supplied text)
 origins choice supplied text done = by (fault_of choice supplied text) refl done
   where
-    told : Told
+    told : Outcome
     told = ended (is_auto choice) supplied (seen_of choice text)
 
     by : (fault : Option ImportFault) → fault_of choice supplied text ≡ fault → (unless fault told).status ≡ Done → HasOrigins supplied (seen_of choice text) (unless fault told)

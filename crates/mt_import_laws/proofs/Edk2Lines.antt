@@ -11,8 +11,8 @@ use Rattle.mt_text.specs.declared.place.Place.{Place}
 use Rattle.mt_text.proofs.Plain.{is_plain}
 use Rattle.mt_regs.specs.Registers.{fixed_numbers}
 use Rattle.mt_import.specs.declared.format.Format.TheVariants.{Coreboot, Edk2, Linux, Xen}
-use Rattle.mt_import.specs.declared.reading.Said.{Said}
-use Rattle.mt_import.specs.declared.reading.Said.TheVariants.{Shows}
+use Rattle.mt_import.specs.declared.reading.LineSays.{LineSays}
+use Rattle.mt_import.specs.declared.reading.LineSays.TheVariants.{Shows}
 use Rattle.mt_import.specs.Edk2.{fixed_number, said_by_words, shows_pair}
 use Rattle.mt_import.specs.Linux.{pair_numbered}
 use Rattle.mt_import.specs.Pieces.{shown_as, shows_one, sixteen_digits as sixteen_read_of}
@@ -83,7 +83,7 @@ module _ (number : ℕ) (line : List ℕ) (first : ℕ × List ℕ) (others : Li
   plain_of : list_all is_plain line ≡ true
   plain_of = ap (list_all is_plain) is ∙ pieces_plain (first ∷ others) [] are refl
 
-  said_by : (said : Said) → said_by_words number (take 7 (placed 0 (first ∷ others) [])) ≡ said → said_or_sizes said number line ≡ said → said_of Edk2 number line ≡ said
+  said_by : (said : LineSays) → said_by_words number (take 7 (placed 0 (first ∷ others) [])) ≡ said → said_or_sizes said number line ≡ said → said_of Edk2 number line ≡ said
   said_by said by same =
       let words : words_of line ≡ placed 0 (first ∷ others) [] = ap words_of is ∙ words_of_pieces first others [] are apart refl refl in
       let long_line = ap length is ∙ length_of_pieces (first ∷ others) [] in

@@ -7,7 +7,7 @@ use Rattle.mt_regs.specs.declared.registers.Register.TheVariants.{PhysBase, Phys
 use Rattle.mt_regs.specs.RegisterFile.{RegisterFile, has_fixed, pair_at}
 use Rattle.mt_regs.specs.Registers.{fixed_registers}
 use Rattle.mt_import.specs.declared.format.Format.TheVariants.{Edk2}
-use Rattle.mt_import.specs.declared.reading.Said.TheVariants.{Shows}
+use Rattle.mt_import.specs.declared.reading.LineSays.TheVariants.{Shows}
 use Rattle.mt_import.specs.Pieces.{shown_as}
 use Rattle.mt_import.specs.Readings.{two_shown}
 use Rattle.mt_import.specs.Shown.{said_of, tells}

@@ -8,12 +8,12 @@ use Rattle.mt_import.specs.declared.fault.ImportFault.{ImportFault}
 use Rattle.mt_import.specs.declared.format.Choice.TheVariants.{Auto, Only}
 use Rattle.mt_import.specs.declared.format.Format.{Format}
 use Rattle.mt_import.specs.declared.reading.Context.{Context}
-use Rattle.mt_import.specs.declared.reading.Said.{Said}
-use Rattle.mt_import.specs.declared.reading.Said.TheVariants.{Nothing, Announces, Value, Turns, Shows, Begins, FixedRanges, VariableRanges, Width, Warns, Long}
+use Rattle.mt_import.specs.declared.reading.LineSays.{LineSays}
+use Rattle.mt_import.specs.declared.reading.LineSays.TheVariants.{Nothing, Announces, Value, Turns, Shows, Begins, FixedRanges, VariableRanges, Width, Warns, Long}
 use Rattle.mt_import.specs.declared.shape.Tally.{Tally}
-use Rattle.mt_import.specs.Import.{log_told}
+use Rattle.mt_import.specs.Import.{log_outcome}
 use Rattle.mt_import.specs.Kernel.{is_warning_line}
-use Rattle.mt_import.specs.Outcome.{Seen, Told, dump_told, ended, fact_fault, facts_fault, is_empty, known_of, missing_of, nothing_seen, notes_of, or_fault, processors, refusal, remarks, seen_after, seen_with, slot_shown, unless, values_of}
+use Rattle.mt_import.specs.Outcome.{Seen, Outcome, dump_outcome, ended, fact_fault, facts_fault, is_empty, known_of, missing_of, nothing_seen, notes_of, or_fault, processors, refusal, remarks, seen_after, seen_with, slot_shown, unless, values_of}
 use Rattle.mt_import.specs.Pieces.{shows_width}
 use Rattle.mt_import.specs.Readings.{Fact, announced_after, context_after, fixed_after, is_fault, is_line, is_match, is_register_value, is_warning, is_width, line_facts, processor_after, said_facts, starts, table_behind}
 use Rattle.mt_import.specs.Shown.{context_behind, facts_from, facts_of_line, format_told, said_in, said_of, shown}
@@ -108,7 +108,7 @@ keeps_width (Err fault) place processor = refl
 keeps_sizes : (number : ℕ) (line : List ℕ) (processor : ℕ) → processor_after (sizes_said number line) processor ≡ processor
 keeps_sizes number line processor = by (is_sizes (take 7 (words_of line))) (is_size (take 7 (words_of line))) (is_listed (take 7 (words_of line))) _ _ _ (keeps_width _ _ processor) (keeps_width _ _ processor) (keeps_width _ _ processor)
   where
-    by : (a b c : Bool) (x y z : Said) → processor_after x processor ≡ processor → processor_after y processor ≡ processor → processor_after z processor ≡ processor
+    by : (a b c : Bool) (x y z : LineSays) → processor_after x processor ≡ processor → processor_after y processor ≡ processor → processor_after z processor ≡ processor
         → processor_after (if a then x else if b then y else if c then z else Nothing) processor ≡ processor
     by true b c x y z one two three = one
     by false true c x y z one two three = two
@@ -128,7 +128,7 @@ keeps_none number line processor = by (is_too_long line) (is_warning_line line) 
 abbrev with_format : Option Format → Context → Context
 with_format format context = record { format = format; announced = context.announced; processor = context.processor; table = context.table; fixed = context.fixed }
 
-abbrev next : Context → Said → Context
+abbrev next : Context → LineSays → Context
 next context said = record {
   format = None;
   announced = announced_after said context.announced;
@@ -138,7 +138,7 @@ next context said = record {
 }
 
 -- what a line shows doesn't depend on the format
-same_facts : (said : Said) (a b : Option Format) (context : Context) → said_facts (with_format a context) said ≡ said_facts (with_format b context) said
+same_facts : (said : LineSays) (a b : Option Format) (context : Context) → said_facts (with_format a context) said ≡ said_facts (with_format b context) said
 same_facts Nothing a b context = refl
 same_facts (Announces processor number) a b context = refl
 same_facts (Value value place) a b context = refl
@@ -187,7 +187,7 @@ module _ (format : Format) (supplied : Supplied) where
       (told_line supplied number (Some format) (is_match (said_of format number line)) a b
       (said_facts (within context) (said_of format number line) ++ facts_from (context_behind (within context) number line) (number + 1) lines) same)
   main (line ∷ lines) context number a b zero same (inr untold_first) =
-      let without : Said = said_in None number line in
+      let without : LineSays = said_in None number line in
       let later : (c d : Seen) → untold c ≡ untold d → AreSame supplied c d (facts_from (apart (next context without)) (number + 1) lines) (facts_from (within (next context without)) (number + 1) lines) =
       λ c d both. main lines (next context without) (number + 1) c d (keeps_none number line context.processor ∙ zero) both untold_first.1 in
       subst (λ (fs : List Fact). AreSame supplied a b fs (facts_from (within context) number (line ∷ lines))) (sym (untold_all context number line lines untold_first.0.none))
@@ -221,13 +221,13 @@ module _ (format : Format) (supplied : Supplied) where
 -- ---- the outcome
 
 same_end : (auto other : Bool) (missing notes : List ℕ) (tally uncounted_tally : Tally) (values : ℕ → ℕ → Option ℕ) (count : ℕ) (width capabilities : Option ℕ)
-    → ComeToSame (if is_empty missing then dump_told (refusal tally missing) values count notes (remarks auto tally) width capabilities else refusal tally missing)
-    (if is_empty missing then dump_told (refusal uncounted_tally missing) values count notes (remarks other uncounted_tally) width capabilities else refusal uncounted_tally missing)
+    → ComeToSame (if is_empty missing then dump_outcome (refusal tally missing) values count notes (remarks auto tally) width capabilities else refusal tally missing)
+    (if is_empty missing then dump_outcome (refusal uncounted_tally missing) values count notes (remarks other uncounted_tally) width capabilities else refusal uncounted_tally missing)
 same_end auto other missing notes tally uncounted_tally values count width capabilities = by (is_empty missing) width capabilities
   where
     by : (test : Bool) (w c : Option ℕ)
-        → ComeToSame (if test then dump_told (refusal tally missing) values count notes (remarks auto tally) w c else refusal tally missing)
-        (if test then dump_told (refusal uncounted_tally missing) values count notes (remarks other uncounted_tally) w c else refusal uncounted_tally missing)
+        → ComeToSame (if test then dump_outcome (refusal tally missing) values count notes (remarks auto tally) w c else refusal tally missing)
+        (if test then dump_outcome (refusal uncounted_tally missing) values count notes (remarks other uncounted_tally) w c else refusal uncounted_tally missing)
     by true None c = record { notes = refl; dump = refl; status = refl }
     by true (Some w) None = record { notes = refl; dump = refl; status = refl }
     by true (Some w) (Some c) = record { notes = refl; dump = refl; status = refl }
@@ -244,19 +244,19 @@ both_ends supplied a b same =
     let two = uncounted_end false false supplied b in
     let ends : ended false supplied (uncounted a) ≡ ended false supplied (uncounted b) = ap (ended false supplied) same in
     record {
-      notes = one.notes ∙ ap (λ (t : Told). t.notes) ends ∙ sym two.notes;
-      dump = one.dump ∙ ap (λ (t : Told). t.dump) ends ∙ sym two.dump;
-      status = one.status ∙ ap (λ (t : Told). t.status) ends ∙ sym two.status;
+      notes = one.notes ∙ ap (λ (t : Outcome). t.notes) ends ∙ sym two.notes;
+      dump = one.dump ∙ ap (λ (t : Outcome). t.dump) ends ∙ sym two.dump;
+      status = one.status ∙ ap (λ (t : Outcome). t.status) ends ∙ sym two.status;
     }
 
-by_fault : (fault : Option ImportFault) (a b : Told) → ComeToSame a b → ComeToSame (unless fault a) (unless fault b)
+by_fault : (fault : Option ImportFault) (a b : Outcome) → ComeToSame a b → ComeToSame (unless fault a) (unless fault b)
 by_fault None a b same = same
 by_fault (Some fault) a b same = record { notes = refl; dump = refl; status = refl }
 
-pub auto_comes : (format : Format) (supplied : Supplied) (text : List ℕ) → TellsFirst format text → ComeToSame (log_told Auto supplied text) (log_told (Only format) supplied text)
+pub auto_comes : (format : Format) (supplied : Supplied) (text : List ℕ) → TellsFirst format text → ComeToSame (log_outcome Auto supplied text) (log_outcome (Only format) supplied text)
 auto_comes format supplied text tells =
     let same = main format supplied (lines_of text) (starts None) 1 (nothing_seen None) (nothing_seen (Some format)) refl refl tells in
-    subst (λ f. ComeToSame (log_told Auto supplied text) (unless f (ended false supplied (seen_after (nothing_seen (Some format)) (shown (Some format) text))))) same.fault
+    subst (λ f. ComeToSame (log_outcome Auto supplied text) (unless f (ended false supplied (seen_after (nothing_seen (Some format)) (shown (Some format) text))))) same.fault
     (by_fault (facts_fault supplied (nothing_seen None) (shown None text)) (ended true supplied (seen_after (nothing_seen None) (shown None text)))
     (ended false supplied (seen_after (nothing_seen (Some format)) (shown (Some format) text)))
     (both_ends supplied (seen_after (nothing_seen None) (shown None text)) (seen_after (nothing_seen (Some format)) (shown (Some format) text)) same.seen))

@@ -7,14 +7,14 @@ use Rattle.mt_import.specs.declared.fault.ImportFault.TheVariants.{Contradiction
 use Rattle.mt_import.specs.declared.fault.Rival.TheVariants.{Line}
 use Rattle.mt_import.specs.declared.format.Choice.{Choice}
 use Rattle.mt_import.specs.declared.reading.Context.{Context}
-use Rattle.mt_import.specs.declared.reading.Said.{Said}
-use Rattle.mt_import.specs.declared.reading.Said.TheVariants.{Nothing, Announces, Value, Turns, Shows, Begins, FixedRanges, VariableRanges, Width, Warns, Long}
+use Rattle.mt_import.specs.declared.reading.LineSays.{LineSays}
+use Rattle.mt_import.specs.declared.reading.LineSays.TheVariants.{Nothing, Announces, Value, Turns, Shows, Begins, FixedRanges, VariableRanges, Width, Warns, Long}
 use Rattle.mt_import.specs.declared.shape.FixedLine.{FixedLine}
 use Rattle.mt_import.specs.Readings.{fixed_after, fixed_line, fixed_shows, is_fault, is_fixed_clash, is_line, is_match, said_facts, shows_facts, starts, unlike}
 use Rattle.mt_import.specs.Shown.{chosen, context_behind, facts_from, facts_of_line, format_of, is_auto, said_in}
 use Rattle.mt_import.specs.Supplied.{Supplied}
 use Rattle.mt_import.specs.Outcome.{Seen, ended, facts_fault, nothing_seen, seen_after, seen_with}
-use Rattle.mt_import.specs.Import.{log_told}
+use Rattle.mt_import.specs.Import.{log_outcome}
 use Rattle.mt_import.proofs.Facts.{fault_append}
 use Rattle.mt_import_laws.specs.Origins.{LinesSayFixed, LogSaysFixed, SaysFixed, seen_of}
 use Rattle.mt_import_laws.proofs.Faults.{fault_of, faulty}
@@ -27,7 +27,7 @@ agree false true is = cc is
 agree false false is = refl
 
 -- a line says one of both
-never_both : (said : Said) → SaysFixed said true → SaysFixed said false → ⊥
+never_both : (said : LineSays) → SaysFixed said true → SaysFixed said false → ⊥
 never_both (FixedRanges enabled alone place) on off = let e : true ≡ false = sym on ∙ off in cc e
 never_both Nothing on off = on
 never_both (Announces processor number) on off = on
@@ -48,7 +48,7 @@ record LastSays (fixed : Option FixedLine) (on : Bool) : Type 0 where
 
 module _ (supplied : Supplied) where
   -- a line without a fault says what the last one said
-  as_last : (context : Context) (seen : Seen) (said : Said) (flag on : Bool) → facts_fault supplied seen (said_facts context said) ≡ None → LastSays context.fixed flag → SaysFixed said on → on ≡ flag
+  as_last : (context : Context) (seen : Seen) (said : LineSays) (flag on : Bool) → facts_fault supplied seen (said_facts context said) ≡ None → LastSays context.fixed flag → SaysFixed said on → on ≡ flag
   as_last context seen (FixedRanges enabled alone place) flag on none last says = sym says ∙ by (is_fixed_clash context.fixed enabled) refl none ∙ last.says
     where
       by : (test : Bool) → is_fixed_clash context.fixed enabled ≡ test
@@ -68,7 +68,7 @@ module _ (supplied : Supplied) where
   as_last context seen (Long place) flag on none last says = absurd says
 
   -- behind a line that says so, or behind another line
-  says_on : (said : Said) (table : ℕ) (before : Option FixedLine) (on : Bool) → SaysFixed said on → LastSays (fixed_after said table before) on
+  says_on : (said : LineSays) (table : ℕ) (before : Option FixedLine) (on : Bool) → SaysFixed said on → LastSays (fixed_after said table before) on
   says_on (FixedRanges enabled alone place) table before on says = record { line = record { is_enabled = enabled; table = table; line = place.line }; last = refl; says = says }
   says_on Nothing table before on says = absurd says
   says_on (Announces processor number) table before on says = absurd says
@@ -81,7 +81,7 @@ module _ (supplied : Supplied) where
   says_on Warns table before on says = absurd says
   says_on (Long place) table before on says = absurd says
 
-  still : (said : Said) (table : ℕ) (before : Option FixedLine) (flag : Bool) → ((on : Bool) → SaysFixed said on → on ≡ flag) → LastSays before flag → LastSays (fixed_after said table before) flag
+  still : (said : LineSays) (table : ℕ) (before : Option FixedLine) (flag : Bool) → ((on : Bool) → SaysFixed said on → on ≡ flag) → LastSays before flag → LastSays (fixed_after said table before) flag
   still (FixedRanges enabled alone place) table before flag same last = record { line = record { is_enabled = enabled; table = table; line = place.line }; last = refl; says = same enabled refl }
   still Nothing table before flag same last = last
   still (Announces processor number) table before flag same last = last
@@ -103,7 +103,7 @@ module _ (supplied : Supplied) where
       both_none (facts_fault supplied seen (facts_of_line context number line)) (facts_fault supplied (seen_after seen (facts_of_line context number line)) (facts_from (context_behind context number line) (number + 1) lines))
       (sym (fault_append supplied seen (facts_of_line context number line) (facts_from (context_behind context number line) (number + 1) lines)) ∙ none)
 
-  abbrev said_at : Context → ℕ → List ℕ → Said
+  abbrev said_at : Context → ℕ → List ℕ → LineSays
   said_at context number line = said_in (chosen context.format number line) number line
 
   -- each line says what the last one said
@@ -132,7 +132,7 @@ module _ (supplied : Supplied) where
   never (line ∷ lines) context number seen none (inr on) (inr off) =
       never lines (context_behind context number line) (number + 1) (seen_after seen (facts_of_line context number line)) (parts context number seen line lines none).1 on off
 
-pub fixed_lines_contradict : (choice : Choice) (supplied : Supplied) (text : List ℕ) → LogSaysFixed choice text true → LogSaysFixed choice text false → (log_told choice supplied text).status ≡ BadText
+pub fixed_lines_contradict : (choice : Choice) (supplied : Supplied) (text : List ℕ) → LogSaysFixed choice text true → LogSaysFixed choice text false → (log_outcome choice supplied text).status ≡ BadText
 fixed_lines_contradict choice supplied text on off =
     faulty (fault_of choice supplied text) (ended (is_auto choice) supplied (seen_of choice text)) (λ none.
     never supplied (lines_of text) (starts (format_of choice)) 1 (nothing_seen (format_of choice)) none on off)

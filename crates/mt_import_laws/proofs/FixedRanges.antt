@@ -14,7 +14,7 @@ use Rattle.mt_import.specs.declared.shape.Slot.{Slot}
 use Rattle.mt_import.specs.Shown.{is_auto}
 use Rattle.mt_import.specs.Supplied.{Supplied, supplied_value}
 use Rattle.mt_import.specs.Outcome.{capabilities_shown, ended, fix_shown, fixless_rival, lacks_fix, last_fixed_line, ranged_rival, shows_fixed, shows_no_fix}
-use Rattle.mt_import.specs.Import.{log_told}
+use Rattle.mt_import.specs.Import.{log_outcome}
 use Rattle.mt_import_laws.specs.Origins.{IsAmong, readings_of, seen_of}
 use Rattle.mt_import_laws.proofs.Capabilities.{agreed}
 use Rattle.mt_import_laws.proofs.Faults.{fault_of, faulty, fine_of}
@@ -117,13 +117,13 @@ word_has supplied (r ∷ before) a fine (inl same) fixed = (rivals supplied befo
 word_has supplied (r ∷ before) a fine (inr earlier) fixed = word_has supplied before a fine.1 earlier fixed
 
 pub fixed_contradictions : (choice : Choice) (supplied : Supplied) (text : List ℕ) (a b : Reading) → IsAmong a (readings_of choice text) → IsAmong b (readings_of choice text)
-    → shows_fixed a ≡ true → shows_no_fix b ≡ true → (log_told choice supplied text).status ≡ BadText
+    → shows_fixed a ≡ true → shows_no_fix b ≡ true → (log_outcome choice supplied text).status ≡ BadText
 fixed_contradictions choice supplied text a b has_a has_b fixed clear =
     faulty (fault_of choice supplied text) (ended (is_auto choice) supplied (seen_of choice text)) (λ none.
     never_both supplied (readings_of choice text) a b (fine_of choice supplied text none) has_a has_b fixed clear)
 
 pub fixed_word_contradictions : (choice : Choice) (supplied : Supplied) (text : List ℕ) (a : Reading) (word : ℕ) → IsAmong a (readings_of choice text)
-    → shows_fixed a ≡ true → supplied_value supplied 0xfe ≡ Some word → is_bit_set word 8 ≡ false → (log_told choice supplied text).status ≡ BadText
+    → shows_fixed a ≡ true → supplied_value supplied 0xfe ≡ Some word → is_bit_set word 8 ≡ false → (log_outcome choice supplied text).status ≡ BadText
 fixed_word_contradictions choice supplied text a word has fixed given clear =
     faulty (fault_of choice supplied text) (ended (is_auto choice) supplied (seen_of choice text)) (λ none.
     let lacks_it : lacks_fix (supplied_value supplied 0xfe) ≡ true = rw (given, clear) refl in

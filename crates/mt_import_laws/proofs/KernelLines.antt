@@ -12,8 +12,8 @@ use Rattle.mt_text.specs.declared.place.Place.{Place}
 use Rattle.mt_text.proofs.Plain.{is_plain}
 use Rattle.mt_import.specs.declared.format.Format.{Format}
 use Rattle.mt_import.specs.declared.format.Format.TheVariants.{Linux, Xen}
-use Rattle.mt_import.specs.declared.reading.Said.{Said}
-use Rattle.mt_import.specs.declared.reading.Said.TheVariants.{Begins, FixedRanges, Nothing, Shows, VariableRanges}
+use Rattle.mt_import.specs.declared.reading.LineSays.{LineSays}
+use Rattle.mt_import.specs.declared.reading.LineSays.TheVariants.{Begins, FixedRanges, Nothing, Shows, VariableRanges}
 use Rattle.mt_import.specs.Kernel.{addresses_said, all_fixed_shown, base_value, default_shown, disabled_said, enabled_by, fixed_said, kernel_said, mask_value, pair_said, run_said, type_named, variable_said}
 use Rattle.mt_import.specs.LineWords.{behind_log, behind_stamp, head_end, is_closed, is_closing}
 use Rattle.mt_import.specs.Linux.{is_map, linux_said, linux_words_said}
@@ -132,7 +132,7 @@ module _ (time : List ℕ) (few : length time ≤ 20) (visible : list_all is_nam
   no_map : (size : ℕ) → size ≤ 6 → (size == 16) ≡ false
   no_map size le = grind (arith, nat_tests, le)
 
-  by_tests : (x86 pat reg region map : Bool) (a b c d e f : Said) → x86 ≡ false → pat ≡ false → reg ≡ false → region ≡ false → map ≡ false
+  by_tests : (x86 pat reg region map : Bool) (a b c d e f : LineSays) → x86 ≡ false → pat ≡ false → reg ≡ false → region ≡ false → map ≡ false
       → (if x86 then a else if pat then b else if reg then c else if region then d else if map then e else f) ≡ f
   by_tests x86 pat reg region map a b c d e f one two three four five = rw (one, two, three, four, five) refl
 
@@ -208,7 +208,7 @@ module _ (format : Format) (alone : Bool) (style : Style) (kernel : IsKernel for
   abbrev there : ℕ → List ℕ → List (ℕ × List ℕ) → List (ℕ × List ℕ)
   there gap first others = placed kernel.offset ((suc gap, first) ∷ others) []
 
-  line_said : (number gap : ℕ) (first : List ℕ) (others : List (ℕ × List ℕ)) (text : List ℕ) (said : Said) → text ≡ line_with ((gap, first) ∷ others) [] → GoOn first others → AreWords ((gap, first) ∷ others)
+  line_said : (number gap : ℕ) (first : List ℕ) (others : List (ℕ × List ℕ)) (text : List ℕ) (said : LineSays) → text ≡ line_with ((gap, first) ∷ others) [] → GoOn first others → AreWords ((gap, first) ∷ others)
       → are_apart others ≡ true → size_of ((gap, first) ∷ others) ≤ 1000 → kernel_said alone number (there gap first others) ≡ said → ((line : List ℕ) → said_or_sizes said number line ≡ said)
       → said_of format number (style.front ++ text) ≡ said
   line_said number gap first others text said is go are apart size by same =

@@ -14,7 +14,7 @@ use Rattle.mt_text.specs.Text.{lines_of}
 use Rattle.mt_import.specs.declared.format.Format.{Format}
 use Rattle.mt_import.specs.declared.format.Format.TheVariants.{Linux, Xen}
 use Rattle.mt_import.specs.declared.reading.Context.{Context}
-use Rattle.mt_import.specs.declared.reading.Said.TheVariants.{VariableRanges}
+use Rattle.mt_import.specs.declared.reading.LineSays.TheVariants.{VariableRanges}
 use Rattle.mt_import.specs.declared.shape.FixedLine.{FixedLine}
 use Rattle.mt_import.specs.declared.shape.Reading.{Reading}
 use Rattle.mt_import.specs.declared.shape.Shown.{Shown}
@@ -25,7 +25,7 @@ use Rattle.mt_import.specs.Shown.{context_behind, facts_from, facts_of_line, sai
 use Rattle.mt_import.specs.Slot.{all_bits, is_disabled}
 use Rattle.mt_import.specs.Supplied.{Supplied, supplied_value}
 use Rattle.mt_import.specs.Values.{is_pair_number, mask_of}
-use Rattle.mt_import.specs.Outcome.{Seen, nothing_seen, outcome, seen_after, slot_shown}
+use Rattle.mt_import.specs.Outcome.{Seen, nothing_seen, facts_outcome, seen_after, slot_shown}
 use Rattle.mt_import.proofs.Facts.{seen_append}
 use Rattle.mt_import_laws.specs.Origins.{IsAmong, context_after_lines}
 use Rattle.mt_import_laws.specs.FirstLine.{LinesTellFirst}
@@ -689,9 +689,9 @@ module _ (format : Format) (alone : Bool) (style : Style) (kernel : IsKernel for
     each_back (Some Pat) within = by_word (Some Pat) tt suits.pat
     each_back (Some DefaultType) within = default_back (has_fixed file && tells) refl
 
-    pub log_back : ReadsBack (outcome false supplied (nothing_seen (Some format)) (facts_from (starts (Some format)) 1 log)) file
+    pub log_back : ReadsBack (facts_outcome false supplied (nothing_seen (Some format)) (facts_from (starts (Some format)) 1 log)) file
     log_back =
-        subst (λ fs. ReadsBack (outcome false supplied (nothing_seen (Some format)) fs) file) (sym (ap (facts_from (starts (Some format)) 1) found.log_is ∙ facts_split found.front (starts (Some format)) 1 table_log))
+        subst (λ fs. ReadsBack (facts_outcome false supplied (nothing_seen (Some format)) fs) file) (sym (ap (facts_from (starts (Some format)) 1) found.log_is ∙ facts_split found.front (starts (Some format)) 1 table_log))
         (one_back file prints format supplied suits.is_file suits.has_words facts all_sound suits.agrees (inl suits.width) each_back)
 
   first_told : LinesTellFirst format 1 all_lines
@@ -702,7 +702,7 @@ module _ (format : Format) (alone : Bool) (style : Style) (kernel : IsKernel for
     alone =
         let same : shown (Some format) (ended all_lines) ≡ facts_from (starts (Some format)) 1 all_lines = ap (facts_from (starts (Some format)) 1) (lines_back all_lines table_plain) in
         text_as format supplied (dump_of file) all_lines table_plain first_told
-        (subst (λ fs. ReadsBack (outcome false supplied (nothing_seen (Some format)) fs) file) (sym same) (log_back all_lines (split format file (default_line style file) (rest (has_fixed file)) all_lines (weaves_itself format file all_lines))));
+        (subst (λ fs. ReadsBack (facts_outcome false supplied (nothing_seen (Some format)) fs) file) (sym same) (log_back all_lines (split format file (default_line style file) (rest (has_fixed file)) all_lines (weaves_itself format file all_lines))));
     among = λ text weaves. log_back (lines_of text) (split format file (default_line style file) (rest (has_fixed file)) (lines_of text) weaves);
   }
 

@@ -6,8 +6,8 @@ use Rattle.mt_regs.specs.declared.registers.Register.TheVariants.{PhysBase, Phys
 use Rattle.mt_regs.specs.RegisterFile.{IsRegisterFile, RegisterFile, pair_at}
 use Rattle.mt_import.specs.declared.format.Format.{Format}
 use Rattle.mt_import.specs.declared.reading.Context.{Context}
-use Rattle.mt_import.specs.declared.reading.Said.{Said}
-use Rattle.mt_import.specs.declared.reading.Said.TheVariants.{Nothing, Shows, Turns, Warns, Width}
+use Rattle.mt_import.specs.declared.reading.LineSays.{LineSays}
+use Rattle.mt_import.specs.declared.reading.LineSays.TheVariants.{Nothing, Shows, Turns, Warns, Width}
 use Rattle.mt_import.specs.declared.shape.FixedLine.{FixedLine}
 use Rattle.mt_import.specs.declared.shape.Shown.{Shown}
 use Rattle.mt_import.specs.Readings.{Fact, fixed_after, is_line, is_match, is_register, is_register_value, processor_after, said_facts, shown_facts, shows_facts, table_behind}
@@ -107,7 +107,7 @@ module _ (file : RegisterFile) where
   same_printed format kernel shown (Some Pat) same at = refl
   same_printed format kernel shown (Some DefaultType) same at = refl
 
-  no_more_table : (format : Format) (context : Context) (said : Said) → context.table ≡ 1 → SaysNoMore format file said → AllByRecursion (IsOfTable 1) (said_facts context said)
+  no_more_table : (format : Format) (context : Context) (said : LineSays) → context.table ≡ 1 → SaysNoMore format file said → AllByRecursion (IsOfTable 1) (said_facts context said)
   no_more_table format context said one (no_match is) = rw is tt
   no_more_table format context said one (only_width place is) = rw is (tt, tt)
   no_more_table format context said one (only_warns is) = rw is (tt, tt)
@@ -116,7 +116,7 @@ module _ (file : RegisterFile) where
       rw is (subst (λ t. AllByRecursion (IsOfTable 1) (shows_facts (unwrap_or processor context.processor) t shows)) (sym one) (table_of (unwrap_or processor context.processor) 1 shows))
 
   module _ (format : Format) (table : ℕ) (fixed : Option FixedLine → Type 0) where
-    pub keeps : (context : Context) (number : ℕ) (line : List ℕ) (said : Said) → said_of format number line ≡ said → processor_after said context.processor ≡ context.processor → table_behind said context.table ≡ context.table
+    pub keeps : (context : Context) (number : ℕ) (line : List ℕ) (said : LineSays) → said_of format number line ≡ said → processor_after said context.processor ≡ context.processor → table_behind said context.table ≡ context.table
         → fixed_after said context.table context.fixed ≡ context.fixed → IsWithin format table fixed context → IsWithin format table fixed (context_behind context number line)
     keeps context number line said said_is one two three is = record {
       format_is = rw is.format_is refl;

@@ -5,7 +5,7 @@ use Rattle.mt_regs.specs.RegisterFile.{IsRegisterFile, RegisterFile}
 use Rattle.mt_regs.specs.Registers.{IsWithin, writable}
 use Rattle.mt_regs.proofs.ByNumber.{place_in_writable}
 use Rattle.mt_import.specs.declared.format.Format.{Format}
-use Rattle.mt_import.specs.declared.reading.Said.TheVariants.{Shows}
+use Rattle.mt_import.specs.declared.reading.LineSays.TheVariants.{Shows}
 use Rattle.mt_import.specs.Shown.{said_of}
 use Rattle.mt_import.specs.Slot.{all_bits}
 use Rattle.mt_import_laws.specs.Origins.{IsAmong}

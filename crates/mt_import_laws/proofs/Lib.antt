@@ -19,12 +19,16 @@ mod FirstLine
 mod Reasons
 mod PrintedDigits
 mod LineWords
+mod Foreign
 mod Below
 mod Decimals
 mod PartBits
 mod Keys
 mod Whole
 mod TableLines
+mod Moved
+mod MovedFacts
+mod Spare
 mod Back
 mod PrintedBack
 mod AutoReads

@@ -8,8 +8,8 @@ use Rattle.mt_import.specs.declared.fault.ImportFault.TheVariants.{Contradiction
 use Rattle.mt_import.specs.declared.fault.Rival.TheVariants.{Line}
 use Rattle.mt_import.specs.declared.format.Choice.{Choice}
 use Rattle.mt_import.specs.declared.reading.Context.{Context}
-use Rattle.mt_import.specs.declared.reading.Said.{Said}
-use Rattle.mt_import.specs.declared.reading.Said.TheVariants.{Nothing, Announces, Value, Turns, Shows, Begins, FixedRanges, VariableRanges, Width, Warns, Long}
+use Rattle.mt_import.specs.declared.reading.LineSays.{LineSays}
+use Rattle.mt_import.specs.declared.reading.LineSays.TheVariants.{Nothing, Announces, Value, Turns, Shows, Begins, FixedRanges, VariableRanges, Width, Warns, Long}
 use Rattle.mt_import.specs.declared.shape.Announced.{Announced}
 use Rattle.mt_import.specs.declared.shape.Reading.{Reading}
 use Rattle.mt_import.specs.declared.shape.Shown.{Shown}
@@ -67,7 +67,7 @@ fact_of_line choice text fact among =
 -- ---- the table of a reading
 
 -- behind a line there is one table more, where the line is a heading
-heading_by : (said : Said) (tables : ℕ) → table_behind said tables ≡ (if is_heading said then one_more tables else tables)
+heading_by : (said : LineSays) (tables : ℕ) → table_behind said tables ≡ (if is_heading said then one_more tables else tables)
 heading_by Nothing tables = refl
 heading_by (Announces processor number) tables = refl
 heading_by (Value value place) tables = refl
@@ -128,7 +128,7 @@ of_fixed context enabled alone place = by (is_fixed_clash context.fixed enabled)
     by true reading (inr none) = absurd none
     by false reading among = of_shows 0 context.table (fixed_shows enabled alone place) reading among
 
-of_said : (context : Context) (said : Said) → AreOf (table_behind said context.table) (said_facts context said)
+of_said : (context : Context) (said : LineSays) → AreOf (table_behind said context.table) (said_facts context said)
 of_said context Nothing reading among = absurd among
 of_said context (Announces processor number) reading among = absurd among
 of_said context (Value value place) reading among = of_value context.announced context.table value place reading among

@@ -9,7 +9,7 @@ use Rattle.mt_import.specs.declared.shape.Slot.{Slot}
 use Rattle.mt_import.specs.declared.supplied.Assumed.{Assumed}
 use Rattle.mt_import.specs.Supplied.{Supplied}
 use Rattle.mt_import.specs.Values.{Known, assumed_of, assumed_pat, assumed_value, assumed_zero, firm_value, firm_width, is_pair_number, is_unshown, has_pairs, only_if, or_supplied, width_by}
-use Rattle.mt_import.specs.Outcome.{Seen, Told, firm_of, is_noted, is_value, known_by, known_of, needed, note_by, note_line, note_lines, noted, noted_of, number_if, processors, slot_shown, values_of, width_note}
+use Rattle.mt_import.specs.Outcome.{Seen, Outcome, firm_of, is_noted, is_value, known_by, known_of, needed, note_by, note_line, note_lines, noted, noted_of, number_if, processors, slot_shown, values_of, width_note}
 use Rattle.mt_import.proofs.Parts.{noted_at}
 use Rattle.mt_import.proofs.Same.{value_is}
 use Rattle.mt_import_laws.specs.Notes.{AreNoted, AreTrueNotes, IsAssumedAlone, IsNoted, IsTrueNote, numbers_text, on_register, on_width}
@@ -310,7 +310,7 @@ module _ (supplied : Supplied) (seen : Seen) where
     width_true None None is_firm is = no_notes
     width_true None (Some width) is_firm is = one_note (width_note None (Some width)) (on_width width (record { unfirm = is_firm; width_is = is }) refl)
 
-each_noted : (supplied : Supplied) (seen : Seen) (told : Told) (origins : HasOrigins supplied seen told) (k number value : ℕ) → k < processors seen.readings → IsAmong number (needed (Some origins.capabilities))
+each_noted : (supplied : Supplied) (seen : Seen) (told : Outcome) (origins : HasOrigins supplied seen told) (k number value : ℕ) → k < processors seen.readings → IsAmong number (needed (Some origins.capabilities))
     → IsAssumedAlone supplied seen k number value → IsNoted told.notes k number value
 each_noted supplied seen told origins k number value less among assumed =
     let count = processors seen.readings in
@@ -337,7 +337,7 @@ each_noted supplied seen told origins k number value less among assumed =
 abbrev register_notes : Supplied → Seen → List ℕ
 register_notes supplied seen = note_lines (firm supplied seen) (values supplied seen) (processors seen.readings) (needed (values supplied seen 0 0xfe))
 
-pub assumed_noted : (supplied : Supplied) (seen : Seen) (told : Told) (origins : HasOrigins supplied seen told) → AreNoted supplied seen origins.capabilities told.notes
+pub assumed_noted : (supplied : Supplied) (seen : Seen) (told : Outcome) (origins : HasOrigins supplied seen told) → AreNoted supplied seen origins.capabilities told.notes
 assumed_noted supplied seen told origins = record {
   each = each_noted supplied seen told origins;
   width = λ width assumed. record {

@@ -5,14 +5,14 @@ use Rattle.mt_regs.specs.RegisterFile.{pair_at}
 use Rattle.mt_text.specs.declared.place.Place.{Place}
 use Rattle.mt_import.specs.Slot.{all_bits}
 use Rattle.mt_import.specs.declared.format.Format.TheVariants.{Inteltool, Linux}
-use Rattle.mt_import.specs.declared.reading.Said.{Said}
-use Rattle.mt_import.specs.declared.reading.Said.TheVariants.{Nothing, Announces, Value, Turns, Shows, Begins, FixedRanges, VariableRanges, Width, Warns, Long}
+use Rattle.mt_import.specs.declared.reading.LineSays.{LineSays}
+use Rattle.mt_import.specs.declared.reading.LineSays.TheVariants.{Nothing, Announces, Value, Turns, Shows, Begins, FixedRanges, VariableRanges, Width, Warns, Long}
 use Rattle.mt_import.specs.Shown.{said_of}
 use Rattle.mt_import_laws.specs.Printed.{IsSame, SaysNoMore, no_match, only_shows, only_turns, only_warns, only_width}
 use Rattle.mt_import_laws.specs.WorkedPrinted.{ordinary_pc}
 
 -- the width of what shows one
-width_in : Said → ℕ
+width_in : LineSays → ℕ
 width_in (Width width place) = width
 width_in Nothing = 0
 width_in (Announces processor number) = 0

@@ -13,13 +13,13 @@ use Rattle.mt_regs.specs.Words.{HasWords}
 use Rattle.mt_dump.specs.Canon.{ended}
 use Rattle.mt_import.specs.declared.format.Choice.TheVariants.{Only}
 use Rattle.mt_import.specs.declared.format.Format.{Format}
-use Rattle.mt_import.specs.declared.reading.Said.TheVariants.{Width}
+use Rattle.mt_import.specs.declared.reading.LineSays.TheVariants.{Width}
 use Rattle.mt_import.specs.Readings.{Fact, starts}
 use Rattle.mt_import.specs.Shown.{said_of, shown}
 use Rattle.mt_import.specs.Slot.{all_bits}
 use Rattle.mt_import.specs.Supplied.{Supplied, supplied_value}
-use Rattle.mt_import.specs.Outcome.{Seen, known_of, nothing_seen, outcome, processors, seen_after, slot_shown, values_of}
-use Rattle.mt_import.specs.Import.{log_told}
+use Rattle.mt_import.specs.Outcome.{Seen, known_of, nothing_seen, facts_outcome, processors, seen_after, slot_shown, values_of}
+use Rattle.mt_import.specs.Import.{log_outcome}
 use Rattle.mt_import_laws.specs.Origins.{IsAmong}
 use Rattle.mt_import_laws.specs.Printed.{Agrees, HoldsTable, Key, ReadsAs, ReadsBack, TableReadsBack, number_at, value_in}
 use Rattle.mt_import_laws.proofs.Keys.{IsKey, within_whole}
@@ -115,7 +115,7 @@ module _ (files : ℕ → RegisterFile) (count : ℕ) (prints : Prints) (format 
   fact_back k less key within by = by_fact k less key within by
 
   pub values_back : ((k : ℕ) → k < count → Agrees supplied (files k)) → HasWidth (files 0) supplied facts → processors (gathered format facts).readings ≡ count
-      → ((k : ℕ) → k < count → (key : Key) → IsInFile (files k) key → IsBack files format supplied facts k key) → ReadsAs (outcome false supplied (nothing_seen (Some format)) facts) (dump_from files count)
+      → ((k : ℕ) → k < count → (key : Key) → IsInFile (files k) key → IsBack files format supplied facts k key) → ReadsAs (facts_outcome false supplied (nothing_seen (Some format)) facts) (dump_from files count)
   unfolding seen
   values_back agrees width number all =
       let none = no_fault files count prints alike supplied agrees facts (nothing_seen (Some format)) (record { readings = tt; width = tt }) sound in
@@ -143,7 +143,7 @@ module _ (file : RegisterFile) (prints : Prints) (format : Format) (supplied : S
   one_by_fact key within (inl has) = fact_back (same_file file) 1 prints format supplied (alone file is) (λ k less. words) facts sound 0 (lit< tt) key within (inl (of_processor key has))
   one_by_fact key within (inr given) = fact_back (same_file file) 1 prints format supplied (alone file is) (λ k less. words) facts sound 0 (lit< tt) key within (inr given)
 
-  pub one_back : Agrees supplied file → HasWidth file supplied facts → ((key : Key) → IsInFile file key → OneBack key) → ReadsBack (outcome false supplied (nothing_seen (Some format)) facts) file
+  pub one_back : Agrees supplied file → HasWidth file supplied facts → ((key : Key) → IsInFile file key → OneBack key) → ReadsBack (facts_outcome false supplied (nothing_seen (Some format)) facts) file
   one_back agrees width all =
       values_back (same_file file) 1 prints format supplied (alone file is) (λ k less. words) facts sound (λ k less. agrees) width (one_processor file prints (gathered format facts).readings is only)
       (λ k less key within. subst (λ j. IsBack (same_file file) format supplied facts j key) (zero_of k less) (all key within))
@@ -152,7 +152,7 @@ module _ (file : RegisterFile) (prints : Prints) (format : Format) (supplied : S
       zero_of k less = omega (arith, less)
 
 pub facts_back : (file : RegisterFile) (prints : Prints) (format : Format) (supplied : Supplied) → IsRegisterFile file → HasWords file → Agrees supplied file → (facts : List Fact) → HasWidth file supplied facts
-    → AllByRecursion (IsSound (same_file file) 1 prints) facts → ((key : Key) → IsInFile file key → HasReading key all_bits facts ⊎ IsGiven supplied file key) → ReadsBack (outcome false supplied (nothing_seen (Some format)) facts) file
+    → AllByRecursion (IsSound (same_file file) 1 prints) facts → ((key : Key) → IsInFile file key → HasReading key all_bits facts ⊎ IsGiven supplied file key) → ReadsBack (facts_outcome false supplied (nothing_seen (Some format)) facts) file
 facts_back file prints format supplied is words agrees facts width sound all =
     one_back file prints format supplied is words facts sound agrees width (λ key within. one_by_fact file prints format supplied is words facts sound key within (all key within))
 
@@ -179,7 +179,7 @@ module _ (file : RegisterFile) (format : Format) (table : List (List ℕ)) (supp
     | inr given ↦ inr given
   ]
 
-  reads_back : ReadsBack (log_told (Only format) supplied text) file
+  reads_back : ReadsBack (log_outcome (Only format) supplied text) file
   reads_back =
       facts_back file any_bits format supplied is words agrees (shown (Some format) text) width_shown
       (lines_true (same_file file) 1 any_bits 0 (lit< tt) refl format (lines_of text) (starts (Some format)) 1 refl refl all_true) all_shown

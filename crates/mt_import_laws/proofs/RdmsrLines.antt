@@ -9,7 +9,7 @@ use Rattle.mt_text.specs.Words.{place_of}
 use Rattle.mt_text.specs.declared.place.Place.{Place}
 use Rattle.mt_text.proofs.Plain.{digits_plain, is_plain}
 use Rattle.mt_import.specs.declared.format.Format.TheVariants.{Rdmsr}
-use Rattle.mt_import.specs.declared.reading.Said.TheVariants.{Announces, Value}
+use Rattle.mt_import.specs.declared.reading.LineSays.TheVariants.{Announces, Value}
 use Rattle.mt_import.specs.Rdmsr.{announced, is_traced, rdmsr_said, register_named, said_by_words, said_value}
 use Rattle.mt_import.specs.Shown.{said_of, said_or_sizes}
 use Rattle.mt_import_laws.specs.PrintedByRdmsr.{all_line, call_line, hex_text}

@@ -8,20 +8,20 @@ use Rattle.mt_import.specs.declared.shape.Tally.{Tally}
 use Rattle.mt_import.specs.Shown.{is_auto}
 use Rattle.mt_import.specs.Supplied.{Supplied}
 use Rattle.mt_import.specs.Values.{width_by}
-use Rattle.mt_import.specs.Outcome.{Seen, Told, dump_told, ended, is_empty, known_of, missing_of, notes_of, processors, refusal, remarks, slot_shown, unless, values_of}
-use Rattle.mt_import.specs.Import.{told_by}
+use Rattle.mt_import.specs.Outcome.{Seen, Outcome, dump_outcome, ended, is_empty, known_of, missing_of, notes_of, processors, refusal, remarks, slot_shown, unless, values_of}
+use Rattle.mt_import.specs.Import.{outcome_by}
 use Rattle.mt_import_laws.specs.Origins.{seen_of}
 use Rattle.mt_import_laws.proofs.Faults.{fault_of}
 
-abbrev IsAlone : Told → Type 0
+abbrev IsAlone : Outcome → Type 0
 IsAlone told = told.status ≢ Done → told.notes ++ told.dump ≡ []
 
-dump_alone : (refused : Told) (values : ℕ → ℕ → Option ℕ) (count : ℕ) (notes reasons : List ℕ) (width capabilities : Option ℕ) → IsAlone refused → IsAlone (dump_told refused values count notes reasons width capabilities)
+dump_alone : (refused : Outcome) (values : ℕ → ℕ → Option ℕ) (count : ℕ) (notes reasons : List ℕ) (width capabilities : Option ℕ) → IsAlone refused → IsAlone (dump_outcome refused values count notes reasons width capabilities)
 dump_alone refused values count notes reasons (Some width) (Some capabilities) alone not_done = absurd (not_done refl)
 dump_alone refused values count notes reasons (Some width) None alone not_done = alone not_done
 dump_alone refused values count notes reasons None capabilities alone not_done = alone not_done
 
-if_alone : (test : Bool) (told refused : Told) → IsAlone told → IsAlone refused → IsAlone (if test then told else refused)
+if_alone : (test : Bool) (told refused : Outcome) → IsAlone told → IsAlone refused → IsAlone (if test then told else refused)
 if_alone true told refused alone other = alone
 if_alone false told refused alone other = other
 
@@ -37,14 +37,14 @@ ended_alone auto supplied seen =
     let values = values_of supplied slots known in
     let notes = notes_of supplied slots count known in
     let width = width_by supplied slots known.width in
-    if_alone (is_empty missing) (dump_told (refusal seen.tally missing) values count notes (remarks auto seen.tally) width (values 0 0xfe)) (refusal seen.tally missing)
+    if_alone (is_empty missing) (dump_outcome (refusal seen.tally missing) values count notes (remarks auto seen.tally) width (values 0 0xfe)) (refusal seen.tally missing)
     (dump_alone (refusal seen.tally missing) values count notes (remarks auto seen.tally) width (values 0 0xfe) (refusal_alone seen.tally missing)) (refusal_alone seen.tally missing)
 
-unless_alone : (fault : Option ImportFault) (told : Told) → IsAlone told → IsAlone (unless fault told)
+unless_alone : (fault : Option ImportFault) (told : Outcome) → IsAlone told → IsAlone (unless fault told)
 unless_alone (Some fault) told alone not_done = refl
 unless_alone None told alone not_done = alone not_done
 
-pub reasons_alone : (own : Option (List ℕ)) (command : Option (Choice × Supplied)) (bytes : List ℕ) → IsAlone (told_by own command bytes)
+pub reasons_alone : (own : Option (List ℕ)) (command : Option (Choice × Supplied)) (bytes : List ℕ) → IsAlone (outcome_by own command bytes)
 reasons_alone (Some text) command bytes not_done = absurd (not_done refl)
 reasons_alone None None bytes not_done = refl
 reasons_alone None (Some command) bytes not_done =

@@ -8,8 +8,8 @@ use Rattle.mt_import.specs.declared.format.Choice.{Choice}
 use Rattle.mt_import.specs.declared.format.Format.{Format}
 use Rattle.mt_import.specs.declared.format.Format.TheVariants.{Rdmsr, X86info, Inteltool, Coreboot, Edk2, Linux, Xen}
 use Rattle.mt_import.specs.declared.reading.Context.{Context}
-use Rattle.mt_import.specs.declared.reading.Said.{Said}
-use Rattle.mt_import.specs.declared.reading.Said.TheVariants.{Nothing, Announces, Value, Turns, Shows, Begins, FixedRanges, VariableRanges, Width, Warns, Long}
+use Rattle.mt_import.specs.declared.reading.LineSays.{LineSays}
+use Rattle.mt_import.specs.declared.reading.LineSays.TheVariants.{Nothing, Announces, Value, Turns, Shows, Begins, FixedRanges, VariableRanges, Width, Warns, Long}
 use Rattle.mt_import.specs.Coreboot.{level_words, said_from as coreboot_from}
 use Rattle.mt_import.specs.Edk2.{said_by_words as edk2_words}
 use Rattle.mt_import.specs.Inteltool.{said_by_words as inteltool_words}
@@ -22,7 +22,7 @@ use Rattle.mt_import.specs.X86info.{said_by, said_by_words as x86info_words, siz
 use Rattle.mt_import.specs.Readings.{starts}
 use Rattle.mt_import.specs.Shown.{chosen, context_behind, format_of, is_telling, said_by_line, said_in, said_in_each, said_of, said_or_sizes, tells}
 use Rattle.mt_import.specs.Supplied.{Supplied}
-use Rattle.mt_import.specs.Import.{log_told}
+use Rattle.mt_import.specs.Import.{log_outcome}
 use Rattle.mt_import_laws.specs.Returns.{DifferInReturns, GetReturns, GetsReturn}
 use Rattle.mt_import_laws.proofs.Alike.{AllSaySame, SaySame, same_logs}
 
@@ -68,7 +68,7 @@ module _ (line : List ℕ) (without : without_return line ≡ line) (apart : len
   same_in_each : (number : ℕ) → said_in_each number longer ≡ said_in_each number line
   same_in_each number = ap (λ ws. if is_warning_text (drop (kernel_end ws) ws) then Warns else sizes_by_words number (take 7 ws)) same_words
 
-  or_sizes : (number : ℕ) (said : Said) → said_or_sizes said number longer ≡ said_or_sizes said number line
+  or_sizes : (number : ℕ) (said : LineSays) → said_or_sizes said number longer ≡ said_or_sizes said number line
   or_sizes number Nothing = same_in_each number
   or_sizes number (Announces processor register) = refl
   or_sizes number (Value value place) = refl
@@ -82,7 +82,7 @@ module _ (line : List ℕ) (without : without_return line ≡ line) (apart : len
   or_sizes number (Long place) = refl
 
   -- behind the limit of a line's length
-  unless_long : (number : ℕ) (said before : Said) → said ≡ before → (if is_too_long longer then Long (past_limit number) else said) ≡ (if is_too_long line then Long (past_limit number) else before)
+  unless_long : (number : ℕ) (said before : LineSays) → said ≡ before → (if is_too_long longer then Long (past_limit number) else said) ≡ (if is_too_long line then Long (past_limit number) else before)
   unless_long number said before same =
       ap (λ long. if long then Long (past_limit number) else said) same_limit ∙ ap (λ s. if is_too_long line then Long (past_limit number) else s) same
 
@@ -119,5 +119,5 @@ all_lines context number [] (y ∷ ys) get = absurd get
 all_lines context number (x ∷ xs) [] get = absurd get
 all_lines context number (x ∷ xs) (y ∷ ys) get = (each_line context number x y get.0, all_lines (context_behind context number x) (number + 1) xs ys get.1)
 
-pub returns_logs : (choice : Choice) (supplied : Supplied) (a b : List ℕ) → DifferInReturns a b → log_told choice supplied a ≡ log_told choice supplied b
+pub returns_logs : (choice : Choice) (supplied : Supplied) (a b : List ℕ) → DifferInReturns a b → log_outcome choice supplied a ≡ log_outcome choice supplied b
 returns_logs choice supplied a b differ = same_logs choice supplied a b (all_lines (starts (format_of choice)) 1 (lines_of a) (lines_of b) differ)

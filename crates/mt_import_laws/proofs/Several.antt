@@ -14,8 +14,8 @@ use Rattle.mt_import.specs.Readings.{Fact, starts}
 use Rattle.mt_import.specs.Shown.{facts_from}
 use Rattle.mt_import.specs.Slot.{all_bits}
 use Rattle.mt_import.specs.Supplied.{Supplied}
-use Rattle.mt_import.specs.Outcome.{nothing_seen, outcome, processors, version_of}
-use Rattle.mt_import.specs.Import.{log_told}
+use Rattle.mt_import.specs.Outcome.{nothing_seen, facts_outcome, processors, version_of}
+use Rattle.mt_import.specs.Import.{log_outcome}
 use Rattle.mt_import_laws.specs.Printed.{Agrees, Key, ReadsAs, dump_of_all}
 use Rattle.mt_import_laws.proofs.Back.{HasWidth, first_files}
 use Rattle.mt_import_laws.proofs.Keys.{within_alike}
@@ -91,9 +91,9 @@ module _ (format : Format) (prints : Prints) (supplied : Supplied) (files : List
 
   facts_as : HasWidth (first_of files) supplied facts → ((k : ℕ) → k < length files → HasOwn k None all_bits facts)
       → ((k : ℕ) → k < length files → (key : Key) → IsInFile (file_at files k) key → HasOwn k key all_bits facts ⊎ IsGiven supplied (file_at files k) key)
-      → ReadsAs (outcome false supplied (nothing_seen (Some format)) facts) (dump_of_all files)
+      → ReadsAs (facts_outcome false supplied (nothing_seen (Some format)) facts) (dump_of_all files)
   facts_as width first all =
-      subst (λ fs. ReadsAs (outcome false supplied (nothing_seen (Some format)) facts) (record { version = version_of (length files); files = fs })) (all_files files)
+      subst (λ fs. ReadsAs (facts_outcome false supplied (nothing_seen (Some format)) facts) (record { version = version_of (length files); files = fs })) (all_files files)
       (values_back (file_at files) (length files) prints format supplied (are_alike files is) each_word facts sound (λ k less. each_at (Agrees supplied) files k less agrees)
       (subst (λ file. HasWidth file supplied facts) (sym (first_at files)) width) (counted first)
       (λ k less key within. fact_back (file_at files) (length files) prints format supplied (are_alike files is) each_word facts sound k less key within (all k less key within)))
@@ -104,7 +104,7 @@ pub several_back : (format : Format) (prints : Prints) (supplied : Supplied) (fi
     → HasWidth (first_of files) supplied (facts_from (starts (Some format)) 1 lines)
     → ((k : ℕ) → k < length files → HasOwn k None all_bits (facts_from (starts (Some format)) 1 lines))
     → ((k : ℕ) → k < length files → (key : Key) → IsInFile (file_at files k) key → HasOwn k key all_bits (facts_from (starts (Some format)) 1 lines) ⊎ IsGiven supplied (file_at files k) key)
-    → ReadsAs (log_told (Only format) supplied (ended lines)) (dump_of_all files)
+    → ReadsAs (log_outcome (Only format) supplied (ended lines)) (dump_of_all files)
 several_back format prints supplied files is words agrees lines same sound width first all =
-    subst (λ ls. ReadsAs (outcome false supplied (nothing_seen (Some format)) (facts_from (starts (Some format)) 1 ls)) (dump_of_all files)) (sym same)
+    subst (λ ls. ReadsAs (facts_outcome false supplied (nothing_seen (Some format)) (facts_from (starts (Some format)) 1 ls)) (dump_of_all files)) (sym same)
     (facts_as format prints supplied files is words agrees (facts_from (starts (Some format)) 1 lines) sound width first all)

@@ -6,8 +6,8 @@ use Rattle.mt_regs.specs.RegisterFile.{IsRegisterFile, RegisterFile}
 use Rattle.mt_text.specs.declared.place.Place.{Place}
 use Rattle.mt_import.specs.declared.format.Format.{Format}
 use Rattle.mt_import.specs.declared.reading.Context.{Context}
-use Rattle.mt_import.specs.declared.reading.Said.{Said}
-use Rattle.mt_import.specs.declared.reading.Said.TheVariants.{Nothing, Announces, Value, Turns, Shows, Begins, FixedRanges, VariableRanges, Width, Warns, Long}
+use Rattle.mt_import.specs.declared.reading.LineSays.{LineSays}
+use Rattle.mt_import.specs.declared.reading.LineSays.TheVariants.{Nothing, Announces, Value, Turns, Shows, Begins, FixedRanges, VariableRanges, Width, Warns, Long}
 use Rattle.mt_import.specs.declared.shape.Reading.{Reading}
 use Rattle.mt_import.specs.declared.shape.Shown.{Shown}
 use Rattle.mt_import.specs.Readings.{Fact, is_fault, is_line, is_match, is_register, is_register_value, is_warning, is_width, processor_after, reading_facts, said_facts, shown_facts, shows_facts}
@@ -44,7 +44,7 @@ gathers (fact ∷ facts) seen reading (inr before) = gathers facts (seen_with se
 
 -- ---- bits of a register that a line shows
 
-pub record ShowsKey (key : Key) (part : ℕ) (said : Said) : Type 0 where
+pub record ShowsKey (key : Key) (part : ℕ) (said : LineSays) : Type 0 where
   pub processor : Option ℕ
   pub shows : List (Option Shown)
   pub shown : Shown
@@ -96,7 +96,7 @@ module _ (file : RegisterFile) (prints : Prints) where
   IsTrueShown (Some shown) = TellsOf shown ⊎ (is_register shown.number ≡ false)
 
   -- It tells of this processor and of this file alone.
-  abbrev pub IsTrueSaid : ℕ → Said → Type 0
+  abbrev pub IsTrueSaid : ℕ → LineSays → Type 0
   IsTrueSaid at Nothing = ⊤
   IsTrueSaid at (Announces processor number) = ⊥
   IsTrueSaid at (Value value place) = ⊥
@@ -110,7 +110,7 @@ module _ (file : RegisterFile) (prints : Prints) where
   IsTrueSaid at (Long place) = ⊥
 
 -- What says no more of a dump is true of it, if the bits that it shows are printed.
-pub no_more_true : (format : Format) (file : RegisterFile) (prints : Prints) (said : Said) → IsRegisterFile file → ((shown : Shown) (key : Key) → IsSame format file shown → shown.number ≡ number_at key → prints key shown.bits ≡ true)
+pub no_more_true : (format : Format) (file : RegisterFile) (prints : Prints) (said : LineSays) → IsRegisterFile file → ((shown : Shown) (key : Key) → IsSame format file shown → shown.number ≡ number_at key → prints key shown.bits ≡ true)
     → SaysNoMore format file said → IsTrueSaid file prints 0 said
 no_more_true format file prints said is printed (no_match same) = rw same tt
 no_more_true format file prints said is printed (only_width place same) = rw same refl
@@ -146,7 +146,7 @@ shown_among processor table (first ∷ shows) shown register (inl same) =
 shown_among processor table (first ∷ shows) shown register (inr later) =
     join_among_second (shown_facts processor table first) (shows_facts processor table shows) _ (shown_among processor table shows shown register later)
 
-said_has : (context : Context) (said : Said) (key : Key) (bits : ℕ) → IsKey key → ShowsKey key bits said → HasReading key bits (said_facts context said)
+said_has : (context : Context) (said : LineSays) (key : Key) (bits : ℕ) → IsKey key → ShowsKey key bits said → HasReading key bits (said_facts context said)
 said_has context said key bits is shows =
     let register : is_register shows.shown.number ≡ true = rw shows.number (is_register_key key is) in
     record {
@@ -157,7 +157,7 @@ said_has context said key bits is shows =
     }
 
 -- a line keeps the processor that lines are of
-still : (file : RegisterFile) (prints : Prints) (at : ℕ) (said : Said) (current : ℕ) → current ≡ at → IsTrueSaid file prints at said → processor_after said current ≡ at
+still : (file : RegisterFile) (prints : Prints) (at : ℕ) (said : LineSays) (current : ℕ) → current ≡ at → IsTrueSaid file prints at said → processor_after said current ≡ at
 still file prints at Nothing current own tells = own
 still file prints at (Announces processor number) current own tells = absurd tells
 still file prints at (Value value place) current own tells = absurd tells
@@ -208,7 +208,7 @@ module _ (files : ℕ → RegisterFile) (count : ℕ) (prints : Prints) where
   shows_true k processor table (shown ∷ shows) less own tells =
       all_join (IsSound files count prints) (shown_facts processor table shown) (shows_facts processor table shows) (shown_true k processor table shown less own tells.0) (shows_true k processor table shows less own tells.1)
 
-  pub said_true : (k : ℕ) (context : Context) (said : Said) → k < count → (files k).width ≡ (files 0).width → context.processor ≡ k → IsTrueSaid (files k) prints k said → AllByRecursion (IsSound files count prints) (said_facts context said)
+  pub said_true : (k : ℕ) (context : Context) (said : LineSays) → k < count → (files k).width ≡ (files 0).width → context.processor ≡ k → IsTrueSaid (files k) prints k said → AllByRecursion (IsSound files count prints) (said_facts context said)
   said_true k context Nothing less width own tells = tt
   said_true k context (Announces processor number) less width own tells = absurd tells
   said_true k context (Value value place) less width own tells = absurd tells
@@ -299,7 +299,7 @@ module _ (files : ℕ → RegisterFile) (count : ℕ) (prints : Prints) (k : ℕ
   still_of (line ∷ lines) context number is own tells =
       still_of lines (context_behind context number line) (number + 1) (next_format format context number line is) (next_processor context number line is own (tells line (inl refl) number)) (λ other among. tells other (inr among))
 
-  own_has : (context : Context) (said : Said) (key : Key) (bits : ℕ) → context.processor ≡ k → IsTrueSaid (files k) prints k said → IsKey key → ShowsKey key bits said → HasOwn k key bits (said_facts context said)
+  own_has : (context : Context) (said : LineSays) (key : Key) (bits : ℕ) → context.processor ≡ k → IsTrueSaid (files k) prints k said → IsKey key → ShowsKey key bits said → HasOwn k key bits (said_facts context said)
   own_has context said key bits own tells is shows =
       let register : is_register shows.shown.number ≡ true = rw shows.number (is_register_key key is) in
       let named : unwrap_or shows.processor k ≡ k = (subst (IsTrueSaid (files k) prints k) shows.said_is tells).0 in

@@ -4,7 +4,7 @@ use Rattle.std.specs.Prelude.{if◌then◌else◌}
 use Rattle.mt_text.specs.Text.{words_of}
 use Rattle.mt_text.specs.Words.{text_of}
 use Rattle.mt_import.specs.declared.format.Format.TheVariants.{Coreboot, Edk2, Inteltool, Linux, Xen}
-use Rattle.mt_import.specs.declared.reading.Said.TheVariants.{Nothing}
+use Rattle.mt_import.specs.declared.reading.LineSays.TheVariants.{Nothing}
 use Rattle.mt_import.specs.Coreboot.{level_words, said_from}
 use Rattle.mt_import.specs.Edk2.{said_by_words as edk2_words}
 use Rattle.mt_import.specs.Inteltool.{said_by_words as inteltool_words}

@@ -12,7 +12,7 @@ use Rattle.mt_import.specs.Shown.{format_of, is_auto, shown}
 use Rattle.mt_import.specs.Supplied.{Supplied, differs}
 use Rattle.mt_import.specs.Values.{assumed_width, or_supplied}
 use Rattle.mt_import.specs.Outcome.{Seen, ended, fact_fault, facts_fault, is_fit_width, nothing_seen, seen_after, seen_with, slot_shown, width_contradiction, width_fault}
-use Rattle.mt_import.specs.Import.{log_told}
+use Rattle.mt_import.specs.Import.{log_outcome}
 use Rattle.mt_import_laws.specs.Origins.{HasOrigins, IsAmong, WidthOrigin, readings_of, seen_of, width_by_line, width_by_masks, width_by_word}
 use Rattle.mt_import_laws.proofs.Bits.{not_false}
 use Rattle.mt_import_laws.proofs.Faults.{fault_of, faulty}
@@ -55,7 +55,7 @@ module _ (choice : Choice) (supplied : Supplied) (text : List ℕ) (width : ℕ)
   from_lines (Some other) is_seen is = from_shown (gathered (shown (format_of choice) text) (nothing_seen (format_of choice)) width (is_seen ∙ is))
   from_lines None is_seen is = from_word is_seen supplied.width refl is
 
-pub width_origin : (choice : Choice) (supplied : Supplied) (text : List ℕ) (origins : HasOrigins supplied (seen_of choice text) (log_told choice supplied text)) → WidthOrigin choice supplied text origins.width
+pub width_origin : (choice : Choice) (supplied : Supplied) (text : List ℕ) (origins : HasOrigins supplied (seen_of choice text) (log_outcome choice supplied text)) → WidthOrigin choice supplied text origins.width
 width_origin choice supplied text origins = from_lines choice supplied text origins.width (seen_of choice text).width refl origins.width_is
 
 -- ---- widths that differ
@@ -106,7 +106,7 @@ module _ (supplied : Supplied) where
       as_word facts (seen_with seen fact) width word place (both_none (fact_fault supplied seen fact) (facts_fault supplied (seen_with seen fact) facts) none).1 later given
 
 pub widths_differ : (choice : Choice) (supplied : Supplied) (text : List ℕ) (a b : ℕ) (p q : Place) → IsAmong (is_width a p) (shown (format_of choice) text) → IsAmong (is_width b q) (shown (format_of choice) text) → a ≢ b
-    → (log_told choice supplied text).status ≡ BadText
+    → (log_outcome choice supplied text).status ≡ BadText
 widths_differ choice supplied text a b p q first second differ =
     faulty (fault_of choice supplied text) (ended (is_auto choice) supplied (seen_of choice text)) (λ none.
     let one = at_end supplied (shown (format_of choice) text) (nothing_seen (format_of choice)) a p none first in
@@ -115,7 +115,7 @@ widths_differ choice supplied text a b p q first second differ =
     differ (cc e))
 
 pub width_differs : (choice : Choice) (supplied : Supplied) (text : List ℕ) (a word : ℕ) (p : Place) → IsAmong (is_width a p) (shown (format_of choice) text) → supplied.width ≡ Some word → word ≢ a
-    → (log_told choice supplied text).status ≡ BadText
+    → (log_outcome choice supplied text).status ≡ BadText
 width_differs choice supplied text a word p first given differ =
     faulty (fault_of choice supplied text) (ended (is_auto choice) supplied (seen_of choice text)) (λ none.
     differ (as_word supplied (shown (format_of choice) text) (nothing_seen (format_of choice)) a word p none first given))

@@ -11,12 +11,12 @@ use Rattle.mt_dump.specs.Canon.{ended}
 use Rattle.mt_import.specs.declared.format.Choice.TheVariants.{Only}
 use Rattle.mt_import.specs.declared.format.Format.TheVariants.{X86info}
 use Rattle.mt_import.specs.declared.reading.Context.{Context}
-use Rattle.mt_import.specs.declared.reading.Said.TheVariants.{Turns}
+use Rattle.mt_import.specs.declared.reading.LineSays.TheVariants.{Turns}
 use Rattle.mt_import.specs.Readings.{Fact, is_line, is_width, starts}
 use Rattle.mt_import.specs.Shown.{context_behind, facts_from, facts_of_line, said_of}
 use Rattle.mt_import.specs.Slot.{all_bits}
 use Rattle.mt_import.specs.Supplied.{Supplied}
-use Rattle.mt_import.specs.Import.{log_told}
+use Rattle.mt_import.specs.Import.{log_outcome}
 use Rattle.mt_import_laws.specs.Origins.{IsAmong, context_after_lines}
 use Rattle.mt_import_laws.specs.Printed.{Agrees, Key, ReadsAs, dump_of_all}
 use Rattle.mt_import_laws.specs.PrintedByX86info.{Print, SuitsX86info, SuitsX86infoOfAll, cpu_line, cpu_lines, files_in, x86info_lines}
@@ -272,7 +272,7 @@ module _ (cpus : List (Print × RegisterFile)) (supplied : Supplied) (suits : Su
       let less : 0 < length files = omega (arith, size) in
       width_by n size (width 0 (print_at cpus 0) (file_at files 0) supplied (each 0 less) (print_at cpus 0).virtual refl)
 
-  pub reads : ReadsAs (log_told (Only X86info) supplied (ended (cpu_lines 0 cpus))) (dump_of_all files)
+  pub reads : ReadsAs (log_outcome (Only X86info) supplied (ended (cpu_lines 0 cpus))) (dump_of_all files)
   reads =
       several_back X86info any_bits supplied files suits.is_dump (of_files supplied HasWords (λ print file is. is.has_words) cpus suits.each) (of_files supplied (Agrees supplied) (λ print file is. is.agrees) cpus suits.each)
       (cpu_lines 0 cpus) (one_lines_back (cpu_lines 0 cpus) ones) sound (subst (λ file. HasWidth file supplied facts) (first_at files) (shown_width (length files) refl))

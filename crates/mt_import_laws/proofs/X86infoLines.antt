@@ -1,5 +1,6 @@
 -- What a line of x86info is read as.
-use Rattle.std.proofs.Common.{◌≡◌, ◌∙◌, ◌+◌, ◌-◌, ◌*◌, ◌^◌, ◌<◌, ◌≤◌, ◌==◌, nat_eq, nat_lt, ℕ, Bool, true, false, List, [], ◌∷◌, ◌++◌, length, drop, take, Option, Some, None, refl, sym, ap, arith, lit≤, length-append, codes, decimal}
+use Rattle.std.proofs.Common.{◌≡◌, ◌∙◌, ◌+◌, ◌-◌, ◌*◌, ◌^◌, ◌<◌, ◌≤◌, ◌==◌, nat_eq, nat_lt, ℕ, suc, Bool, true, false, List, [], ◌∷◌, ◌++◌, length, drop, take, Option, Some, None, refl, sym, ap, inl, inr, arith, lit≤, length-append, codes, decimal}
+use Rattle.std.specs.Fmt.{digits}
 use Rattle.std.specs.Prelude.{if◌then◌else◌}
 use Rattle.std.specs.Cmp.Lexicographic.{pointwise}
 use Rattle.std.specs.List.{AllByRecursion, list_all}
@@ -13,24 +14,28 @@ use Rattle.mt_text.specs.Words.{place_of, text_of}
 use Rattle.mt_text.specs.declared.place.Place.{Place}
 use Rattle.mt_text.proofs.Plain.{is_plain, plain_ending}
 use Rattle.mt_dump.specs.Canon.{value_text}
-use Rattle.mt_import.specs.declared.format.Format.TheVariants.{X86info}
-use Rattle.mt_import.specs.declared.reading.Said.{Said}
-use Rattle.mt_import.specs.declared.reading.Said.TheVariants.{Nothing, Warns, Width}
+use Rattle.mt_import.specs.declared.format.Format.TheVariants.{Coreboot, Edk2, Inteltool, Linux, X86info, Xen}
+use Rattle.mt_import.specs.declared.reading.LineSays.{LineSays}
+use Rattle.mt_import.specs.declared.reading.LineSays.TheVariants.{Nothing, Warns, Width}
 use Rattle.mt_import.specs.Kernel.{is_warning_text}
 use Rattle.mt_import.specs.LineWords.{behind_stamp, is_iso, kernel_end}
-use Rattle.mt_import.specs.Pieces.{before, behind, shows_one, shows_width, whole_number}
-use Rattle.mt_import.specs.Shown.{said_of, said_or_sizes}
+use Rattle.mt_import.specs.Linux.{linux_words_said}
+use Rattle.mt_import.specs.Pieces.{before, behind, is_text, shows_one, shows_width, whole_number}
+use Rattle.mt_import.specs.Shown.{format_told, is_telling, said_of, said_or_sizes, tells}
 use Rattle.mt_import.specs.X86info.{first_read, is_name, named_register, register_from, said_by, said_by_words, sizes_by_words, x86info_said}
+use Rattle.mt_import_laws.specs.FirstLine.{IsOfNoHost}
 use Rattle.mt_import_laws.specs.Printed.{Key, number_at}
 use Rattle.mt_import_laws.specs.PrintedByInteltool.{AreNames, Names, is_name_byte}
 use Rattle.mt_import_laws.specs.PrintedByRdmsr.{hex_text}
 use Rattle.mt_import_laws.specs.PrintedByX86info.{behind_names, is_bare, is_field_byte, number_text, size_line}
+use Rattle.mt_import_laws.proofs.Foreign.{and_left, and_right, if_nothing, if_off, kernel_none, linux_none, log_front}
 use Rattle.mt_import_laws.proofs.HexDigits.{hex_digits, hex_prefixed, hex_short, hex_some}
 use Rattle.mt_import_laws.proofs.KeyLines.{low}
 use Rattle.mt_import_laws.proofs.Keys.{IsKey}
 use Rattle.mt_import_laws.proofs.LineWords.{AreWords, IsWord, all_append, are_apart, digits_are_word, length_of_pieces, line_with, pieces_plain, placed, size_of, word_append, words_of_pieces}
 use Rattle.mt_import_laws.proofs.PrintedDigits.{sixteen_all, sixteen_long, sixteen_read}
 use Rattle.mt_import_laws.proofs.Decimals.{decimals}
+use Rattle.mt_import_laws.proofs.Tells.{coreboot_by, edk2_by, inteltool_by, linux_by, xen_by}
 
 -- ---- words that are no names
 
@@ -138,7 +143,7 @@ name_bytes (byte ∷ name) all =
 -- ---- a line
 
 -- what words say in each format
-abbrev said_in_each_of : ℕ → List (ℕ × List ℕ) → Said
+abbrev said_in_each_of : ℕ → List (ℕ × List ℕ) → LineSays
 said_in_each_of number words = if is_warning_text (drop (kernel_end words) words) then Warns else sizes_by_words number (take 7 words)
 
 -- a name and a number are no kernel's warning, also where the name is taken as a date
@@ -237,7 +242,7 @@ module _ (names : Names) (are : AreNames names) (key : Key) (is_key : IsKey key)
         ∙ ap (λ found. said_by found number (text ks)) (no_processor ks)
         ∙ ap (λ ws. said_by_words number (take 7 ws)) words
 
-    read_as : (number : ℕ) (said : Said) → said_by_words number (take 7 (placed 0 (first ks ∷ later ks) tail)) ≡ said → said_or_sizes said number (text ks) ≡ said → said_of X86info number (text ks) ≡ said
+    read_as : (number : ℕ) (said : LineSays) → said_by_words number (take 7 (placed 0 (first ks ∷ later ks) tail)) ≡ said → said_or_sizes said number (text ks) ≡ said → said_of X86info number (text ks) ≡ said
     read_as number said by same = rw short (ap (λ s. said_or_sizes s number (text ks)) (said_words number ∙ by) ∙ same)
 
   -- ---- behind two names at most the register is read
@@ -271,13 +276,15 @@ module _ (names : Names) (are : AreNames names) (key : Key) (is_key : IsKey key)
   by_parts (k ∷ l ∷ []) number two fits = refl
   by_parts (k ∷ l ∷ m ∷ ks) number two fits = absurd (omega (arith, two))
 
-  pub register_said : (ks : List Key) → AreKeys ks → length ks ≤ 2 → (number : ℕ) → value < 2 ^ 64 → said_of X86info number (text ks) ≡ shows_one None (Some (number_at key)) (Some value) (place ks number)
-  register_said ks keys two number fits =
-      read_as ks keys (omega (arith, two)) number (shows_one None (Some (number_at key)) (Some value) (place ks number))
-      (ap (λ at. register_from at number (front ks)) (found ks two)
+  front_said : (ks : List Key) → length ks ≤ 2 → (number : ℕ) → value < 2 ^ 64 → said_by_words number (front ks) ≡ shows_one None (Some (number_at key)) (Some value) (place ks number)
+  front_said ks two number fits =
+      ap (λ at. register_from at number (front ks)) (found ks two)
       ∙ by_parts ks number two fits
       ∙ ap (λ r. shows_one None r (whole_number 18 (codes "0x" ++ value_text value)) (place ks number)) (number_read (number_at key) (low key is_key) (is_bare key))
-      ∙ ap (λ v. shows_one None (Some (number_at key)) v (place ks number)) (value_read value fits)) refl
+      ∙ ap (λ v. shows_one None (Some (number_at key)) v (place ks number)) (value_read value fits)
+
+  pub register_said : (ks : List Key) → AreKeys ks → length ks ≤ 2 → (number : ℕ) → value < 2 ^ 64 → said_of X86info number (text ks) ≡ shows_one None (Some (number_at key)) (Some value) (place ks number)
+  register_said ks keys two number fits = read_as ks keys (omega (arith, two)) number (shows_one None (Some (number_at key)) (Some value) (place ks number)) (front_said ks two number fits) refl
 
   -- ---- behind more it isn't
 
@@ -291,6 +298,63 @@ module _ (names : Names) (are : AreNames names) (key : Key) (is_key : IsKey key)
       (ap (said_in_each_of number) (words (k ∷ l ∷ m ∷ ks) keys size)
       ∙ ap (λ warns. if warns then Warns else sizes_by_words number (front (k ∷ l ∷ m ∷ ks))) (no_warning (is_iso (name_of k)) (is_bare k) (names k) (number_at k) 0 (0 + 0 + length (name_of k) + 1)
       (placed (0 + 0 + length (name_of k) + 1 + length (number_of k)) ((1, name_of l) ∷ later (l ∷ m ∷ ks)) tail)))
+
+-- ---- the line of 0FEH tells the format
+
+module _ (names : Names) (are : AreNames names) (value : ℕ) (tail : List ℕ) (few : length tail ≤ 200) (ends : goes_on tail ≡ false) (all : list_all is_field_byte tail ≡ true) where
+  abbrev line : List ℕ
+  line = text names are None tt value tail few ends all []
+
+  -- its words, of which the first may be taken as a date
+  abbrev name : List ℕ
+  name = codes "MTRR" ++ names None
+
+  abbrev behind_name : List (ℕ × List ℕ)
+  behind_name = placed (0 + 0 + length name) ((1, number_text false 0xfe) ∷ (1, codes "0x" ++ value_text value) ∷ []) tail
+
+  abbrev line_words : List (ℕ × List ℕ)
+  line_words = (0, name) ∷ behind_name
+
+  found_words : words_of line ≡ line_words
+  found_words = words names are None tt value tail few ends all [] tt (lit≤ tt)
+
+  not_linux : (number : ℕ) → linux_words_said number line_words ≡ Nothing
+  not_linux number = linux_none number line_words refl refl refl refl refl (kernel_none number line_words false refl refl (inl (longer (length (words_from _ tail)))) refl)
+    where
+      longer : (n : ℕ) → (suc (suc (suc n)) == 2) ≡ false
+      longer n = grind (arith, nat_tests)
+
+  not_linux_dated : (number : ℕ) → linux_words_said number behind_name ≡ Nothing
+  unfolding digits
+  not_linux_dated number = linux_none number behind_name refl refl refl refl refl (kernel_none number behind_name false (if_nothing _ _ _ refl refl) refl (inr refl) refl)
+
+  no_linux : (number : ℕ) → IsOfNoHost line → tells Linux number line ≡ false
+  no_linux number host =
+      let third = ap (λ ws. is_text (codes "kernel:") (text_of ws 2)) (sym found_words) ∙ host.third in
+      let fifth = ap (λ ws. is_text (codes "kernel:") (text_of ws 4)) (sym found_words) ∙ host.fifth in
+      linux_by number line line_words found_words
+      ∙ ap (λ at. is_telling (linux_words_said number (drop (behind_stamp at line_words) line_words))) (log_front line_words third fifth)
+      ∙ by (is_iso name)
+    where
+      by : (date : Bool) → is_telling (linux_words_said number (drop (behind_stamp (if date then 1 else 0) line_words) line_words)) ≡ false
+      by true = ap is_telling (not_linux_dated number)
+      by false = ap is_telling (not_linux number)
+
+  no_coreboot : (number : ℕ) → tells Coreboot number line ≡ false
+  no_coreboot number = coreboot_by number line line_words found_words ∙ ap is_telling (if_nothing _ _ _ refl refl)
+
+  no_edk2 : (number : ℕ) → tells Edk2 number line ≡ false
+  no_edk2 number = edk2_by number line line_words found_words ∙ ap is_telling (if_nothing _ _ _ refl (if_off _ _ _ (and_left _ _ (and_right _ _ refl)) refl))
+
+  own : (number : ℕ) → value < 2 ^ 64 → tells X86info number line ≡ true
+  unfolding tells
+  own number fits = ap is_telling (said_words names are None tt value tail few ends all [] tt (lit≤ tt) number ∙ front_said names are None tt value tail few ends all [] (lit≤ tt) number fits)
+
+  pub told : (number : ℕ) → value < 2 ^ 64 → IsOfNoHost line → format_told number line ≡ Some X86info
+  told number fits host =
+      let xen : tells Xen number line ≡ false = xen_by number line line_words found_words in
+      let inteltool : tells Inteltool number line ≡ false = inteltool_by number line line_words found_words in
+      rw (short names are None tt value tail few ends all [] tt (lit≤ tt), xen, no_linux number host, no_coreboot number, no_edk2 number, inteltool, own number fits) refl
 
 -- ---- the line on sizes
 

@@ -1,5 +1,6 @@
 -- What x86info prints reads back.
-use Rattle.std.proofs.Common.{◌≡◌, ◌∙◌, ◌+◌, ◌-◌, ◌*◌, ◌^◌, ◌<◌, ◌≤◌, ℕ, zero, suc, Bool, true, false, List, [], ◌∷◌, ◌++◌, length, map, Option, Some, None, refl, sym, ap, subst, arith, inl, inr, lit<, lit≤, length-append, ◌==◌}
+use Rattle.std.proofs.Common.{◌≡◌, ◌∙◌, ◌+◌, ◌-◌, ◌*◌, ◌^◌, ◌<◌, ◌≤◌, ℕ, zero, suc, Bool, true, false, List, [], ◌∷◌, ◌++◌, length, map, Option, Some, None, refl, sym, ap, subst, arith, inl, inr, lit<, lit≤, length-append, ◌==◌, codes}
+use Rattle.std.specs.Fmt.{digits}
 use Rattle.std.specs.Prelude.{◌⊎◌}
 use Rattle.std.specs.List.{AllByRecursion, list_all}
 use Rattle.std.proofs.lemmas.Bool.{cases_lt, eqb-false, eqb-true}
@@ -9,18 +10,19 @@ use Rattle.mt_regs.specs.declared.registers.Register.TheVariants.{PhysBase, Phys
 use Rattle.mt_regs.specs.RegisterFile.{RegisterFile, has_fixed}
 use Rattle.mt_regs.specs.Registers.{IsWithin, pair_registers}
 use Rattle.mt_import.specs.declared.format.Format.TheVariants.{X86info}
-use Rattle.mt_import.specs.Shown.{said_of}
+use Rattle.mt_import.specs.Shown.{said_of, tells}
 use Rattle.mt_import.specs.Supplied.{Supplied}
+use Rattle.mt_import_laws.specs.FirstLine.{IsOfNoHost, LinesTellFirst, only_turns, says_same}
 use Rattle.mt_import_laws.specs.Origins.{IsAmong}
 use Rattle.mt_import_laws.specs.Printed.{Key, TableReadsBack, value_in}
-use Rattle.mt_import_laws.specs.PrintedByX86info.{Print, SuitsX86info, first_behind, last_keys, later_fixed, line_behind, line_of, read_count, read_pairs, register_lines, size_line, size_lines, unread, unread_pairs, x86info_lines}
+use Rattle.mt_import_laws.specs.PrintedByX86info.{Print, SuitsX86info, cpu_lines, first_behind, last_keys, later_fixed, line_behind, line_of, read_count, read_pairs, register_lines, size_line, size_lines, unread, unread_pairs, x86info_lines}
 use Rattle.mt_import_laws.proofs.Among.{all_map, among_join, among_map, each_among, join_among_first, join_among_second, map_among}
 use Rattle.mt_import_laws.proofs.KeyLines.{ShowsAlone, alone_shows, alone_true, has_line, lines_true}
 use Rattle.mt_import_laws.proofs.Keys.{IsKey}
 use Rattle.mt_import_laws.proofs.PrintedBack.{HasLine, IsGiven, IsInFile, WidthLine, fits, key_in_file, table_back}
 use Rattle.mt_import_laws.proofs.TableLines.{IsTrueSaid, all_join}
 use Rattle.mt_import_laws.proofs.Whole.{any_bits}
-use Rattle.mt_import_laws.proofs.X86infoLines.{nothing_said, place, register_said, size_place, size_plain, size_said, text_plain}
+use Rattle.mt_import_laws.proofs.X86infoLines.{nothing_said, place, register_said, size_place, size_plain, size_said, text_plain, told}
 
 -- ---- the registers of pairs
 
@@ -389,3 +391,20 @@ pub reads : (print : Print) (file : RegisterFile) (supplied : Supplied) → Suit
 reads print file supplied suits =
     table_back file X86info (x86info_lines print file) supplied suits.is_file suits.has_words suits.agrees (width 0 print file supplied suits print.virtual refl)
     (record { each = table_true 0 print file supplied suits; all = each_key 0 print file supplied suits }) (table_plain 0 print file supplied suits)
+
+-- The line of 0FEH is the first behind the heading, and tells the format.
+told_lines : (print : Print) (file : RegisterFile) (supplied : Supplied) (number : ℕ) (others : List (List ℕ)) → SuitsX86info print file supplied → IsOfNoHost (line_of print file None)
+    → LinesTellFirst X86info number (codes "MTRR registers:" ∷ line_of print file None ∷ others)
+unfolding tells
+told_lines print file supplied number others suits host =
+    let fields = suits.are_fields None in
+    inr (record { none = refl; alike = says_same refl }, inl (told print.names suits.are_names file.capabilities (print.fields None) fields.0 fields.1 fields.2 (number + 1) (fits file None suits.is_file suits.has_words tt) host))
+
+pub told_first : (print : Print) (file : RegisterFile) (supplied : Supplied) → SuitsX86info print file supplied → IsOfNoHost (line_of print file None) → LinesTellFirst X86info 1 (x86info_lines print file)
+told_first print file supplied suits host = told_lines print file supplied 1 _ suits host
+
+-- Of several processors the line in front says that processor 0's lines follow.
+pub all_told_first : (print : Print) (file : RegisterFile) (cpus : List (Print × RegisterFile)) (supplied : Supplied) → SuitsX86info print file supplied → IsOfNoHost (line_of print file None)
+    → LinesTellFirst X86info 1 (cpu_lines 0 ((print, file) ∷ cpus))
+unfolding digits tells
+all_told_first print file cpus supplied suits host = inr (record { none = refl; alike = only_turns refl refl }, told_lines print file supplied 2 _ suits host)

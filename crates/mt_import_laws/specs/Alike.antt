@@ -3,7 +3,7 @@ use Rattle.std.specs.Prelude.{ℕ, ◌≡◌, ◌⊎◌, ◌+◌, ⊤, List, [],
 use Rattle.mt_text.specs.Text.{lines_of}
 use Rattle.mt_import.specs.declared.format.Choice.{Choice}
 use Rattle.mt_import.specs.declared.reading.Context.{Context}
-use Rattle.mt_import.specs.declared.reading.Said.TheVariants.{Nothing}
+use Rattle.mt_import.specs.declared.reading.LineSays.TheVariants.{Nothing}
 use Rattle.mt_import.specs.Readings.{starts}
 use Rattle.mt_import.specs.Shown.{chosen, context_behind, format_of, said_in}
 

@@ -1,16 +1,19 @@
 -- Logs whose first line that tells a format tells this one (own).
 --     TellsFirst format text      so it is of a text
 --     ComeToSame a b      two outcomes agree but for their reasons
-use Rattle.std.specs.Prelude.{ℕ, ◌≡◌, ◌⊎◌, ◌+◌, List, [], ◌∷◌, Some, None}
-use Rattle.mt_text.specs.Text.{lines_of}
+--     IsOfNoHost line      journalctl or syslog didn't write the line
+use Rattle.std.specs.Prelude.{ℕ, ◌≡◌, ◌⊎◌, ◌+◌, codes, false, List, [], ◌∷◌, Some, None}
+use Rattle.mt_text.specs.Text.{lines_of, words_of}
+use Rattle.mt_text.specs.Words.{text_of}
 use Rattle.mt_import.specs.declared.format.Format.{Format}
-use Rattle.mt_import.specs.declared.reading.Said.{Said}
-use Rattle.mt_import.specs.declared.reading.Said.TheVariants.{Nothing, Turns}
-use Rattle.mt_import.specs.Outcome.{Told}
+use Rattle.mt_import.specs.declared.reading.LineSays.{LineSays}
+use Rattle.mt_import.specs.declared.reading.LineSays.TheVariants.{Nothing, Turns}
+use Rattle.mt_import.specs.Outcome.{Outcome}
+use Rattle.mt_import.specs.Pieces.{is_text}
 use Rattle.mt_import.specs.Shown.{format_told, said_in, said_of}
 
 -- What a line says without a format and within one: the same, or there only that it turns to processor 0.
-pub data SaysAlike (without within : Said) : Type 0 where
+pub data SaysAlike (without within : LineSays) : Type 0 where
   says_same : within ≡ without → SaysAlike without within
   only_turns : without ≡ Nothing → within ≡ Turns 0 → SaysAlike without within
 
@@ -26,7 +29,12 @@ LinesTellFirst format number (line ∷ lines) = (format_told number line ≡ Som
 abbrev pub TellsFirst : Format → List ℕ → Type 0
 TellsFirst format text = LinesTellFirst format 1 (lines_of text)
 
-pub record ComeToSame (a b : Told) : Type 0 where
+pub record ComeToSame (a b : Outcome) : Type 0 where
   pub notes : a.notes ≡ b.notes
   pub dump : a.dump ≡ b.dump
   pub status : a.status ≡ b.status
+
+-- A date and a host stand in front of `kernel:`, three words or five with it. What stands behind would be a kernel's line.
+pub record IsOfNoHost (line : List ℕ) : Type 0 where
+  pub third : is_text (codes "kernel:") (text_of (words_of line) 2) ≡ false
+  pub fifth : is_text (codes "kernel:") (text_of (words_of line) 4) ≡ false

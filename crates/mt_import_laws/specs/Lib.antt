@@ -5,6 +5,7 @@ pub mod Worked
 pub mod Alike
 pub mod Returns
 pub mod FirstLine
+pub mod Spare
 pub mod Printed
 pub mod PrintedByInteltool
 pub mod PrintedByCoreboot

@@ -11,15 +11,15 @@ use Rattle.mt_dump.specs.Canon.{canon, file_lines, register_line}
 use Rattle.mt_dump.specs.Dumps.{Dump}
 use Rattle.mt_import.specs.declared.format.Choice.{Choice}
 use Rattle.mt_import.specs.declared.reading.Context.{Context}
-use Rattle.mt_import.specs.declared.reading.Said.{Said}
-use Rattle.mt_import.specs.declared.reading.Said.TheVariants.{Nothing, Announces, Value, Turns, Shows, Begins, FixedRanges, VariableRanges, Width, Warns, Long}
+use Rattle.mt_import.specs.declared.reading.LineSays.{LineSays}
+use Rattle.mt_import.specs.declared.reading.LineSays.TheVariants.{Nothing, Announces, Value, Turns, Shows, Begins, FixedRanges, VariableRanges, Width, Warns, Long}
 use Rattle.mt_import.specs.declared.shape.Reading.{Reading}
 use Rattle.mt_import.specs.Readings.{Fact, is_register_value, is_width, starts}
 use Rattle.mt_import.specs.Shown.{chosen, context_behind, facts_of_line, format_of, said_in, shown}
 use Rattle.mt_import.specs.Supplied.{Supplied, supplied_value}
 use Rattle.mt_import.specs.Slot.{whole_value}
 use Rattle.mt_import.specs.Values.{Known, assumed_of, assumed_value, is_pair_number, assumed_width, mask_of, width_by}
-use Rattle.mt_import.specs.Outcome.{Seen, Told, capabilities_shown, counted, counts_fewer, dump_in, enabled_pair, known_by, known_of, needed, notes_of, nothing_seen, processors, seen_after, slot_shown, values_of}
+use Rattle.mt_import.specs.Outcome.{Seen, Outcome, capabilities_shown, counted, counts_fewer, dump_in, enabled_pair, known_by, known_of, needed, notes_of, nothing_seen, processors, seen_after, slot_shown, values_of}
 
 abbrev pub IsAmong : {A : Type 0} → A → List A → Type 0
 IsAmong x [] = ⊥
@@ -49,7 +49,7 @@ pub record IsOfLine (choice : Choice) (text : List ℕ) (fact : Fact) : Type 0 w
 -- ---- tables
 
 -- the heading of a table
-abbrev pub is_heading : Said → Bool
+abbrev pub is_heading : LineSays → Bool
 is_heading (Begins shows) = true
 is_heading Nothing = false
 is_heading (Announces processor number) = false
@@ -151,7 +151,7 @@ pub record CountsPair (supplied : Supplied) (readings : List Reading) (a : Readi
 -- ---- lines on fixed ranges
 
 -- what a line says: that fixed ranges are enabled, or that they are disabled
-abbrev pub SaysFixed : Said → Bool → Type 0
+abbrev pub SaysFixed : LineSays → Bool → Type 0
 SaysFixed (FixedRanges enabled alone place) on = enabled ≡ on
 SaysFixed Nothing on = ⊥
 SaysFixed (Announces processor number) on = ⊥
@@ -199,7 +199,7 @@ abbrev pub owner : ℕ → ℕ → ℕ
 owner k number = if number == 0xfe then 0 else k
 
 -- The dump has a section for each processor, with a value for each register that it needs, and each value has an origin.
-pub record HasOrigins (supplied : Supplied) (seen : Seen) (told : Told) : Type 0 where
+pub record HasOrigins (supplied : Supplied) (seen : Seen) (told : Outcome) : Type 0 where
   pub width : ℕ
   pub capabilities : ℕ
   pub width_is : width_by supplied (slot_shown seen.readings) seen.width ≡ Some width

@@ -20,12 +20,12 @@ use Rattle.mt_dump.specs.Dumps.{Dump, dump_of}
 use Rattle.mt_import.specs.declared.format.Choice.TheVariants.{Auto, Only}
 use Rattle.mt_import.specs.declared.format.Format.{Format}
 use Rattle.mt_import.specs.declared.format.Format.TheVariants.{Rdmsr, X86info, Inteltool, Coreboot, Edk2, Linux, Xen}
-use Rattle.mt_import.specs.declared.reading.Said.TheVariants.{Nothing, Shows, Turns, Warns, Width}
-use Rattle.mt_import.specs.declared.reading.Said.{Said}
+use Rattle.mt_import.specs.declared.reading.LineSays.TheVariants.{Nothing, Shows, Turns, Warns, Width}
+use Rattle.mt_import.specs.declared.reading.LineSays.{LineSays}
 use Rattle.mt_import.specs.declared.shape.Shown.{Shown}
-use Rattle.mt_import.specs.Import.{log_told}
+use Rattle.mt_import.specs.Import.{log_outcome}
 use Rattle.mt_import.specs.Readings.{is_register}
-use Rattle.mt_import.specs.Outcome.{Told, version_of}
+use Rattle.mt_import.specs.Outcome.{Outcome, version_of}
 use Rattle.mt_import.specs.Shown.{said_of}
 use Rattle.mt_import.specs.Supplied.{Supplied, supplied_value}
 use Rattle.mt_import_laws.specs.Origins.{IsAmong}
@@ -69,7 +69,7 @@ IsNoMore format file None = ⊤
 IsNoMore format file (Some shown) = (is_register shown.number ≡ false) ⊎ IsSame format file shown
 
 -- What says no more of a dump than its file: nothing, the width, a warning, that lines of processor 0 follow, or such registers.
-pub data SaysNoMore (format : Format) (file : RegisterFile) (said : Said) : Type 0 where
+pub data SaysNoMore (format : Format) (file : RegisterFile) (said : LineSays) : Type 0 where
   no_match : said ≡ Nothing → SaysNoMore format file said
   only_width : (place : Place) → said ≡ Width file.width place → SaysNoMore format file said
   only_warns : said ≡ Warns → SaysNoMore format file said
@@ -97,11 +97,11 @@ pub record Agrees (supplied : Supplied) (file : RegisterFile) : Type 0 where
   pub width : (width : ℕ) → supplied.width ≡ Some width → width ≡ file.width
   pub registers : (number value : ℕ) → supplied_value supplied number ≡ Some value → value_at file number ≡ Some value
 
-pub record ReadsAs (told : Told) (wanted : Dump) : Type 0 where
+pub record ReadsAs (told : Outcome) (wanted : Dump) : Type 0 where
   pub status : told.status ≡ Done
   pub dump : told.dump ≡ canon wanted
 
-abbrev pub ReadsBack : Told → RegisterFile → Type 0
+abbrev pub ReadsBack : Outcome → RegisterFile → Type 0
 ReadsBack told file = ReadsAs told (dump_of file)
 
 -- the dump of these processors' files: of version 1 for one, else of version 2
@@ -110,18 +110,18 @@ dump_of_all files = record { version = version_of (length files); files = files 
 
 -- A text gives this dump by the name of its format, and by `auto`.
 pub record TextReadsAs (format : Format) (text : List ℕ) (supplied : Supplied) (wanted : Dump) : Type 0 where
-  pub by_name : ReadsAs (log_told (Only format) supplied text) wanted
-  pub by_auto : ReadsAs (log_told Auto supplied text) wanted
+  pub by_name : ReadsAs (log_outcome (Only format) supplied text) wanted
+  pub by_auto : ReadsAs (log_outcome Auto supplied text) wanted
 
 abbrev pub TextReadsBack : Format → List ℕ → Supplied → RegisterFile → Type 0
 TextReadsBack format text supplied file = TextReadsAs format text supplied (dump_of file)
 
 -- A table of lines gives the file: alone, and in any log that holds it.
 pub record TableReadsBack (format : Format) (table : List (List ℕ)) (supplied : Supplied) (file : RegisterFile) : Type 0 where
-  pub alone : ReadsBack (log_told (Only format) supplied (ended table)) file
-  pub among : (text : List ℕ) → HoldsTable format file table text → ReadsBack (log_told (Only format) supplied text) file
+  pub alone : ReadsBack (log_outcome (Only format) supplied (ended table)) file
+  pub among : (text : List ℕ) → HoldsTable format file table text → ReadsBack (log_outcome (Only format) supplied text) file
 
 -- A table of lines gives the file: alone, and in any log that holds its lines in their order.
 pub record TableReadsInOrder (format : Format) (table : List (List ℕ)) (supplied : Supplied) (file : RegisterFile) : Type 0 where
   pub alone : TextReadsBack format (ended table) supplied file
-  pub among : (text : List ℕ) → Weaves format file table (lines_of text) → ReadsBack (log_told (Only format) supplied text) file
+  pub among : (text : List ℕ) → Weaves format file table (lines_of text) → ReadsBack (log_outcome (Only format) supplied text) file

@@ -3,7 +3,7 @@ use Rattle.std.specs.Prelude.{ℕ, ◌≡◌, ◌+◌, ⊤, true, false, List, �
 use Rattle.mt_text.specs.Text.{is_too_long, lines_of}
 use Rattle.mt_import.specs.declared.format.Choice.{Choice}
 use Rattle.mt_import.specs.declared.format.Format.{Format}
-use Rattle.mt_import.specs.declared.reading.Said.TheVariants.{Nothing}
+use Rattle.mt_import.specs.declared.reading.LineSays.TheVariants.{Nothing}
 use Rattle.mt_import.specs.Kernel.{is_warning_line}
 use Rattle.mt_import.specs.Readings.{starts}
 use Rattle.mt_import.specs.Shown.{chosen, format_of, said_by_line}

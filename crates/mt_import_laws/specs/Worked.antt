@@ -21,6 +21,13 @@ worked_log = codes "0x277 6\n0x277 7\n"
 abbrev pub returned_log : List ℕ
 returned_log = codes "0x277 6" ++ 13 ∷ codes "\n0x277 7\n"
 
+-- the same with a line more between the two, and in front of them
+abbrev pub spaced_log : List ℕ
+spaced_log = codes "0x277 6\nthat was all\n0x277 7\n"
+
+abbrev pub headed_log : List ℕ
+headed_log = codes "the registers\n0x277 6\n0x277 7\n"
+
 abbrev pub first_reading : Reading
 first_reading = record { processor = 0; table = 0; number = 0x277; bits = all_bits; value = 6; place = record { line = 1; column = 7 } }
 

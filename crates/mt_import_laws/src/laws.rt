@@ -1,4 +1,4 @@
-ghost use Rattle.std.specs.Prelude.{◌≡◌, ◌≢◌, ◌++◌, ℕ, List, [], Some, false, true};
+ghost use Rattle.std.specs.Prelude.{◌≡◌, ◌≢◌, ◌+◌, ◌++◌, ℕ, List, [], length, Some, false, true};
 ghost use Rattle.mt_kinds.specs.Bits.{is_bit_set};
 ghost use Rattle.mt_ports.specs.declared.status.Status.TheVariants.{BadText, Done};
 ghost use Rattle.mt_text.specs.declared.place.Place.{Place};
@@ -6,8 +6,8 @@ ghost use Rattle.mt_import.specs.declared.format.Choice.{Choice};
 ghost use Rattle.mt_import.specs.declared.format.Choice.TheVariants.{Auto, Only};
 ghost use Rattle.mt_import.specs.declared.format.Format.{Format};
 ghost use Rattle.mt_import.specs.declared.shape.Reading.{Reading};
-ghost use Rattle.mt_import.specs.Import.{log_told, told_of};
-ghost use Rattle.mt_import.specs.Outcome.{Seen, Told, shows_fixed, shows_no_fix, warning_text};
+ghost use Rattle.mt_import.specs.Import.{log_outcome, outcome_of};
+ghost use Rattle.mt_import.specs.Outcome.{Seen, Outcome, shows_fixed, shows_no_fix, warning_text};
 ghost use Rattle.mt_import.specs.Readings.{is_width};
 ghost use Rattle.mt_import.specs.Shown.{format_of, shown};
 ghost use Rattle.mt_import.specs.Supplied.{Supplied, supplied_value};
@@ -16,32 +16,33 @@ ghost use Rattle.mt_import_laws.specs.FirstLine.{ComeToSame, TellsFirst};
 ghost use Rattle.mt_import_laws.specs.Notes.{AreNoted};
 ghost use Rattle.mt_import_laws.specs.Origins.{Contradict, ContradictInCapabilities, ContradictsWord, CountsPair, HasOrigins, IsAmong, IsRead, LogSaysFixed, WidthOrigin, readings_of, seen_of};
 ghost use Rattle.mt_import_laws.specs.Returns.{DifferInReturns};
+ghost use Rattle.mt_import_laws.specs.Spare.{ComeToSameWithout, HasSpareLine};
 ghost use Rattle.mt_import_laws.specs.Warnings.{HasWarning, IsWithin};
 
 /// For all logs and words: if a dump comes of them, it has a section for each processor, with the processor's values. Lines of one
 /// table show each value of the processor. Or else a word supplies it. Or else lines show its pair as disabled, and it is 0. Or else
 /// it is a named assumption's.
 pub fn values_have_origins()
-    ensures { (choice : Choice) (supplied : Supplied) (text : List ℕ) → (log_told choice supplied text).status ≡ Done
-        → HasOrigins supplied (seen_of choice text) (log_told choice supplied text) }
+    ensures { (choice : Choice) (supplied : Supplied) (text : List ℕ) → (log_outcome choice supplied text).status ≡ Done
+        → HasOrigins supplied (seen_of choice text) (log_outcome choice supplied text) }
 {}
 
 /// The width of a dump is shown by a line. Or else a word supplies it. Or else it is that of the widest mask.
 pub fn widths_have_origins()
-    ensures { (choice : Choice) (supplied : Supplied) (text : List ℕ) (origins : HasOrigins supplied (seen_of choice text) (log_told choice supplied text))
+    ensures { (choice : Choice) (supplied : Supplied) (text : List ℕ) (origins : HasOrigins supplied (seen_of choice text) (log_outcome choice supplied text))
         → WidthOrigin choice supplied text origins.width }
 {}
 
 /// A comment names each value that an assumption alone gives, with its register and its processor, and the width if it is assumed.
 /// There are no other comments: what one names was assumed.
 pub fn assumed_values_are_noted()
-    ensures { (supplied : Supplied) (seen : Seen) (told : Told) (origins : HasOrigins supplied seen told) → AreNoted supplied seen origins.capabilities told.notes }
+    ensures { (supplied : Supplied) (seen : Seen) (told : Outcome) (origins : HasOrigins supplied seen told) → AreNoted supplied seen origins.capabilities told.notes }
 {}
 
 /// A kernel's warning that processors differ is told on standard error, wherever it stands, unless the log has a fault.
 pub fn warnings_are_told()
-    ensures { (choice : Choice) (supplied : Supplied) (text : List ℕ) → HasWarning choice text → (log_told choice supplied text).status ≢ BadText
-        → IsWithin (warning_text true) (log_told choice supplied text).reasons }
+    ensures { (choice : Choice) (supplied : Supplied) (text : List ℕ) → HasWarning choice text → (log_outcome choice supplied text).status ≢ BadText
+        → IsWithin (warning_text true) (log_outcome choice supplied text).reasons }
 {}
 
 /// What is shown of a register is shown by a line of the log, and is of the table that the last heading begins.
@@ -52,74 +53,81 @@ pub fn readings_come_from_lines()
 /// Two lines that show a bit of one register of one processor differently are a fault.
 pub fn contradictions_are_faults()
     ensures { (choice : Choice) (supplied : Supplied) (text : List ℕ) (a b : Reading) → IsAmong a (readings_of choice text) → IsAmong b (readings_of choice text)
-        → Contradict a b → (log_told choice supplied text).status ≡ BadText }
+        → Contradict a b → (log_outcome choice supplied text).status ≡ BadText }
 {}
 
 /// Two lines that show a bit of the capability register differently are a fault, of whatever processors they are.
 pub fn capabilities_that_contradict_are_faults()
     ensures { (choice : Choice) (supplied : Supplied) (text : List ℕ) (a b : Reading) → IsAmong a (readings_of choice text) → IsAmong b (readings_of choice text)
-        → ContradictInCapabilities a b → (log_told choice supplied text).status ≡ BadText }
+        → ContradictInCapabilities a b → (log_outcome choice supplied text).status ≡ BadText }
 {}
 
 /// A line that shows a bit of a register otherwise than a word is a fault.
 pub fn words_that_contradict_are_faults()
     ensures { (choice : Choice) (supplied : Supplied) (text : List ℕ) (a : Reading) → IsAmong a (readings_of choice text)
-        → ContradictsWord supplied a → (log_told choice supplied text).status ≡ BadText }
+        → ContradictsWord supplied a → (log_outcome choice supplied text).status ≡ BadText }
 {}
 
 /// Two lines that show different widths are a fault.
 pub fn widths_that_differ_are_faults()
     ensures { (choice : Choice) (supplied : Supplied) (text : List ℕ) (a b : ℕ) (p q : Place) → IsAmong (is_width a p) (shown (format_of choice) text)
-        → IsAmong (is_width b q) (shown (format_of choice) text) → a ≢ b → (log_told choice supplied text).status ≡ BadText }
+        → IsAmong (is_width b q) (shown (format_of choice) text) → a ≢ b → (log_outcome choice supplied text).status ≡ BadText }
 {}
 
 /// A line that shows another width than a word is a fault.
 pub fn a_width_that_contradicts_a_word_is_a_fault()
     ensures { (choice : Choice) (supplied : Supplied) (text : List ℕ) (a word : ℕ) (p : Place) → IsAmong (is_width a p) (shown (format_of choice) text)
-        → supplied.width ≡ Some word → word ≢ a → (log_told choice supplied text).status ≡ BadText }
+        → supplied.width ≡ Some word → word ≢ a → (log_outcome choice supplied text).status ≡ BadText }
 {}
 
 /// A line that shows that a fixed-range register isn't 0, and a line that shows FIX of the capability register as clear, are a fault.
 pub fn fixed_ranges_without_fix_are_faults()
     ensures { (choice : Choice) (supplied : Supplied) (text : List ℕ) (a b : Reading) → IsAmong a (readings_of choice text) → IsAmong b (readings_of choice text)
-        → shows_fixed a ≡ true → shows_no_fix b ≡ true → (log_told choice supplied text).status ≡ BadText }
+        → shows_fixed a ≡ true → shows_no_fix b ≡ true → (log_outcome choice supplied text).status ≡ BadText }
 {}
 
 /// So is such a line beside a word that supplies the capability register without FIX.
 pub fn a_word_without_fix_is_a_fault()
     ensures { (choice : Choice) (supplied : Supplied) (text : List ℕ) (a : Reading) (word : ℕ) → IsAmong a (readings_of choice text)
-        → shows_fixed a ≡ true → supplied_value supplied 0xfe ≡ Some word → is_bit_set word 8 ≡ false → (log_told choice supplied text).status ≡ BadText }
+        → shows_fixed a ≡ true → supplied_value supplied 0xfe ≡ Some word → is_bit_set word 8 ≡ false → (log_outcome choice supplied text).status ≡ BadText }
 {}
 
 /// A line that calls fixed ranges enabled, and a line that calls them disabled, are a fault, whatever each shows of a register.
 pub fn lines_on_fixed_ranges_agree()
     ensures { (choice : Choice) (supplied : Supplied) (text : List ℕ) → LogSaysFixed choice text true → LogSaysFixed choice text false
-        → (log_told choice supplied text).status ≡ BadText }
+        → (log_outcome choice supplied text).status ≡ BadText }
 {}
 
 /// Of a dump, VCNT counts each pair that lines show as enabled: VCNT as lines show it, and as a word supplies it.
 pub fn enabled_pairs_are_counted()
-    ensures { (choice : Choice) (supplied : Supplied) (text : List ℕ) → (log_told choice supplied text).status ≡ Done → (a : Reading) → IsAmong a (readings_of choice text)
+    ensures { (choice : Choice) (supplied : Supplied) (text : List ℕ) → (log_outcome choice supplied text).status ≡ Done → (a : Reading) → IsAmong a (readings_of choice text)
         → CountsPair supplied (readings_of choice text) a }
 {}
 
 /// Lines that match nothing may be replaced by others that match nothing: the texts and the status stay.
 pub fn lines_that_match_nothing_change_nothing()
-    ensures { (choice : Choice) (supplied : Supplied) (a b : List ℕ) → AreAlikeLogs choice a b → log_told choice supplied a ≡ log_told choice supplied b }
+    ensures { (choice : Choice) (supplied : Supplied) (a b : List ℕ) → AreAlikeLogs choice a b → log_outcome choice supplied a ≡ log_outcome choice supplied b }
+{}
+
+/// A line that matches nothing may be left out, in any format and by `auto`: the dump, its comments and the status stay. Reasons give
+/// the lines behind it numbers that are one less, and count one line less.
+pub fn lines_that_match_nothing_may_be_left_out()
+    ensures { (choice : Choice) (supplied : Supplied) (longer shorter : List ℕ) (has : HasSpareLine choice longer shorter)
+        → ComeToSameWithout (1 + length has.before) (log_outcome choice supplied longer) (log_outcome choice supplied shorter) }
 {}
 
 /// A CR at the end of lines changes nothing, in any format: the texts and the status stay.
 pub fn returns_change_nothing()
-    ensures { (choice : Choice) (supplied : Supplied) (a b : List ℕ) → DifferInReturns a b → log_told choice supplied a ≡ log_told choice supplied b }
+    ensures { (choice : Choice) (supplied : Supplied) (a b : List ℕ) → DifferInReturns a b → log_outcome choice supplied a ≡ log_outcome choice supplied b }
 {}
 
 /// If the first line of a log that tells a format tells this one, `auto` comes to the same dump, comments and status as this format.
 pub fn auto_takes_the_first_format()
     ensures { (format : Format) (supplied : Supplied) (text : List ℕ) → TellsFirst format text
-        → ComeToSame (log_told Auto supplied text) (log_told (Only format) supplied text) }
+        → ComeToSame (log_outcome Auto supplied text) (log_outcome (Only format) supplied text) }
 {}
 
 /// Where the status isn't 0, nothing goes to standard output.
 pub fn reasons_come_alone()
-    ensures { (words : List (List ℕ)) (bytes : List ℕ) → (told_of words bytes).status ≢ Done → (told_of words bytes).notes ++ (told_of words bytes).dump ≡ [] }
+    ensures { (words : List (List ℕ)) (bytes : List ℕ) → (outcome_of words bytes).status ≢ Done → (outcome_of words bytes).notes ++ (outcome_of words bytes).dump ≡ [] }
 {}

@@ -1,12 +1,12 @@
-ghost use Rattle.std.specs.Prelude.{◌≡◌, ◌∷◌, [], ℕ, List, Bool, true, Some, codes};
+ghost use Rattle.std.specs.Prelude.{◌≡◌, ◌∷◌, [], ℕ, List, Bool, true, None, Some, codes};
 ghost use Rattle.mt_regs.specs.declared.registers.Register.TheVariants.{PhysBase, PhysMask};
 ghost use Rattle.mt_regs.specs.RegisterFile.{RegisterFile, pair_at};
 ghost use Rattle.mt_import.specs.declared.format.Choice.TheVariants.{Only};
 ghost use Rattle.mt_import.specs.declared.format.Format.TheVariants.{Coreboot, Edk2, Inteltool, Linux, Rdmsr, X86info, Xen};
 ghost use Rattle.mt_dump.specs.Canon.{ended};
-ghost use Rattle.mt_import.specs.Import.{log_told};
+ghost use Rattle.mt_import.specs.Import.{log_outcome};
 ghost use Rattle.mt_import.specs.Supplied.{Supplied, command_of};
-ghost use Rattle.mt_import_laws.specs.FirstLine.{LinesTellFirst};
+ghost use Rattle.mt_import_laws.specs.FirstLine.{IsOfNoHost, LinesTellFirst};
 ghost use Rattle.mt_import_laws.specs.Printed.{ReadsAs, TableReadsBack, TableReadsInOrder, TellsNoMore, TextReadsAs, TextReadsBack, dump_of_all};
 ghost use Rattle.mt_import_laws.specs.PrintedByCoreboot.{SuitsCoreboot, Tails, coreboot_lines, line_of as coreboot_line};
 ghost use Rattle.mt_import_laws.specs.PrintedByEdk2.{SuitsEdk2, edk2_lines, pair_line};
@@ -49,7 +49,7 @@ pub fn what_x86info_prints_reads_back()
 /// doesn't print. A word is for all processors.
 pub fn what_x86info_prints_of_all_reads_back()
     ensures { (cpus : List (Print × RegisterFile)) (supplied : Supplied) → SuitsX86infoOfAll cpus supplied
-        → ReadsAs (log_told (Only X86info) supplied (ended (cpu_lines 0 cpus))) (dump_of_all (files_in cpus)) }
+        → ReadsAs (log_outcome (Only X86info) supplied (ended (cpu_lines 0 cpus))) (dump_of_all (files_in cpus)) }
 {}
 
 /// What coreboot displays of a register file reads back as the file, if words supply its width and its PAT. So does any log that has
@@ -79,13 +79,22 @@ pub fn what_linux_prints_reads_back()
     ensures { (log : Log) (file : RegisterFile) (supplied : Supplied) → SuitsLinux log file supplied → TableReadsInOrder Linux (linux_lines log file) supplied file }
 {}
 
-/// The format of what inteltool and EDK2 print of a register file is told by its first line that tells one, so that `auto` takes it.
+/// The format of what inteltool, EDK2, coreboot and x86info print of a register file is told by its first line that tells one, so that
+/// `auto` takes it. Of coreboot and x86info the line of 0FEH may not have `kernel:` where journalctl and syslog have it.
 pub fn auto_takes_what_is_printed()
     ensures inteltool { (names : Names) (file : RegisterFile) (supplied : Supplied) → SuitsInteltool names file supplied → LinesTellFirst Inteltool 1 (inteltool_lines names file) }
     ensures edk2 { (file : RegisterFile) (supplied : Supplied) → SuitsEdk2 file supplied → LinesTellFirst Edk2 1 (edk2_lines file) }
+    ensures coreboot { (leveled : Bool) (tails : Tails) (file : RegisterFile) (supplied : Supplied) → SuitsCoreboot tails file supplied
+        → IsOfNoHost (coreboot_line leveled tails file None) → LinesTellFirst Coreboot 1 (coreboot_lines leveled tails file) }
+    ensures x86info { (print : Print) (file : RegisterFile) (supplied : Supplied) → SuitsX86info print file supplied
+        → IsOfNoHost (x86info_line print file None) → LinesTellFirst X86info 1 (x86info_lines print file) }
+    ensures several { (print : Print) (file : RegisterFile) (cpus : List (Print × RegisterFile)) (supplied : Supplied)
+        → SuitsX86infoOfAll ((print, file) ∷ cpus) supplied → IsOfNoHost (x86info_line print file None)
+        → LinesTellFirst X86info 1 (cpu_lines 0 ((print, file) ∷ cpus)) }
 {}
 
-/// What each program prints of an ordinary PC is an instance of `auto_takes_the_first_format`.
+/// What each program prints of an ordinary PC is an instance of `auto_takes_the_first_format`. Of coreboot and x86info it is one of
+/// `auto_takes_what_is_printed`.
 pub fn worked_formats()
     ensures rdmsr { LinesTellFirst Rdmsr 1 (rdmsr_lines ordinary_pc) }
     ensures inteltool { LinesTellFirst Inteltool 1 (inteltool_lines model_names ordinary_pc) }
@@ -95,6 +104,9 @@ pub fn worked_formats()
     ensures xen { LinesTellFirst Xen 1 (xen_lines ordinary_pc) }
     ensures linux { LinesTellFirst Linux 1 (linux_lines early_log ordinary_pc) }
     ensures other { LinesTellFirst Linux 1 (xen_lines ordinary_pc) → ⊥ }
+    ensures of_coreboot { IsOfNoHost (coreboot_line true some_tails ordinary_pc None) }
+    ensures of_x86info { IsOfNoHost (x86info_line x86info_print ordinary_pc None) }
+    ensures of_host { IsOfNoHost (codes "Nov 28 05:45:01 host kernel: MTRR default type: uncachable") → ⊥ }
 {}
 
 /// Lines that say no more of an ordinary PC's dump: another register, a register of its own, a line of `/proc/mtrr`, that lines of

@@ -1,7 +1,12 @@
-ghost use Rattle.std.specs.Prelude.{◌≡◌, ◌∷◌, ◌++◌, [], ℕ, List, codes, length};
+ghost use Rattle.std.specs.Prelude.{◌≡◌, ◌∷◌, ◌++◌, [], ℕ, List, codes, length, Some};
 ghost use Rattle.mt_text.specs.Text.{longest_line};
+ghost use Rattle.mt_import.specs.Readings.{starts};
+ghost use Rattle.mt_import.specs.declared.format.Choice.TheVariants.{Auto};
+ghost use Rattle.mt_import.specs.declared.format.Format.TheVariants.{Rdmsr};
+ghost use Rattle.mt_import_laws.specs.Origins.{context_after_lines};
 ghost use Rattle.mt_import_laws.specs.Returns.{DifferInReturns, GetsReturn};
-ghost use Rattle.mt_import_laws.specs.Worked.{IsWorked, IsWorkedFixed, IsWorkedSwitch, IsWorkedWord, returned_log, warning_log, worked_choice, worked_log};
+ghost use Rattle.mt_import_laws.specs.Worked.{IsWorked, IsWorkedFixed, IsWorkedSwitch, IsWorkedWord, headed_log, returned_log, spaced_log, warning_log, worked_choice, worked_log};
+ghost use Rattle.mt_import_laws.specs.Spare.{HasSpareLine, TakesNoneBack};
 ghost use Rattle.mt_import_laws.specs.Warnings.{HasWarning};
 
 /// An instance of `contradictions_are_faults`: the lines of a log of two lines are read, and contradict each other.
@@ -35,4 +40,13 @@ pub fn worked_returns()
     ensures stays { GetsReturn (codes "6") (codes "6") → ⊥ }
     ensures second { GetsReturn (codes "6" ++ 13 ∷ []) (codes "6" ++ 13 ∷ 13 ∷ []) → ⊥ }
     ensures longest { (line longer : List ℕ) → length line ≡ longest_line → GetsReturn line longer → ⊥ }
+{}
+
+/// Instances of `lines_that_match_nothing_may_be_left_out`: a log of rdmsr without a line of a shell's output, and `auto` without the
+/// line in front of the one that tells the format. A line between a call and its value isn't spare: it takes the call back.
+pub fn worked_spare_line()
+    ensures meets { HasSpareLine worked_choice spaced_log worked_log }
+    ensures by_auto { HasSpareLine Auto headed_log worked_log }
+    ensures waits { TakesNoneBack (context_after_lines (starts (Some Rdmsr)) 1 (codes "+ rdmsr 0x277" ∷ [])) 3 (codes "6" ∷ []) → ⊥ }
+    ensures takes_back { TakesNoneBack (context_after_lines (starts (Some Rdmsr)) 1 (codes "+ rdmsr 0x277" ∷ [])) 3 (codes "+ rdmsr 0x2ff" ∷ []) }
 {}

@@ -1,5 +1,5 @@
 use Rattle.std.proofs.Common.{◌∙◌, Some, ap, sym}
-use Rattle.mt_import.specs.declared.reading.Said.TheVariants.{Shows}
+use Rattle.mt_import.specs.declared.reading.LineSays.TheVariants.{Shows}
 use Rattle.mt_import.proofs.Kernels.{no_run, some_run}
 use Rattle.mt_import.proofs.kernel.types_said.Goals as goal
 

@@ -19,4 +19,7 @@ returns c = record {
     | inl told ↦ cc told
     | inr untold ↦ cc untold.0.none
   ];
+  of_coreboot = record { third = refl; fifth = refl };
+  of_x86info = record { third = refl; fifth = refl };
+  of_host = λ host. cc host.fifth;
 }

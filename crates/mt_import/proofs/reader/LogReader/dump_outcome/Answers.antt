@@ -4,7 +4,7 @@ use Rattle.mt_import.specs.Outcome.{notes_of, refusal, remarks}
 use Rattle.mt_import.specs.Reader.{known_in, slots_of, values_in}
 use Rattle.mt_import.specs.Values.{width_by}
 use Rattle.mt_import.proofs.Ends.{told_whole}
-use Rattle.mt_import.proofs.reader.LogReader.dump_told.Goals as goal
+use Rattle.mt_import.proofs.reader.LogReader.dump_outcome.Goals as goal
 
 pub dump-requires-clause-pairs : goal.dump-requires-clause-pairs
 dump-requires-clause-pairs c = c.requires.pairs c.in-Some-value.capabilities (sym c.value.ensures ∙ c.in-Some-value.is)

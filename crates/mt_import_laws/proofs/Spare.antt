@@ -1,0 +1,337 @@
+-- A line that matches nothing may be left out.
+use Rattle.std.proofs.Common.{◌≡◌, ◌≢◌, ◌∙◌, ◌+◌, ◌-◌, ◌≤◌, ◌<◌, nat_le, ℕ, Bool, true, false, List, [], ◌∷◌, ◌++◌, length, map, Option, Some, None, refl, sym, ap, subst, arith, length-append}
+use Rattle.std.specs.Prelude.{if◌then◌else◌}
+use Rattle.std.proofs.lemmas.Bool.Decides.{nat_tests}
+use Rattle.std.proofs.lemmas.List.{map-append}
+use Rattle.mt_text.specs.Text.{lines_of}
+use Rattle.mt_text.specs.declared.place.Place.{Place}
+use Rattle.mt_import.specs.declared.fault.ImportFault.{ImportFault}
+use Rattle.mt_import.specs.declared.fault.ImportFault.TheVariants.{Contradiction}
+use Rattle.mt_import.specs.declared.fault.Rival.TheVariants.{Line}
+use Rattle.mt_import.specs.declared.format.Choice.{Choice}
+use Rattle.mt_import.specs.declared.format.Format.{Format}
+use Rattle.mt_import.specs.declared.reading.Context.{Context}
+use Rattle.mt_import.specs.declared.reading.LineSays.{LineSays}
+use Rattle.mt_import.specs.declared.reading.LineSays.TheVariants.{Nothing, Announces, Value, Turns, Shows, Begins, FixedRanges, VariableRanges, Width, Warns, Long}
+use Rattle.mt_import.specs.declared.shape.Announced.{Announced}
+use Rattle.mt_import.specs.declared.shape.Shown.{Shown}
+use Rattle.mt_import.specs.declared.shape.Tally.{Tally}
+use Rattle.mt_import.specs.Import.{log_outcome}
+use Rattle.mt_import.specs.Outcome.{Seen, Slots, Outcome, dump_outcome, ended, ended_by, ended_with, facts_fault, firm_of, hint_of, is_empty, known_of, missing_of, notes_of, nothing_seen, or_fault, processors, refusal, remarks, seen_after, seen_with, slot_shown, unless, values_of, warning_text}
+use Rattle.mt_import.specs.Pieces.{shown_as}
+use Rattle.mt_import.specs.Readings.{Fact, context_after, fixed_facts, fixed_line, fixed_shows, is_fault, is_fixed_clash, is_line, is_match, is_register, is_register_value, is_warning, is_width, line_facts, reading_facts, said_facts, shown_facts, shows_facts, starts, value_facts, variable_shows}
+use Rattle.mt_import.specs.Shown.{chosen, context_behind, facts_from, facts_of_line, format_of, is_auto, said_in, shown}
+use Rattle.mt_import.specs.Supplied.{Supplied}
+use Rattle.mt_import.specs.Values.{Known, width_by}
+use Rattle.mt_import.proofs.Facts.{fault_append, seen_append}
+use Rattle.mt_import_laws.specs.FirstLine.{ComeToSame}
+use Rattle.mt_import_laws.specs.Origins.{context_after_lines, seen_of}
+use Rattle.mt_import_laws.specs.Spare.{AreMovedReasons, ComeToSameWithout, HasSpareLine, NoValueFirst, TakesNoneBack, moved_fault, no_value_next, none_waits, number_without, of_count, of_fault, one_line_less, same_reasons}
+use Rattle.mt_import_laws.proofs.TableLines.{facts_split}
+use Rattle.mt_import_laws.proofs.MovedFacts.{Moves, all_slots, context_moved, facts_moved, fault_moved, moved_context, moved_fact, moved_faults, moved_seen, moved_slot, same_processors, seen_moved}
+
+-- ---- the count of lines and the format
+
+-- Such facts keep them.
+abbrev Keeps : List Fact → Type 0
+Keeps facts = (seen : Seen) → ((seen_after seen facts).tally.lines ≡ seen.tally.lines) × ((seen_after seen facts).tally.format ≡ seen.tally.format)
+
+keeps_if : (test : Bool) (xs ys : List Fact) → Keeps xs → Keeps ys → Keeps (if test then xs else ys)
+keeps_if true xs ys one two = one
+keeps_if false xs ys one two = two
+
+keeps_reading : (processor table : ℕ) (s : Shown) → Keeps (reading_facts processor table s)
+keeps_reading processor table s =
+    keeps_if (is_register s.number) (is_register_value (record { processor = processor; table = table; number = s.number; bits = s.bits; value = s.value; place = s.place }) ∷ []) [] (λ seen. (refl, refl)) (λ seen. (refl, refl))
+
+keeps_shown : (processor table : ℕ) (s : Option Shown) → Keeps (shown_facts processor table s)
+keeps_shown processor table None seen = (refl, refl)
+keeps_shown processor table (Some s) seen = keeps_reading processor table s seen
+
+keeps_shows : (processor table : ℕ) (shows : List (Option Shown)) → Keeps (shows_facts processor table shows)
+keeps_shows processor table [] seen = (refl, refl)
+keeps_shows processor table (s ∷ shows) seen =
+    let both = seen_append seen (shown_facts processor table s) (shows_facts processor table shows) in
+    let here = keeps_shown processor table s seen in
+    let later = keeps_shows processor table shows (seen_after seen (shown_facts processor table s)) in
+    (ap (λ (x : Seen). x.tally.lines) both ∙ later.0 ∙ here.0, ap (λ (x : Seen). x.tally.format) both ∙ later.1 ∙ here.1)
+
+keeps_value : (announced : Option Announced) (table value : ℕ) (place : Place) → Keeps (value_facts announced table value place)
+keeps_value None table value place seen = (refl, refl)
+keeps_value (Some announced) table value place seen = keeps_shown announced.processor table (shown_as announced.number value place) seen
+
+keeps_fixed : (context : Context) (enabled alone : Bool) (place : Place) → Keeps (fixed_facts context enabled alone place)
+keeps_fixed context enabled alone place =
+    keeps_if (is_fixed_clash context.fixed enabled) (is_fault (Contradiction place 0x2ff (Line (fixed_line context.fixed))) ∷ []) (shows_facts 0 context.table (fixed_shows enabled alone place))
+    (λ seen. (refl, refl)) (keeps_shows 0 context.table (fixed_shows enabled alone place))
+
+keeps_said : (context : Context) (said : LineSays) → Keeps (said_facts context said)
+keeps_said context Nothing seen = (refl, refl)
+keeps_said context (Announces processor number) seen = (refl, refl)
+keeps_said context (Value value place) seen = keeps_value context.announced context.table value place seen
+keeps_said context (Turns processor) seen = (refl, refl)
+keeps_said context (Shows processor shows) seen = keeps_shows _ context.table shows seen
+keeps_said context (Begins shows) seen = keeps_shows 0 _ shows seen
+keeps_said context (FixedRanges enabled alone place) seen = keeps_fixed context enabled alone place seen
+keeps_said context (VariableRanges enabled place) seen = keeps_shows 0 context.table (variable_shows context enabled place) seen
+keeps_said context (Width width place) seen = (refl, refl)
+keeps_said context Warns seen = (refl, refl)
+keeps_said context (Long place) seen = (refl, refl)
+
+-- All lines in front of this number are counted, and the format is the one that they lead to.
+record IsTallied (context : Context) (number : ℕ) (seen : Seen) : Type 0 where
+  lines : seen.tally.lines + 1 ≡ number
+  format : seen.tally.format ≡ context.format
+
+tallied : (lines : List (List ℕ)) (context : Context) (number : ℕ) (seen : Seen) → IsTallied context number seen
+    → IsTallied (context_after_lines context number lines) (number + length lines) (seen_after seen (facts_from context number lines))
+tallied [] context number seen is = let e : number ≡ number + 0 = omega arith in record { lines = is.lines ∙ e; format = is.format }
+tallied (line ∷ lines) context number seen is =
+    let said : LineSays = said_in (chosen context.format number line) number line in
+    let counted : Seen = seen_with seen (is_line number (chosen context.format number line) (is_match said)) in
+    let kept = keeps_said context said counted in
+    let behind : Seen = seen_after seen (facts_of_line context number line) in
+    let later = tallied lines (context_behind context number line) (number + 1) behind (record { lines = ap (λ n. n + 1) kept.0; format = kept.1 }) in
+    let joined = seen_append seen (facts_of_line context number line) (facts_from (context_behind context number line) (number + 1) lines) in
+    let e : number + 1 + length lines ≡ number + length (line ∷ lines) = omega arith in
+    record { lines = ap (λ (x : Seen). x.tally.lines + 1) joined ∙ later.lines ∙ e; format = ap (λ (x : Seen). x.tally.format) joined ∙ later.format }
+
+-- ---- a call that waits for its value
+
+abbrev quiet : Context → Context
+quiet context = record { format = context.format; announced = None; processor = context.processor; table = context.table; fixed = context.fixed }
+
+record IsQuiet (context : Context) (format : Option Format) (said : LineSays) : Type 0 where
+  facts : said_facts (quiet context) said ≡ said_facts context said
+  behind : context_after (quiet context) format said ≡ context_after context format said
+
+-- What is no value doesn't ask for the call.
+no_value : (context : Context) (format : Option Format) (said : LineSays) → ((value : ℕ) (place : Place) → said ≢ Value value place) → IsQuiet context format said
+no_value context format Nothing other = record { facts = refl; behind = refl }
+no_value context format (Announces processor number) other = record { facts = refl; behind = refl }
+no_value context format (Value value place) other = absurd (other value place refl)
+no_value context format (Turns processor) other = record { facts = refl; behind = refl }
+no_value context format (Shows processor shows) other = record { facts = refl; behind = refl }
+no_value context format (Begins shows) other = record { facts = refl; behind = refl }
+no_value context format (FixedRanges enabled alone place) other = record { facts = refl; behind = refl }
+no_value context format (VariableRanges enabled place) other = record { facts = refl; behind = refl }
+no_value context format (Width width place) other = record { facts = refl; behind = refl }
+no_value context format Warns other = record { facts = refl; behind = refl }
+no_value context format (Long place) other = record { facts = refl; behind = refl }
+
+quiet_facts : (context : Context) (number : ℕ) (others : List (List ℕ)) → TakesNoneBack context number others → facts_from (quiet context) number others ≡ facts_from context number others
+quiet_facts context number others (none_waits none) =
+    ap (λ waiting. facts_from (record { format = context.format; announced = waiting; processor = context.processor; table = context.table; fixed = context.fixed }) number others) (sym none)
+quiet_facts context number [] (no_value_next next) = refl
+quiet_facts context number (line ∷ lines) (no_value_next next) =
+    let format : Option Format = chosen context.format number line in
+    let said : LineSays = said_in format number line in
+    let same = no_value context format said next in
+    ap (λ (fs : List Fact). is_line number format (is_match said) ∷ fs ++ facts_from (context_after (quiet context) format said) (number + 1) lines) same.facts
+    ∙ ap (λ (c : Context). is_line number format (is_match said) ∷ said_facts context said ++ facts_from c (number + 1) lines) same.behind
+
+-- ---- numbers
+
+module _ (at : ℕ) where
+  abbrev move : ℕ → ℕ
+  move = number_without at
+
+  zero_stays : move 0 ≡ 0
+  zero_stays = by (nat_le at 0)
+    where
+      by : (test : Bool) → (if test then 0 - 1 else 0) ≡ 0
+      by true = refl
+      by false = refl
+
+  below : (number : ℕ) → number < at → move number ≡ number
+  below number less = grind (arith, nat_tests, less)
+
+  above : (number : ℕ) → at ≤ number → move number ≡ number - 1
+  above number more = grind (arith, nat_tests, more)
+
+  stay : (lines : List (List ℕ)) (number : ℕ) → number + length lines ≤ at → Moves move number number lines
+  stay [] number few = tt
+  stay (line ∷ lines) number few = (below number (omega (arith, few)), stay lines (number + 1) (omega (arith, few)))
+
+  shift : (lines : List (List ℕ)) (number : ℕ) → at ≤ number → Moves move (number + 1) number lines
+  shift [] number from = tt
+  shift (line ∷ lines) number from =
+      let e : number + 1 - 1 ≡ number = omega arith in
+      (above (number + 1) (omega (arith, from)) ∙ e, shift lines (number + 1) (omega (arith, from)))
+
+-- ---- the outcome
+
+-- The texts but for counts of lines don't depend on which lines show.
+module _ (move : ℕ → ℕ) (supplied : Supplied) (slots : Slots) (known : Known) where
+  abbrev moved : Slots
+  moved k number = moved_slot move (slots k number)
+
+  same_missing : (count : ℕ) → missing_of supplied moved count known ≡ missing_of supplied slots count known
+  unfolding values_of hint_of
+  same_missing count = refl
+
+  same_notes : (count : ℕ) → notes_of supplied moved count known ≡ notes_of supplied slots count known
+  unfolding values_of firm_of
+  same_notes count = refl
+
+  same_values : values_of supplied moved known ≡ values_of supplied slots known
+  unfolding values_of
+  same_values = refl
+
+  same_width : width_by supplied moved known.width ≡ width_by supplied slots known.width
+  same_width = refl
+
+  pub unmoved : (auto : Bool) (count : ℕ) (tally : Tally) → ended_with auto supplied moved count known tally ≡ ended_with auto supplied slots count known tally
+  unmoved auto count tally =
+      ap (λ m. ended_by m (notes_of supplied moved count known) tally auto (values_of supplied moved known) count (width_by supplied moved known.width)) (same_missing count)
+      ∙ ap (λ n. ended_by (missing_of supplied slots count known) n tally auto (values_of supplied moved known) count (width_by supplied moved known.width)) (same_notes count)
+      ∙ ap (λ v. ended_by (missing_of supplied slots count known) (notes_of supplied slots count known) tally auto v count (width_by supplied moved known.width)) same_values
+      ∙ ap (ended_by (missing_of supplied slots count known) (notes_of supplied slots count known) tally auto (values_of supplied slots known) count) same_width
+
+module _ (at : ℕ) where
+  remarked : (auto : Bool) (tally : Tally) → AreMovedReasons at (remarks auto tally) (remarks auto (one_line_less tally))
+  remarked true tally = of_count tally (warning_text tally.warned) refl refl
+  remarked false tally = same_reasons refl
+
+  refused : (tally : Tally) (missing : List ℕ) → ComeToSameWithout at (refusal tally missing) (refusal (one_line_less tally) missing)
+  refused tally missing = record { same = record { notes = refl; dump = refl; status = refl }; reasons = of_count tally (warning_text tally.warned ++ missing) refl refl }
+
+  dumped : (auto : Bool) (missing notes : List ℕ) (tally : Tally) (values : ℕ → ℕ → Option ℕ) (count : ℕ) (width capabilities : Option ℕ)
+      → ComeToSameWithout at (dump_outcome (refusal tally missing) values count notes (remarks auto tally) width capabilities)
+      (dump_outcome (refusal (one_line_less tally) missing) values count notes (remarks auto (one_line_less tally)) width capabilities)
+  dumped auto missing notes tally values count (Some width) (Some capabilities) = record { same = record { notes = refl; dump = refl; status = refl }; reasons = remarked auto tally }
+  dumped auto missing notes tally values count (Some width) None = refused tally missing
+  dumped auto missing notes tally values count None capabilities = refused tally missing
+
+  less : (auto : Bool) (missing notes : List ℕ) (tally : Tally) (values : ℕ → ℕ → Option ℕ) (count : ℕ) (width : Option ℕ)
+      → ComeToSameWithout at (ended_by missing notes tally auto values count width) (ended_by missing notes (one_line_less tally) auto values count width)
+  less auto missing notes tally values count width = by (is_empty missing)
+    where
+      by : (test : Bool)
+          → ComeToSameWithout at (if test then dump_outcome (refusal tally missing) values count notes (remarks auto tally) width (values 0 0xfe) else refusal tally missing)
+          (if test then dump_outcome (refusal (one_line_less tally) missing) values count notes (remarks auto (one_line_less tally)) width (values 0 0xfe) else refusal (one_line_less tally) missing)
+      by true = dumped auto missing notes tally values count width (values 0 0xfe)
+      by false = refused tally missing
+
+  moved_ended : (auto : Bool) (supplied : Supplied) (seen : Seen) → 1 ≤ seen.tally.lines → at ≤ seen.tally.lines
+      → ComeToSameWithout at (ended auto supplied seen) (ended auto supplied (moved_seen (number_without at) seen))
+  moved_ended auto supplied seen some later =
+      let slots : Slots = slot_shown seen.readings in
+      let known : Known = known_of seen in
+      let tally : Tally = (moved_seen (number_without at) seen).tally in
+      let fewer : tally ≡ one_line_less seen.tally = ap (λ n. let t : Tally = record { format = seen.tally.format; lines = n; matches = seen.tally.matches; warned = seen.tally.warned } in t) (above at seen.tally.lines later) in
+      let same : ended_with auto supplied slots (processors seen.readings) known (one_line_less seen.tally) ≡ ended auto supplied (moved_seen (number_without at) seen) =
+      ap (ended_with auto supplied slots (processors seen.readings) known) (sym fewer)
+      ∙ sym (unmoved (number_without at) supplied slots known auto (processors seen.readings) tally)
+      ∙ ap (λ (s : Slots). ended_with auto supplied s (processors seen.readings) known tally) (all_slots (number_without at) (zero_stays at) seen.readings)
+      ∙ ap (λ count. ended_with auto supplied (slot_shown (moved_seen (number_without at) seen).readings) count known tally) (sym (same_processors (number_without at) (zero_stays at) seen.readings)) in
+      subst (ComeToSameWithout at (ended auto supplied seen)) same
+      (less auto (missing_of supplied slots (processors seen.readings) known) (notes_of supplied slots (processors seen.readings) known) seen.tally (values_of supplied slots known) (processors seen.readings)
+      (width_by supplied slots known.width))
+
+  by_fault : (fault : Option ImportFault) (longer shorter : Outcome) → ComeToSameWithout at longer shorter → ComeToSameWithout at (unless fault longer) (unless (moved_faults (number_without at) fault) shorter)
+  by_fault None longer shorter same = same
+  by_fault (Some fault) longer shorter same = record { same = record { notes = refl; dump = refl; status = refl }; reasons = of_fault fault refl refl }
+
+-- ---- the two logs
+
+module _ (choice : Choice) (supplied : Supplied) (longer shorter : List ℕ) (has : HasSpareLine choice longer shorter) where
+  abbrev at : ℕ
+  at = 1 + length has.before
+
+  abbrev start : Seen
+  start = nothing_seen (format_of choice)
+
+  abbrev context : Context
+  context = context_after_lines (starts (format_of choice)) 1 has.before
+
+  abbrev first : List Fact
+  first = facts_from (starts (format_of choice)) 1 has.before
+
+  abbrev blank : Fact
+  blank = is_line at context.format false
+
+  abbrev later : ℕ → List Fact
+  later number = facts_from context number has.others
+
+  -- what the spare line leads to
+  of_spare : {A : Type 0} (f : Option Format → LineSays → A) → f (chosen context.format at has.line) (said_in (chosen context.format at has.line) at has.line) ≡ f context.format Nothing
+  of_spare f = ap (λ o. f o (said_in o at has.line)) has.spare.0 ∙ ap (f context.format) has.spare.1
+
+  longer_facts : shown (format_of choice) longer ≡ first ++ blank ∷ later (at + 1)
+  longer_facts =
+      ap (facts_from (starts (format_of choice)) 1) has.longer_lines
+      ∙ facts_split has.before (starts (format_of choice)) 1 (has.line ∷ has.others)
+      ∙ ap (λ (fs : List Fact). first ++ fs)
+      (ap (λ (fs : List Fact). fs ++ facts_from (context_behind context at has.line) (at + 1) has.others) (of_spare (λ format said. line_facts at format context said))
+      ∙ ap (λ (c : Context). blank ∷ facts_from c (at + 1) has.others) (of_spare (λ format said. context_after context format said))
+      ∙ ap (λ (fs : List Fact). blank ∷ fs) (quiet_facts context (at + 1) has.others has.takes_none_back))
+
+  shorter_facts : shown (format_of choice) shorter ≡ first ++ later at
+  shorter_facts = ap (facts_from (starts (format_of choice)) 1) has.shorter_lines ∙ facts_split has.before (starts (format_of choice)) 1 has.others
+
+  same_context : moved_context (number_without at) context ≡ context
+  same_context = context_moved (number_without at) has.before (starts (format_of choice)) 1 1 (stay at has.before 1 (omega arith))
+
+  abbrev moved_blank : Fact
+  moved_blank = is_line (number_without at at) context.format false
+
+  moved_facts : map (moved_fact (number_without at)) (shown (format_of choice) longer) ≡ first ++ moved_blank ∷ later at
+  moved_facts =
+      ap (map (moved_fact (number_without at))) longer_facts
+      ∙ map-append (moved_fact (number_without at)) first (blank ∷ later (at + 1))
+      ∙ ap (λ (fs : List Fact). fs ++ moved_blank ∷ map (moved_fact (number_without at)) (later (at + 1)))
+      (facts_moved (number_without at) has.before (starts (format_of choice)) 1 1 (stay at has.before 1 (omega arith)))
+      ∙ ap (λ (fs : List Fact). first ++ moved_blank ∷ fs)
+      (facts_moved (number_without at) has.others context (at + 1) at (shift at has.others at (omega arith)) ∙ ap (λ (c : Context). facts_from c at has.others) same_context)
+
+  abbrev behind : Seen
+  behind = seen_after start first
+
+  is_tallied : IsTallied context at behind
+  is_tallied = tallied has.before (starts (format_of choice)) 1 start (record { lines = refl; format = refl })
+
+  -- The line that is left out would count for what is counted already.
+  same_behind : seen_with behind moved_blank ≡ behind
+  same_behind =
+      let number : number_without at at ≡ behind.tally.lines = let e = is_tallied.lines in above at at (omega arith) ∙ omega (arith, e) in
+      ap (λ n. seen_with behind (is_line n context.format false)) number ∙ ap (λ f. seen_with behind (is_line behind.tally.lines f false)) (sym is_tallied.format)
+
+  start_stays : moved_seen (number_without at) start ≡ start
+  start_stays =
+      ap (λ n. let s : Seen = record { width = None; line_of_width = n; readings = []; tally = record { format = format_of choice; lines = n; matches = 0; warned = false } } in s) (zero_stays at)
+
+  same_fault : moved_faults (number_without at) (facts_fault supplied start (shown (format_of choice) longer)) ≡ facts_fault supplied start (shown (format_of choice) shorter)
+  same_fault =
+      fault_moved (number_without at) (zero_stays at) supplied (shown (format_of choice) longer) start
+      ∙ ap (λ (s : Seen). facts_fault supplied s (map (moved_fact (number_without at)) (shown (format_of choice) longer))) start_stays
+      ∙ ap (facts_fault supplied start) moved_facts
+      ∙ fault_append supplied start first (moved_blank ∷ later at)
+      ∙ ap (λ (s : Seen). or_fault (facts_fault supplied start first) (facts_fault supplied s (later at))) same_behind
+      ∙ sym (fault_append supplied start first (later at))
+      ∙ ap (facts_fault supplied start) (sym shorter_facts)
+
+  same_seen : moved_seen (number_without at) (seen_of choice longer) ≡ seen_of choice shorter
+  same_seen =
+      seen_moved (number_without at) (zero_stays at) supplied (shown (format_of choice) longer) start
+      ∙ ap (λ (s : Seen). seen_after s (map (moved_fact (number_without at)) (shown (format_of choice) longer))) start_stays
+      ∙ ap (seen_after start) moved_facts
+      ∙ seen_append start first (moved_blank ∷ later at)
+      ∙ ap (λ (s : Seen). seen_after s (later at)) same_behind
+      ∙ sym (seen_append start first (later at))
+      ∙ ap (seen_after start) (sym shorter_facts)
+
+  counts_all : at ≤ (seen_of choice longer).tally.lines
+  counts_all =
+      let all = (tallied (lines_of longer) (starts (format_of choice)) 1 start (record { lines = refl; format = refl })).lines in
+      let size : length (lines_of longer) ≡ length (has.before ++ has.line ∷ has.others) = ap length has.longer_lines in
+      let parts = length-append has.before (has.line ∷ has.others) in
+      omega (arith, all, size, parts)
+
+  pub without : ComeToSameWithout at (log_outcome choice supplied longer) (log_outcome choice supplied shorter)
+  without =
+      let some = counts_all in
+      subst (λ f. ComeToSameWithout at (log_outcome choice supplied longer) (unless f (ended (is_auto choice) supplied (seen_of choice shorter)))) same_fault
+      (by_fault at (facts_fault supplied start (shown (format_of choice) longer)) (ended (is_auto choice) supplied (seen_of choice longer)) (ended (is_auto choice) supplied (seen_of choice shorter))
+      (subst (λ (s : Seen). ComeToSameWithout at (ended (is_auto choice) supplied (seen_of choice longer)) (ended (is_auto choice) supplied s)) same_seen
+      (moved_ended at (is_auto choice) supplied (seen_of choice longer) (omega (arith, some)) some)))

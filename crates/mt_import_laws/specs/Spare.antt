@@ -1,0 +1,80 @@
+-- Logs of which one has a line more, that matches nothing (own).
+--     HasSpareLine choice longer shorter      so it is of two texts
+--     ComeToSameWithout at longer shorter      two outcomes agree, and reasons count without the line of this number
+use Rattle.std.specs.Prelude.{ℕ, ◌≡◌, ◌≢◌, ◌+◌, ◌-◌, nat_le, ⊤, List, [], ◌∷◌, ◌++◌, length, if◌then◌else◌, None}
+use Rattle.mt_text.specs.Text.{lines_of}
+use Rattle.mt_text.specs.declared.place.Place.{Place}
+use Rattle.mt_import.specs.declared.fault.ImportFault.{ImportFault}
+use Rattle.mt_import.specs.declared.fault.ImportFault.TheVariants.{LongLine, BadProcessor, TooManyPairs, BadWidth, Contradiction, WidthContradiction}
+use Rattle.mt_import.specs.declared.fault.Rival.{Rival}
+use Rattle.mt_import.specs.declared.fault.Rival.TheVariants.{Line, Word, CapabilityLine, CapabilityWord, RegisterLine}
+use Rattle.mt_import.specs.declared.format.Choice.{Choice}
+use Rattle.mt_import.specs.declared.reading.Context.{Context}
+use Rattle.mt_import.specs.declared.reading.LineSays.TheVariants.{Value}
+use Rattle.mt_import.specs.declared.shape.Tally.{Tally}
+use Rattle.mt_import.specs.Outcome.{Outcome, count_line, fault_line}
+use Rattle.mt_import.specs.Readings.{starts}
+use Rattle.mt_import.specs.Shown.{chosen, format_of, said_in}
+use Rattle.mt_import_laws.specs.Alike.{MatchesNothing}
+use Rattle.mt_import_laws.specs.FirstLine.{ComeToSame}
+use Rattle.mt_import_laws.specs.Origins.{context_after_lines}
+
+-- ---- the logs
+
+-- the first of these lines isn't a value alone
+abbrev pub NoValueFirst : Context → ℕ → List (List ℕ) → Type 0
+NoValueFirst context number [] = ⊤
+NoValueFirst context number (line ∷ lines) = (value : ℕ) (place : Place) → said_in (chosen context.format number line) number line ≢ Value value place
+
+-- No call waits for its value, or no value comes next: any line between them takes the call back.
+pub data TakesNoneBack (context : Context) (number : ℕ) (others : List (List ℕ)) : Type 0 where
+  none_waits : context.announced ≡ None → TakesNoneBack context number others
+  no_value_next : NoValueFirst context number others → TakesNoneBack context number others
+
+-- A line of the longer log matches nothing. Without it the shorter log has the same lines.
+pub record HasSpareLine (choice : Choice) (longer shorter : List ℕ) : Type 0 where
+  pub before : List (List ℕ)
+  pub line : List ℕ
+  pub others : List (List ℕ)
+  pub longer_lines : lines_of longer ≡ before ++ line ∷ others
+  pub shorter_lines : lines_of shorter ≡ before ++ others
+  pub spare : MatchesNothing (context_after_lines (starts (format_of choice)) 1 before) (1 + length before) line
+  pub takes_none_back : TakesNoneBack (context_after_lines (starts (format_of choice)) 1 before) (1 + length before + 1) others
+
+-- ---- the outcomes
+
+-- a line's number once the line of this number is gone
+abbrev pub number_without : ℕ → ℕ → ℕ
+number_without at number = if nat_le at number then number - 1 else number
+
+-- a fault whose lines have other numbers
+abbrev pub moved_place : (ℕ → ℕ) → Place → Place
+moved_place move place = record { line = move place.line; column = place.column }
+
+abbrev pub moved_rival : (ℕ → ℕ) → Rival → Rival
+moved_rival move (Line number) = Line (move number)
+moved_rival move Word = Word
+moved_rival move (CapabilityLine number) = CapabilityLine (move number)
+moved_rival move CapabilityWord = CapabilityWord
+moved_rival move (RegisterLine number) = RegisterLine (move number)
+
+abbrev pub moved_fault : (ℕ → ℕ) → ImportFault → ImportFault
+moved_fault move (LongLine place) = LongLine (moved_place move place)
+moved_fault move (BadProcessor place) = BadProcessor (moved_place move place)
+moved_fault move (TooManyPairs place) = TooManyPairs (moved_place move place)
+moved_fault move (BadWidth place) = BadWidth (moved_place move place)
+moved_fault move (Contradiction place number rival) = Contradiction (moved_place move place) number (moved_rival move rival)
+moved_fault move (WidthContradiction place rival) = WidthContradiction (moved_place move place) (moved_rival move rival)
+
+abbrev pub one_line_less : Tally → Tally
+one_line_less tally = record { format = tally.format; lines = tally.lines - 1; matches = tally.matches; warned = tally.warned }
+
+-- The reasons are the same, or the same fault with the lines' new numbers, or they count one line less.
+pub data AreMovedReasons (at : ℕ) (longer shorter : List ℕ) : Type 0 where
+  same_reasons : longer ≡ shorter → AreMovedReasons at longer shorter
+  of_fault : (fault : ImportFault) → longer ≡ fault_line fault → shorter ≡ fault_line (moved_fault (number_without at) fault) → AreMovedReasons at longer shorter
+  of_count : (tally : Tally) (others : List ℕ) → longer ≡ count_line tally ++ others → shorter ≡ count_line (one_line_less tally) ++ others → AreMovedReasons at longer shorter
+
+pub record ComeToSameWithout (at : ℕ) (longer shorter : Outcome) : Type 0 where
+  pub same : ComeToSame longer shorter
+  pub reasons : AreMovedReasons at longer.reasons shorter.reasons
