@@ -22,9 +22,9 @@ pub returns-in-Ok-grained_text-clause-bytes : goal.returns-in-Ok-grained_text-cl
 returns-in-Ok-grained_text-clause-bytes g c =
     answers_with (FileAnswer c.args.f.now (Gran c.args.log c.args.spare c.args.chunk)) _ _ _ _ _ _
     (grained c.args.log c.args.spare c.args.chunk c.in-Ok.grained.tidied.used c.in-Ok.grained.lost c.in-Ok.grained.parts c.in-Ok.grained.tidied.file c.in-Ok.ensures.ok)
-    (c.as_slice.ensures.value ∙ c.in-Ok-grained_text.ensures
+    (c.as_slice-in-Ok-grained_text.ensures.value ∙ c.in-Ok-grained_text.ensures
     ∙ ap (λ (parts : List Run). parts_text parts ++ lost_line c.in-Ok.grained.lost ++ used_line c.in-Ok.grained.tidied.used ++ canon (dump_of c.in-Ok.grained.tidied.file)) c.as_slice-parts.ensures.runs)
-    c.written.ensures.bytes
+    c.written-in-Ok-grained_text.ensures.bytes
 
 pub returns-then-not-is_enabled-clause-bytes : goal.returns-then-not-is_enabled-clause-bytes
 returns-then-not-is_enabled-clause-bytes g c =
@@ -35,4 +35,4 @@ returns-then-not-is_enabled-clause-bytes g c =
 pub returns-in-Err-clause-bytes : goal.returns-in-Err-clause-bytes
 returns-in-Err-clause-bytes g c =
     answers_with (FileAnswer c.args.f.now (Gran c.args.log c.args.spare c.args.chunk)) _ _ _ _ _ _ (gran_too_few c.args.log c.args.spare c.args.chunk c.in-Err.field-0.needs c.in-Err.field-0.has c.in-Err.ensures.err)
-    (c.as_slice.ensures.value ∙ c.too_few_line.ensures) c.written.ensures.bytes
+    (c.as_slice-in-Err.ensures.value ∙ c.too_few_line.ensures) c.written-in-Err.ensures.bytes
