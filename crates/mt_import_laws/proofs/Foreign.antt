@@ -1,5 +1,5 @@
 -- Words that are no line of a kernel.
-use Rattle.std.proofs.Common.{◌≡◌, ◌∙◌, ◌==◌, ◌&&◌, ℕ, Bool, true, false, List, length, refl, sym, ap, inl, inr, codes}
+use Rattle.std.proofs.Common.{◌≡◌, ◌∙◌, ◌==◌, ◌&&◌, ℕ, Bool, true, false, List, length, refl, ap, inl, inr, codes}
 use Rattle.std.specs.Prelude.{◌⊎◌, if◌then◌else◌, is_some}
 use Rattle.mt_text.specs.Words.{text_of}
 use Rattle.mt_import.specs.declared.reading.LineSays.{LineSays}

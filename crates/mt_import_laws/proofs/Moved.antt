@@ -1,9 +1,7 @@
 -- What a line says depends on its number by its places alone.
-use Rattle.std.proofs.Common.{◌≡◌, ◌∙◌, ◌+◌, ◌*◌, ◌-◌, ◌==◌, ◌&&◌, not, nat_lt, ℕ, zero, suc, Bool, true, false, List, [], ◌∷◌, drop, length, map, take, Option, Some, None, Result, Ok, Err, refl, sym, ap, codes}
+use Rattle.std.proofs.Common.{◌≡◌, ◌∙◌, ◌+◌, ℕ, zero, suc, Bool, true, false, List, ◌∷◌, map, take, Option, Some, None, Result, Ok, Err, refl, sym, ap, codes}
 use Rattle.std.specs.Prelude.{if◌then◌else◌}
-use Rattle.mt_text.specs.Number.{hex_number}
-use Rattle.mt_text.specs.Text.{is_too_long, without_return, words_of}
-use Rattle.mt_text.specs.Words.{place_of, text_of}
+use Rattle.mt_text.specs.Text.{without_return, words_of}
 use Rattle.mt_text.specs.declared.fault.NumberFault.{NumberFault}
 use Rattle.mt_text.specs.declared.place.Place.{Place}
 use Rattle.mt_import.specs.declared.format.Format.{Format}
@@ -13,13 +11,13 @@ use Rattle.mt_import.specs.declared.reading.LineSays.TheVariants.{Nothing, Annou
 use Rattle.mt_import.specs.declared.shape.Shown.{Shown}
 use Rattle.mt_import.specs.Pieces.{behind, shows_one, shows_width, value_at}
 use Rattle.mt_import.specs.Readings.{one_shown, two_shown}
-use Rattle.mt_import.specs.Coreboot.{flag_said, fixed_of, level_words, other_from, pair_from, said_from, said_of_id, set_from, shows_pair as shows_set_pair, size_from}
+use Rattle.mt_import.specs.Coreboot.{flag_said, fixed_of, level_words, other_from, said_from, said_of_id, set_from, shows_pair as shows_set_pair, size_from}
 use Rattle.mt_import.specs.Edk2.{said_by_words as edk2_words, shows_pair}
 use Rattle.mt_import.specs.Inteltool.{said_by_words as inteltool_words, turned_by as turned_to_core, turned_to as turned_to_core_number}
-use Rattle.mt_import.specs.Kernel.{addresses_said, all_fixed_shown, default_shown, disabled_said, fixed_by, fixed_said, fixed_shown, head_said, kernel_said, pair_said, run_said, types_said, variable_said}
+use Rattle.mt_import.specs.Kernel.{addresses_said, all_fixed_shown, default_shown, disabled_said, fixed_said, fixed_shown, head_said, kernel_said, pair_said, run_said, types_said, variable_said}
 use Rattle.mt_import.specs.LineWords.{head_end, words_behind}
-use Rattle.mt_import.specs.Linux.{cleanup_said, count_said, is_map, linux_words_said, map_said, pair_shown, pat_changed, pat_said, region_by, region_said, size_shown}
-use Rattle.mt_import.specs.Rdmsr.{announced, call_behind, call_from, call_said, column_said, option_at, said_by_words as rdmsr_words, said_value}
+use Rattle.mt_import.specs.Linux.{cleanup_said, count_said, is_map, linux_words_said, map_said, pair_shown, pat_changed, pat_said, region_said, size_shown}
+use Rattle.mt_import.specs.Rdmsr.{announced, call_behind, call_from, option_at, said_by_words as rdmsr_words, said_value}
 use Rattle.mt_import.specs.X86info.{said_by, said_by_words as x86info_words, sizes_by_words, turned_by as turned_to_cpu, turned_to as turned_to_number}
 use Rattle.mt_import.specs.Shown.{chosen, format_told, is_telling, said_by_line, said_in, said_in_each, said_of, said_or_sizes, tells}
 use Rattle.mt_import_laws.specs.Spare.{moved_place}

@@ -1,5 +1,5 @@
 -- Lines with other numbers come to the same facts, faults and readings but for the lines that they name.
-use Rattle.std.proofs.Common.{◌≡◌, ◌∙◌, ◌+◌, ◌==◌, ◌&&◌, ◌||◌, nat_lt, max, ℕ, Bool, true, false, List, [], ◌∷◌, ◌++◌, bit_or, map, Option, Some, None, refl, sym, ap}
+use Rattle.std.proofs.Common.{◌≡◌, ◌∙◌, ◌+◌, ◌==◌, ◌&&◌, nat_lt, max, ℕ, Bool, true, false, List, [], ◌∷◌, ◌++◌, bit_or, map, Option, Some, None, refl, sym, ap}
 use Rattle.std.specs.Prelude.{⊤, if◌then◌else◌, unwrap_or}
 use Rattle.std.proofs.Math.Path.{fun_ext}
 use Rattle.std.proofs.lemmas.List.{map-append}
@@ -7,7 +7,7 @@ use Rattle.mt_ports.specs.Causes.{one_more}
 use Rattle.mt_regs.specs.RegisterFile.{low_byte}
 use Rattle.mt_text.specs.declared.place.Place.{Place}
 use Rattle.mt_import.specs.declared.fault.ImportFault.{ImportFault}
-use Rattle.mt_import.specs.declared.fault.ImportFault.TheVariants.{BadProcessor, Contradiction, TooManyPairs}
+use Rattle.mt_import.specs.declared.fault.ImportFault.TheVariants.{TooManyPairs}
 use Rattle.mt_import.specs.declared.fault.Rival.{Rival}
 use Rattle.mt_import.specs.declared.fault.Rival.TheVariants.{CapabilityWord, Line, Word}
 use Rattle.mt_import.specs.declared.format.Format.{Format}
@@ -20,13 +20,12 @@ use Rattle.mt_import.specs.declared.shape.LastPair.{LastPair}
 use Rattle.mt_import.specs.declared.shape.Reading.{Reading}
 use Rattle.mt_import.specs.declared.shape.Shown.{Shown}
 use Rattle.mt_import.specs.declared.shape.Slot.{Slot}
-use Rattle.mt_import.specs.declared.shape.Tally.{Tally}
 use Rattle.mt_import.specs.Pieces.{shown_as}
-use Rattle.mt_import.specs.Readings.{Fact, context_after, fixed_facts, fixed_line, fixed_shows, flag_shown, is_fault, is_fixed_clash, is_line, is_match, is_register, is_register_value, is_warning, is_width, line_facts, reading_facts, said_facts, shown_facts, shows_facts, unlike, value_facts, variable_bits, variable_shows}
+use Rattle.mt_import.specs.Readings.{Fact, context_after, fixed_facts, fixed_shows, is_fault, is_line, is_match, is_register, is_register_value, is_warning, is_width, line_facts, reading_facts, said_facts, shown_facts, shows_facts, unlike, value_facts, variable_bits, variable_shows}
 use Rattle.mt_import.specs.Shown.{chosen, context_behind, facts_from, facts_of_line, said_in}
 use Rattle.mt_import.specs.Slot.{clashes, slot_with}
 use Rattle.mt_import.specs.Supplied.{Supplied, bits_differ, differs, supplied_value}
-use Rattle.mt_import.specs.Outcome.{Seen, capabilities_shown, capability_rival, contradiction, count_rival, counted, counts_fewer, enabled_pair, fact_fault, facts_fault, fix_shown, fixed_rival, fixless_rival, is_fit_width, lacks_fix, last_after, last_fixed_line, last_shown, or_fault, or_rival, pairs_fault, processors, ranged_rival, reading_fault, rival, seen_after, seen_with, shows_fixed, shows_no_fix, slot_shown, width_contradiction, width_fault, width_rival}
+use Rattle.mt_import.specs.Outcome.{Seen, capabilities_shown, capability_rival, contradiction, count_rival, counted, counts_fewer, enabled_pair, fact_fault, facts_fault, fix_shown, fixed_rival, fixless_rival, lacks_fix, last_after, last_fixed_line, last_shown, or_fault, or_rival, pairs_fault, processors, ranged_rival, reading_fault, rival, seen_after, seen_with, shows_fixed, shows_no_fix, slot_shown, width_contradiction, width_fault, width_rival}
 use Rattle.mt_import_laws.specs.Origins.{context_after_lines}
 use Rattle.mt_import_laws.specs.Spare.{moved_fault, moved_place, moved_rival}
 use Rattle.mt_import_laws.proofs.Moved.{each, in_format, moved_said, moved_shown, same_chosen}

@@ -19,14 +19,13 @@ use Rattle.mt_import.specs.declared.shape.Tally.{Tally}
 use Rattle.mt_import.specs.Import.{log_outcome}
 use Rattle.mt_import.specs.Outcome.{Seen, Slots, Outcome, dump_outcome, ended, ended_by, ended_with, facts_fault, firm_of, hint_of, is_empty, known_of, missing_of, notes_of, nothing_seen, or_fault, processors, refusal, remarks, seen_after, seen_with, slot_shown, unless, values_of, warning_text}
 use Rattle.mt_import.specs.Pieces.{shown_as}
-use Rattle.mt_import.specs.Readings.{Fact, context_after, fixed_facts, fixed_line, fixed_shows, is_fault, is_fixed_clash, is_line, is_match, is_register, is_register_value, is_warning, is_width, line_facts, reading_facts, said_facts, shown_facts, shows_facts, starts, value_facts, variable_shows}
+use Rattle.mt_import.specs.Readings.{Fact, context_after, fixed_facts, fixed_line, fixed_shows, is_fault, is_fixed_clash, is_line, is_match, is_register, is_register_value, line_facts, reading_facts, said_facts, shown_facts, shows_facts, starts, value_facts, variable_shows}
 use Rattle.mt_import.specs.Shown.{chosen, context_behind, facts_from, facts_of_line, format_of, is_auto, said_in, shown}
 use Rattle.mt_import.specs.Supplied.{Supplied}
 use Rattle.mt_import.specs.Values.{Known, width_by}
 use Rattle.mt_import.proofs.Facts.{fault_append, seen_append}
-use Rattle.mt_import_laws.specs.FirstLine.{ComeToSame}
 use Rattle.mt_import_laws.specs.Origins.{context_after_lines, seen_of}
-use Rattle.mt_import_laws.specs.Spare.{AreMovedReasons, ComeToSameWithout, HasSpareLine, NoValueFirst, TakesNoneBack, moved_fault, no_value_next, none_waits, number_without, of_count, of_fault, one_line_less, same_reasons}
+use Rattle.mt_import_laws.specs.Spare.{AreMovedReasons, ComeToSameWithout, HasSpareLine, TakesNoneBack, no_value_next, none_waits, number_without, of_count, of_fault, one_line_less, same_reasons}
 use Rattle.mt_import_laws.proofs.TableLines.{facts_split}
 use Rattle.mt_import_laws.proofs.MovedFacts.{Moves, all_slots, context_moved, facts_moved, fault_moved, moved_context, moved_fact, moved_faults, moved_seen, moved_slot, same_processors, seen_moved}
 
