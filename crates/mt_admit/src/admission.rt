@@ -37,13 +37,13 @@ fn first_file(core: &Core) -> RegFile
 }
 
 // Begins an update to registers without a fault, where none is under way.
-fn call_accepted(core: &mut Core, goal: RegFile)
+fn call_accepted(core: &mut Core, goal: &RegFile)
     requires idle { core.old.order ≡ None }
-    requires accepted { IsAccepted goal }
+    requires accepted { IsAccepted goal.now }
     requires some { 0 < length core.old.system.processors }
-    requires fits { All (FitsGoal goal) core.old.system.processors }
+    requires fits { All (FitsGoal goal.now) core.old.system.processors }
     requires room { HasEraRoom core.old }
-    ensures { core.new ≡ next core.old (Calls goal) }
+    ensures { core.new ≡ next core.old (Calls goal.now) }
 {
     match core.call(goal) {
         Ok(()) => {}
@@ -77,7 +77,7 @@ pub fn up(core: &mut Core) -> Result<u32, UpFault>
     let Ok(k) = core.come_up() else {
         return Err(UpFault::NoMemory);
     };
-    call_accepted(core, goal);
+    call_accepted(core, &goal);
     Ok(k)
 }
 

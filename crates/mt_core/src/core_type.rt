@@ -209,13 +209,13 @@ impl Core {
     /// # Errors
     ///
     /// An update is under way, or else the goal has a fault. Nothing then changes.
-    pub fn call(&mut self, goal: RegFile) -> Result<(), CallFault>
+    pub fn call(&mut self, goal: &RegFile) -> Result<(), CallFault>
         requires some { 0 < length self.old.system.processors }
-        requires fits { All (FitsGoal goal) self.old.system.processors }
+        requires fits { All (FitsGoal goal.now) self.old.system.processors }
         requires room { HasEraRoom self.old }
         ensures under_way { (result ≡ Err CallFault.UnderWay) ↔ IsSome self.old.order }
-        ensures refused { (fault : Fault) → result ≡ Err (CallFault.Refused fault) → (self.old.order ≡ None) × IsFirstFault goal (Some fault) }
-        ensures called { OnOk result ((self.old.order ≡ None) × IsAccepted goal × (self.new ≡ next self.old (Calls goal))) }
+        ensures refused { (fault : Fault) → result ≡ Err (CallFault.Refused fault) → (self.old.order ≡ None) × IsFirstFault goal.now (Some fault) }
+        ensures called { OnOk result ((self.old.order ≡ None) × IsAccepted goal.now × (self.new ≡ next self.old (Calls goal.now))) }
         ensures kept { OnErr result (self.new ≡ self.old) }
     {
         if self.order.is_some() {
@@ -225,10 +225,10 @@ impl Core {
             return Err(CallFault::Refused(fault));
         }
         goal.is_register_file(); // a fact for the proof
-        let kinds = KindTable::of(&goal);
+        let kinds = KindTable::of(goal);
         let from_era = common_era(&self.system);
         self.order = Some(Order {
-            goal,
+            goal: goal.same(),
             from_era,
             go: Go::Pending,
             kinds,

@@ -8,7 +8,6 @@ use Rattle.std.proofs.lemmas.List.{length-map}
 use Rattle.std.proofs.lemmas.Option.{slice_get-map, slice_get_within}
 use mathlib.Core.Option.{some}
 use lib.ListN.{get_elem?}
-use Rattle.atomic_table.specs.Seated.{TableId}
 use Rattle.mt_regs.specs.RegisterFile.{RegisterFile}
 use Rattle.mt_machine.specs.declared.done.Done.{Done}
 use Rattle.mt_machine.specs.declared.go.Go.{Go}
@@ -25,8 +24,11 @@ use Rattle.mt_core.specs.Rounds.{ascending}
 use Rattle.mt_core.proofs.Reaching.{reached_on}
 use Rattle.mt_laws.proofs.Barrier.Claims.{all_get, all_of}
 use Rattle.mt_laws.proofs.Registers.Quiet.{AllOf, Shape, next_shapes, reached_is_quiet, shape}
+use Rattle.mt_rendezvous.specs.declared.view.Added.{Added}
+use Rattle.mt_rendezvous.specs.declared.view.Added.TheVariants.{Never, Once, Twice}
 use Rattle.mt_rendezvous.specs.declared.view.Start.{Start}
-use Rattle.mt_rendezvous.specs.Station.{cpu_of, order_of, rise}
+use Rattle.mt_rendezvous.specs.Calls.{PassOf, SeatOf}
+use Rattle.mt_rendezvous.specs.Station.{cpu_of, in_second, order_of, rise}
 use Rattle.mt_rendezvous.specs.Update.{decided}
 use Rattle.mt_private.specs.declared.job.Job.{Job}
 use Rattle.mt_private.specs.declared.job.Told.{Told}
@@ -39,8 +41,8 @@ use Rattle.mt_private.specs.Left.{AreOwnsOf, Leaves}
 use Rattle.mt_private.specs.OneByOne.{AreOneByOne, OneByOne, at_rest, jobs_one_by_one, ran, ran_each}
 use Rattle.mt_private.specs.Own.{own_memory, own_system}
 use Rattle.mt_private.specs.Residents.{FitsYard, held_of, pages_at, pages_left, system_of, yard_machine}
-use Rattle.mt_private.specs.Visitors.{CameBack, CanGoOn, Returned, own_at}
-use Rattle.mt_private.specs.YardCalls.{Lodges, VisitEnds, updated_own}
+use Rattle.mt_private.specs.Visitors.{CameBack, CanGoOn, Returned, own_at, pass_to, stay_at}
+use Rattle.mt_private.specs.YardCalls.{Lodges, Stay, VisitEnds, updated_own}
 use Rattle.mt_private.specs.YardPlays.{YardSat}
 use Rattle.mt_private.proofs.Carried.{its_guest}
 use Rattle.mt_private.proofs.Left.{one_by_own}
@@ -63,24 +65,23 @@ fits_shape f q h = λ i. (sym h.width i, sym h.capabilities i)
 
 -- ---- how a visit ended
 
-as_complete : (v : Visited) (table : TableId) (t : Start) (k : ℕ) (job : Job) (own : System) (its : TableId) (me : YardSat) (new : System) (told : Told) → VisitEnds v table t k t.goal job own its me new told → (me.0.cancel ≡ true → ⊥) → VisitEnds Complete table t k t.goal job own its me new told
-as_complete Complete table t k job own its me new told w no_cancel = w
-as_complete Cancelled table t k job own its me new told w no_cancel = absurd (no_cancel w.1)
+as_complete : (v : Visited) (pass : PassOf YardSat) (stay : Stay) → VisitEnds v pass stay → (pass.me.0.cancel ≡ true → ⊥) → VisitEnds Complete pass stay
+as_complete Complete pass stay w no_cancel = w
+as_complete Cancelled pass stay w no_cancel = absurd (no_cancel w.1)
 
-pub as_cancelled : (v : Visited) (table : TableId) (t : Start) (k : ℕ) (job : Job) (own : System) (its : TableId) (me : YardSat) (new : System) (told : Told) → VisitEnds v table t k t.goal job own its me new told → (Lodges table t its me k new true true → ⊥)
-    → (v ≡ Cancelled) × VisitEnds Cancelled table t k t.goal job own its me new told
-as_cancelled Complete table t k job own its me new told w not_whole = absurd (not_whole w.0)
-as_cancelled Cancelled table t k job own its me new told w not_whole = (refl, w)
+pub as_cancelled : (v : Visited) (pass : PassOf YardSat) (stay : Stay) → VisitEnds v pass stay → (Lodges pass stay.last Twice → ⊥) → (v ≡ Cancelled) × VisitEnds Cancelled pass stay
+as_cancelled Complete pass stay w not_whole = absurd (not_whole w.0)
+as_cancelled Cancelled pass stay w not_whole = (refl, w)
 
 -- where the host cancelled none has added to the second count
-none_released : (ph : Phase) → FitsYard Stopped true true ph → ⊥
+none_released : (ph : Phase) → FitsYard Stopped Twice ph → ⊥
 none_released Running w =
-    ⊎_elim (λ a. let e : true ≡ false = a.0 in cc)
-    (λ b. ⊎_elim (λ x. let e : true ≡ false = x.0 in cc) (λ y. let e : Stopped ≡ Given = y.1 in cc) b.1) w
-none_released Taken w = let e : true ≡ false = w.0 in cc
-none_released Arrived w = let e : true ≡ false = w.0 in cc
-none_released Arrived2 w = let e : Stopped ≡ Given = w.2 in cc
-none_released other w = let e : true ≡ false = w.0 in cc
+    ⊎_elim (λ (a : Twice ≡ Never). cc)
+    (λ b. ⊎_elim (λ x. let e : Twice ≡ Once = x.0 in cc) (λ y. let e : Stopped ≡ Given = y.1 in cc) b) w
+none_released Taken w = ⊎_elim (λ (a : Twice ≡ Never). cc) (λ x. let e : Twice ≡ Once = x.0 in cc) w
+none_released Arrived w = let e : Twice ≡ Once = w in cc
+none_released Arrived2 w = let e : Stopped ≡ Given = w.1 in cc
+none_released other w = let e : Twice ≡ Once = w.0 in cc
 
 -- ---- tests of all processors
 
@@ -113,19 +114,25 @@ answers_length k [] s = refl
 answers_length k (ops ∷ jobs) s = ap suc (answers_length (k + 1) jobs (ran k ops s).after)
 
 -- the answers before the update, however the visit ended
-told_before : (v : Visited) (table : TableId) (t : Start) (k : ℕ) (job : Job) (own : System) (its : TableId) (me : YardSat) (new : System) (told : Told) → VisitEnds v table t k t.goal job own its me new told → told.before.items ≡ (ran 0 job.before.items own).answers
-told_before Complete table t k job own its me new told w = w.3
-told_before Cancelled table t k job own its me new told w = w.3
+told_before : (v : Visited) (pass : PassOf YardSat) (stay : Stay) → VisitEnds v pass stay → stay.told.before.items ≡ (ran 0 stay.job.before.items stay.first).answers
+told_before Complete pass stay w = w.3
+told_before Cancelled pass stay w = w.3
 
-module _ (table : TableId) (t : Start) (jobs : List Job) (its : TableId) (me : YardSat) (owns : List (Option System)) (told : List Told) (r : Returned table t jobs its me owns told) (size : length jobs ≡ length t.cpus) (long : length told ≡ length jobs)
-    (s : System) (leaves : Leaves t me.0 s) (owned : AreOwnsOf t owns s) where
+module _ (host : SeatOf YardSat) (jobs : List Job) (owns : List (Option System)) (told : List Told) (r : Returned host jobs owns told) (size : length jobs ≡ length host.start.cpus) (long : length told ≡ length jobs)
+    (s : System) (leaves : Leaves host.start host.me.0 s) (owned : AreOwnsOf host.start owns s) where
+  abbrev t : Start
+  t = host.start
+
+  abbrev me : YardSat
+  me = host.me
+
   job_of : (k : ℕ) → k < length t.cpus → (j : Job) × (slice_get jobs k ≡ Some j)
   job_of k low = got jobs k (omega arith)
 
   told_of : (k : ℕ) → k < length t.cpus → (x : Told) × (slice_get told k ≡ Some x)
   told_of k low = got told k (omega arith)
 
-  came : (k : ℕ) (low : k < length t.cpus) → CameBack table t (job_of k low).0 k me.0 owns (told_of k low).0
+  came : (k : ℕ) (low : k < length t.cpus) → CameBack host (job_of k low).0 k owns (told_of k low).0
   came k low = r.each k (job_of k low).0 (told_of k low).0 (job_of k low).1 (told_of k low).1
 
   its_own : (k : ℕ) (low : k < length t.cpus) → own_system (pages_at t k) k s ≡ (came k low).own
@@ -134,12 +141,19 @@ module _ (table : TableId) (t : Start) (jobs : List Job) (its : TableId) (me : Y
   many : length s.processors ≡ length t.cpus
   many = ap (λ (ps : List Processor). length ps) leaves.yard.resides.stands.processors ∙ length-map (map held_of leaves.all) cpu_of ∙ length-map leaves.all held_of ∙ leaves.yard.resides.size
 
+  -- the seat of the guest that came back, and its stay
+  abbrev pass_at : (k : ℕ) → k < length t.cpus → PassOf YardSat
+  pass_at k low = pass_to host k (came k low).its (came k low).me
+
+  abbrev its_stay : (k : ℕ) → k < length t.cpus → Stay
+  its_stay k low = stay_at t k (job_of k low).0 (came k low).own (told_of k low).0
+
   -- the resident that came back
-  resident_of : (k : ℕ) (low : k < length t.cpus) (added again : Bool) → (l : Lodges table t (came k low).its (came k low).me k (came k low).own added again) → (y : Resident) × (get_elem? leaves.all k ≡ some y) × (y.held.again ≡ again) × (y.held.added ≡ added)
-  resident_of k low added again l =
+  resident_of : (k : ℕ) (low : k < length t.cpus) (added : Added) → (l : Lodges (pass_at k low) (came k low).own added) → (y : Resident) × (get_elem? leaves.all k ≡ some y) × (y.held.added ≡ added)
+  resident_of k low added l =
       let y : Resident = its_guest l in
       let a = (came k low).among y l.holds in
-      (y, leaves.same a.0 y a.1, refl, refl)
+      (y, leaves.same a.0 y a.1, refl)
 
   -- each runs
   runs : (k : ℕ) (p : Processor) → slice_get s.processors k ≡ Some p → p.phase ≡ Running
@@ -154,13 +168,13 @@ module _ (table : TableId) (t : Start) (jobs : List Job) (its : TableId) (me : Y
       first a b e = cc
 
   -- its era, and the machine once all run
-  era_of : (k : ℕ) (low : k < length t.cpus) (added again : Bool) → Lodges table t (came k low).its (came k low).me k (came k low).own added again → (p : Processor) → slice_get s.processors k ≡ Some p → p.era ≡ common_era t.cpus + rise again Running
-  era_of k low added again l p at =
-      let y = resident_of k low added again l in
+  era_of : (k : ℕ) (low : k < length t.cpus) (added : Added) → Lodges (pass_at k low) (came k low).own added → (p : Processor) → slice_get s.processors k ≡ Some p → p.era ≡ common_era t.cpus + rise (in_second added) Running
+  era_of k low added l p at =
+      let y = resident_of k low added l in
       let there = processor_at t leaves.all me.0.go s leaves.yard.resides k y.0 y.1 in
       let same : y.0.held.cpu ≡ p = one y.0.held.cpu p (sym there ∙ at) in
       let era = (leaves.yard.resides.fits k y.0 y.1).0.era in
-      sym (ap (λ (q : Processor). q.era) same) ∙ era ∙ (λ i. common_era t.cpus + rise (y.2 i) ((ap (λ (q : Processor). q.phase) same ∙ runs k p at) i))
+      sym (ap (λ (q : Processor). q.era) same) ∙ era ∙ (λ i. common_era t.cpus + rise (in_second (y.2 i)) ((ap (λ (q : Processor). q.phase) same ∙ runs k p at) i))
     where
       one : (a b : Processor) → Some a ≡ Some b → a ≡ b
       one a b e = cc
@@ -209,21 +223,21 @@ module _ (table : TableId) (t : Start) (jobs : List Job) (its : TableId) (me : Y
         answers_in Before (told_of k low).0,
         slice_get-map (answers_in Before) told k ∙ ap (option_map (answers_in Before)) (told_of k low).1,
         job_first (pages_at t) (length t.cpus) t.goal befores afters before_size after_size (system_of t) refl first_owners k (job_of k low).0.before.items (at_before k low)
-            ∙ ap (λ (ds : List Done). Some ds) (sym (told_before c.visited table t k (job_of k low).0 (own_at t k) c.its c.me c.own (told_of k low).0 c.ends)),
+            ∙ ap (λ (ds : List Done). Some ds) (sym (told_before c.visited (pass_at k low) (its_stay k low) c.ends)),
       ))
 
   module _ (given : me.0.go ≡ Given) where
-    whole : (k : ℕ) (low : k < length t.cpus) → VisitEnds Complete table t k t.goal (job_of k low).0 (own_at t k) (came k low).its (came k low).me (came k low).own (told_of k low).0
+    whole : (k : ℕ) (low : k < length t.cpus) → VisitEnds Complete (pass_at k low) (its_stay k low)
     whole k low =
         let c = came k low in
-        as_complete c.visited table t k (job_of k low).0 (own_at t k) c.its c.me c.own (told_of k low).0 c.ends (λ e. let x : Given ≡ Stopped = sym given ∙ leaves.shown (c.shown e) in cc)
+        as_complete c.visited (pass_at k low) (its_stay k low) c.ends (λ e. let x : Given ≡ Stopped = sym given ∙ leaves.shown (c.shown e) in cc)
 
     released : (k : ℕ) (p : Processor) → slice_get s.processors k ≡ Some p → has_released (order_of t me.0.go) p ≡ true
     released k p at =
         let within = slice_get_within s.processors k p at in
         let n = many in
         let low : k < length t.cpus = omega arith in
-        let e : p.era ≡ common_era t.cpus + 1 = era_of k low true true (whole k low).0 p at in
+        let e : p.era ≡ common_era t.cpus + 1 = era_of k low Twice (whole k low).0 p at in
         lt-ltb (common_era t.cpus) p.era (omega arith)
 
     pub quiet_given : IsQuiet (at_rest s)
@@ -255,19 +269,18 @@ module _ (table : TableId) (t : Start) (jobs : List Job) (its : TableId) (me : Y
               ∙ ap (λ (ds : List Done). Some ds) (sym (whole k low).4),
         ))
 
-    pub all_given : AreOneByOne (system_of t) t.goal jobs (at_rest s) told
+    pub all_given : AreOneByOne one_by (at_rest s) told
     all_given = record { left = ap at_rest left_given; before = answers_before; after = answers_after }
 
   module _ (stopped : me.0.go ≡ Stopped) where
-    not_whole : (k : ℕ) (low : k < length t.cpus) → Lodges table t (came k low).its (came k low).me k (came k low).own true true → ⊥
+    not_whole : (k : ℕ) (low : k < length t.cpus) → Lodges (pass_at k low) (came k low).own Twice → ⊥
     not_whole k low l =
-        let y = resident_of k low true true l in
+        let y = resident_of k low Twice l in
         let f = (leaves.yard.resides.fits k y.0 y.1).0.fits in
-        none_released y.0.held.cpu.phase
-        (subst (λ (x : Go × (Bool × Bool)). FitsYard x.0 x.1.0 x.1.1 y.0.held.cpu.phase) (λ i. (stopped i, (y.3 i, y.2 i))) f)
+        none_released y.0.held.cpu.phase (subst (λ (x : Go × Added). FitsYard x.0 x.1 y.0.held.cpu.phase) (λ i. (stopped i, y.2 i)) f)
 
-    gone : (k : ℕ) (low : k < length t.cpus) → ((came k low).visited ≡ Cancelled) × VisitEnds Cancelled table t k t.goal (job_of k low).0 (own_at t k) (came k low).its (came k low).me (came k low).own (told_of k low).0
-    gone k low = let c = came k low in as_cancelled c.visited table t k (job_of k low).0 (own_at t k) c.its c.me c.own (told_of k low).0 c.ends (not_whole k low)
+    gone : (k : ℕ) (low : k < length t.cpus) → ((came k low).visited ≡ Cancelled) × VisitEnds Cancelled (pass_at k low) (its_stay k low)
+    gone k low = let c = came k low in as_cancelled c.visited (pass_at k low) (its_stay k low) c.ends (not_whole k low)
 
     pub quiet_stopped : IsQuiet (at_rest s)
     quiet_stopped =
@@ -308,7 +321,7 @@ module _ (table : TableId) (t : Start) (jobs : List Job) (its : TableId) (me : Y
         let n = many in
         let low : k < length t.cpus = omega arith in
         let g = (gone k low).1.0 in
-        let e : p.era ≡ common_era t.cpus + 0 = era_of k low g.0 false g.1 p at in
+        let e : p.era ≡ common_era t.cpus + 0 = era_of k low g.0 g.1 p at ∙ ap (λ b. common_era t.cpus + rise b Running) g.2 in
         let r = leaves.yard.resides.opens.room in
         omega arith)
 
@@ -319,7 +332,7 @@ module _ (table : TableId) (t : Start) (jobs : List Job) (its : TableId) (me : Y
     its_owners : AreOwners (pages_at t) (length t.cpus) s
     its_owners = record {
       memory = leaves.yard.resides.stands.memory;
-      owner = λ k low. let g = (gone k low).1.0 in let y = resident_of k low g.0 false g.1 in leaves.yard.resides.stands.owns k y.0 y.1;
+      owner = λ k low. let g = (gone k low).1.0 in let y = resident_of k low g.0 g.1 in leaves.yard.resides.stands.owns k y.0 y.1;
       apart = first_owners.apart;
     }
 
@@ -369,7 +382,7 @@ module _ (table : TableId) (t : Start) (jobs : List Job) (its : TableId) (me : Y
     }
 
     pub all_stopped : (m : Machine) (later : List Told) → m ≡ at_rest (ran_each 0 afters done).after → map (answers_in After) later ≡ (ran_each 0 afters done).answers → map (answers_in Before) later ≡ map (answers_in Before) told
-        → AreOneByOne (system_of t) t.goal jobs m later
+        → AreOneByOne one_by m later
     all_stopped m later left told_after told_before = record { left = left ∙ left_stopped; before = told_before ∙ answers_before; after = told_after ∙ answers_stopped }
 
   -- ---- either way

@@ -29,7 +29,7 @@ use Rattle.mt_private.specs.Alone.{named_by_none}
 use Rattle.mt_private.specs.OneByOne.{at_rest}
 use Rattle.mt_private.specs.Own.{own_memory, own_system, pages_of, words_on}
 use Rattle.mt_private.specs.Pages.{names}
-use Rattle.mt_private.specs.Residents.{StandsFor, Yard, held_of, pages_at, pages_left, system_of, yard_machine}
+use Rattle.mt_private.specs.Residents.{StandsFor, Yard, held_of, pages_at, pages_left, system_of, yard_machine, scene}
 use Rattle.mt_private.specs.YardCalls.{Keeps}
 use Rattle.mt_private.specs.YardRule.{AreAt, MeetsYard, as_view}
 use Rattle.mt_private.specs.Left.{AreAsGathered, AreBack, AreOwnsOf, AreParts, IsPart, Leaves, less, over, processors_in, with_words_of, word_by_word}
@@ -294,7 +294,7 @@ module _ (key : Key) (s : State Op YardView) (m : MeetsYard key s) (id : ℕ) (v
         all = m.all;
         first = slice_index s.words 0;
         second = slice_index s.words 1;
-        yard = subst (λ (g : Go). Yard (start_of key) m.all g (slice_index s.words 0) (slice_index s.words 1) m.system) (sym go) m.yard;
+        yard = subst (λ (g : Go). Yard (start_of key) (scene m.all g m.system) (slice_index s.words 0) (slice_index s.words 1)) (sym go) m.yard;
         same = m.same id v at;
         shown = λ told. go ∙ m.cancels id v at told;
       }

@@ -10,6 +10,7 @@ use Rattle.mt_machine.specs.System.{Processor, System}
 use Rattle.mt_machine.specs.Access.{is_running}
 use Rattle.mt_laws.proofs.Barrier.Claims.{all_get}
 use Rattle.mt_rendezvous.specs.declared.view.Start.{Start}
+use Rattle.mt_rendezvous.specs.Calls.{SeatOf}
 use Rattle.mt_private.specs.declared.job.Job.{Job}
 use Rattle.mt_private.specs.declared.job.Part.{Part}
 use Rattle.mt_private.specs.declared.job.Told.{Told}
@@ -43,9 +44,9 @@ waiting table t jobs guests told opens gathered count size long fits opened = re
 }
 
 -- all visitors came back
-pub all_back : (table : TableId) (t : Start) (jobs : List Job) (its : TableId) (me : YardSat) (owns : List (Option System)) (told : List Told) → Returned table t jobs its me owns told → length jobs ≡ length t.cpus → length told ≡ length jobs → (count : ℕ) → length t.cpus ≡ count
-    → AreBack count me.0 owns
-all_back table t jobs its me owns told r size long count is = record {
+pub all_back : (host : SeatOf YardSat) (jobs : List Job) (owns : List (Option System)) (told : List Told) → Returned host jobs owns told → length jobs ≡ length host.start.cpus → length told ≡ length jobs → (count : ℕ) → length host.start.cpus ≡ count
+    → AreBack count host.me.0 owns
+all_back host jobs owns told r size long count is = record {
   size = r.size ∙ is;
   each = λ k low.
       let j = got jobs k (omega arith) in

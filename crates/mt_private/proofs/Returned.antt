@@ -5,10 +5,11 @@ use Rattle.std.proofs.lemmas.List.{length-replicate}
 use Rattle.std.proofs.lemmas.Option.{slice_get_within}
 use lib.ListN.{get_elem?}
 use Rattle.atomic_table.specs.Seated.{TableId}
-use Rattle.mt_regs.specs.RegisterFile.{RegisterFile}
 use Rattle.mt_machine.specs.System.{System}
-use Rattle.mt_rendezvous.specs.declared.view.Start.{Start}
-use Rattle.mt_rendezvous.specs.Calls.{IsRoot}
+use Rattle.mt_rendezvous.specs.declared.view.Added.{Added}
+use Rattle.mt_rendezvous.specs.declared.view.Added.TheVariants.{Twice}
+use Rattle.mt_rendezvous.specs.Calls.{IsRoot, PassOf, SeatOf}
+use Rattle.mt_private.specs.Gathered.{pass_of}
 use Rattle.mt_private.specs.declared.job.Job.{Job}
 use Rattle.mt_private.specs.declared.job.Told.{Told}
 use Rattle.mt_private.specs.declared.view.Resident.{Resident}
@@ -16,17 +17,16 @@ use Rattle.mt_private.specs.declared.view.YardView.{YardView}
 use Rattle.mt_private.specs.declared.visiting.Visited.{Visited}
 use Rattle.mt_private.specs.declared.visiting.Visited.TheVariants.{Cancelled, Complete}
 use Rattle.mt_private.specs.declared.visitor.Visitor.{Visitor}
-use Rattle.mt_private.specs.Visitors.{CameBack, HasCome, IsFresh, Returned, own_at}
-use Rattle.mt_private.specs.YardCalls.{Keeps, Lodges, VisitEnds}
-use Rattle.mt_private.specs.YardPlays.{YardSat, as_sat}
+use Rattle.mt_private.specs.Visitors.{CameBack, HasCome, IsFresh, Returned, pass_to, stay_at}
+use Rattle.mt_private.specs.YardCalls.{Keeps, Lodges, Stay, VisitEnds}
+use Rattle.mt_private.specs.YardPlays.{YardSat, as_seat}
 use Rattle.mt_private.specs.YardRule.{yard_both}
 use Rattle.mt_private.proofs.Lists.{at_end, got}
 
 -- however a visit ended, the seat lodges its resident
-pub lodges_still : (v : Visited) (table : TableId) (t : Start) (k : ℕ) (f : RegisterFile) (job : Job) (own : System) (its : TableId) (me : YardSat) (new : System) (told : Told) → VisitEnds v table t k f job own its me new told
-    → (added : Bool) × (again : Bool) × Lodges table t its me k new added again
-lodges_still Complete table t k f job own its me new told w = (true, true, w.0)
-lodges_still Cancelled table t k f job own its me new told w = (w.0.0, false, w.0.1)
+pub lodges_still : (v : Visited) (pass : PassOf YardSat) (stay : Stay) → VisitEnds v pass stay → (added : Added) × Lodges pass stay.last added
+lodges_still Complete pass stay w = (Twice, w.0)
+lodges_still Cancelled pass stay w = (w.0.0, w.0.1)
 
 -- ---- none yet
 
@@ -35,12 +35,12 @@ none_kept zero k o at = cc
 none_kept (suc n) zero o at = cc
 none_kept (suc n) (suc k) o at = none_kept n k o at
 
-module _ (table : TableId) (t : Start) (jobs : List Job) where
-  pub returned_none : (its : TableId) (me : YardSat) (owns : List (Option System)) (told : List Told) → IsRoot table its (as_sat me) → IsFresh t me.0 owns → told ≡ [] → Returned table t jobs its me owns told
-  returned_none its me owns told root fresh nothing = record {
+module _ (host : SeatOf YardSat) (jobs : List Job) where
+  pub returned_none : (owns : List (Option System)) (told : List Told) → IsRoot (as_seat host) → IsFresh host.start host.me.0 owns → told ≡ [] → Returned host jobs owns told
+  returned_none owns told root fresh nothing = record {
     root = root;
-    size = ap (λ (l : List (Option System)). length l) fresh.1 ∙ length-replicate (length t.cpus) None;
-    keeps = λ k o at. absurd (none_kept (length t.cpus) k o (ap (λ (l : List (Option System)). slice_get l k) (sym fresh.1) ∙ at));
+    size = ap (λ (l : List (Option System)). length l) fresh.1 ∙ length-replicate (length host.start.cpus) None;
+    keeps = λ k o at. absurd (none_kept (length host.start.cpus) k o (ap (λ (l : List (Option System)). slice_get l k) (sym fresh.1) ∙ at));
     each = λ k job r at_job at_r. absurd (let e : None ≡ Some r = ap (λ (l : List Told). slice_get l k) (sym nothing) ∙ at_r in cc);
   }
 
@@ -66,11 +66,11 @@ module _ (table : TableId) (t : Start) (jobs : List Job) where
   or_right true b h = refl
   or_right false b h = h
 
-  module _ (v w new : YardView) (y : Resident) (held : w.held ≡ y ∷ []) (view : new ≡ yard_both v w) (owns after : List (Option System)) (k : ℕ) (o : System) (kept : after ≡ set owns k (Some o)) where
-    now_held : new.held ≡ y ∷ v.held
-    now_held = ap (λ (u : YardView). u.held) view ∙ ap (λ (ys : List Resident). ys ++ v.held) held
+  module _ (its : TableId) (me : YardSat) (w : YardView) (y : Resident) (held : w.held ≡ y ∷ []) (view : me.0 ≡ yard_both host.me.0 w) (owns after : List (Option System)) (k : ℕ) (o : System) (kept : after ≡ set owns k (Some o)) where
+    now_held : me.0.held ≡ y ∷ host.me.0.held
+    now_held = ap (λ (u : YardView). u.held) view ∙ ap (λ (ys : List Resident). ys ++ host.me.0.held) held
 
-    came_later : (i : ℕ) (job : Job) (r : Told) → i ≢ k → CameBack table t job i v owns r → CameBack table t job i new after r
+    came_later : (i : ℕ) (job : Job) (r : Told) → i ≢ k → CameBack host job i owns r → CameBack (record host { its = its; me = me }) job i after r
     came_later i job r apart c = record {
       visited = c.visited;
       own = c.own;
@@ -81,29 +81,27 @@ module _ (table : TableId) (t : Start) (jobs : List Job) where
       has_room = c.has_room;
       kept = ap (λ (l : List (Option System)). slice_get l i) kept ∙ set_other owns k i (Some o) apart ∙ c.kept;
       among = λ x is. let a = c.among x is in (suc a.0, ap (λ (ys : List Resident). get_elem? ys (suc a.0)) now_held ∙ a.1);
-      shown = λ told. ap (λ (u : YardView). u.cancel) view ∙ or_left v.cancel w.cancel (c.shown told);
+      shown = λ told. ap (λ (u : YardView). u.cancel) view ∙ or_left host.me.0.cancel w.cancel (c.shown told);
     }
 
-  module _ (its : TableId) (me : YardSat) (owns : List (Option System)) (told : List Told) (old : Returned table t jobs its me owns told) (v : Visitor) (low : length told < length t.cpus) (is_job : length told < length jobs)
-      (come : (job : Job) → slice_get jobs (length told) ≡ Some job → HasCome table t job (length told) v) where
+  module _ (owns : List (Option System)) (told : List Told) (old : Returned host jobs owns told) (v : Visitor) (low : length told < length host.start.cpus) (is_job : length told < length jobs)
+      (come : (job : Job) → slice_get jobs (length told) ≡ Some job → HasCome host.table host.start job (length told) v) where
     a_job : (job : Job) × (slice_get jobs (length told) ≡ Some job)
     a_job = got jobs (length told) is_job
 
-    its_end : HasCome table t a_job.0 (length told) v
+    its_end : HasCome host.table host.start a_job.0 (length told) v
     its_end = come a_job.0 a_job.1
 
-    pub lodged : (added : Bool) × (again : Bool) × Lodges table t v.pass.seat.table_id v.pass.seat.me v.pass.number v.core.system added again
-    lodged =
-        subst (λ (n : ℕ). (added : Bool) × (again : Bool) × Lodges table t v.pass.seat.table_id v.pass.seat.me n v.core.system added again) (sym its_end.numbered)
-        (lodges_still v.visited table t (length told) t.goal a_job.0 (own_at t (length told)) v.pass.seat.table_id v.pass.seat.me v.core.system v.told its_end.ends)
+    pub lodged : (added : Added) × Lodges (pass_of host.table host.start v.pass) v.core.system added
+    lodged = lodges_still v.visited (pass_of host.table host.start v.pass) (stay_at host.start (length told) a_job.0 v.core.system v.told) its_end.ends
 
     pub numbered : v.pass.number ≡ length told
     numbered = its_end.numbered
 
-    pub returned_more : (its' : TableId) (me' : YardSat) (owns' : List (Option System)) (told' : List Told) → IsRoot table its' (as_sat me') → me'.0 ≡ yard_both me.0 v.pass.seat.me.0 → owns' ≡ set owns v.pass.number (Some v.core.system) → Keeps me'.0 owns'
-        → told' ≡ told ++ v.told ∷ [] → Returned table t jobs its' me' owns' told'
-    returned_more its' me' owns' told' root view set_is keeps more =
-        let at_k : owns' ≡ set owns (length told) (Some v.core.system) = set_is ∙ ap (λ (n : ℕ). set owns n (Some v.core.system)) numbered in
+    pub returned_more : (its : TableId) (me : YardSat) (after : List (Option System)) (later : List Told) → IsRoot (as_seat (record host { its = its; me = me })) → me.0 ≡ yard_both host.me.0 v.pass.seat.me.0 → after ≡ set owns v.pass.number (Some v.core.system)
+        → Keeps me.0 after → later ≡ told ++ v.told ∷ [] → Returned (record host { its = its; me = me }) jobs after later
+    returned_more its me after later root view set_is keeps more =
+        let at_k : after ≡ set owns (length told) (Some v.core.system) = set_is ∙ ap (λ (n : ℕ). set owns n (Some v.core.system)) numbered in
         record {
           root = root;
           size = ap (λ (l : List (Option System)). length l) at_k ∙ length-set owns (length told) (Some v.core.system) ∙ old.size;
@@ -113,21 +111,21 @@ module _ (table : TableId) (t : Start) (jobs : List Job) where
               (λ (e : (i ≡ length told) × (v.told ≡ r)).
               let ended = come job (ap (slice_get jobs) (sym e.0) ∙ at_job) in
               let size = old.size in
-              subst (λ (z : ℕ × Told). CameBack table t job z.0 me'.0 owns' z.1) (λ j. (sym e.0 j, e.1 j))
+              subst (λ (z : ℕ × Told). CameBack (record host { its = its; me = me }) job z.0 after z.1) (λ j. (sym e.0 j, e.1 j))
               (record {
                 visited = v.visited;
                 own = v.core.system;
                 its = v.pass.seat.table_id;
                 me = v.pass.seat.me;
-                ends = ended.ends;
+                ends = subst (λ (n : ℕ). VisitEnds v.visited (pass_to host n v.pass.seat.table_id v.pass.seat.me) (stay_at host.start (length told) job v.core.system v.told)) numbered ended.ends;
                 runs = ended.runs;
                 has_room = ended.has_room;
                 kept = ap (λ (l : List (Option System)). slice_get l (length told)) at_k ∙ set_at owns (length told) (Some v.core.system) (omega arith);
-                among = λ y is. (0, ap (λ (ys : List Resident). get_elem? ys 0) (now_held me.0 v.pass.seat.me.0 me'.0 y is view owns owns' (length told) v.core.system at_k));
-                shown = λ told_so. ap (λ (u : YardView). u.cancel) view ∙ or_right me.0.cancel v.pass.seat.me.0.cancel told_so;
+                among = λ y is. (0, ap (λ (ys : List Resident). get_elem? ys 0) (now_held its me v.pass.seat.me.0 y is view owns after (length told) v.core.system at_k));
+                shown = λ told_so. ap (λ (u : YardView). u.cancel) view ∙ or_right host.me.0.cancel v.pass.seat.me.0.cancel told_so;
               }))
               (λ (e : slice_get told i ≡ Some r).
               let within = slice_get_within told i r e in
-              came_later me.0 v.pass.seat.me.0 me'.0 _ lodged.2.holds view owns owns' (length told) v.core.system at_k i job r (λ same. absurd (omega arith)) (old.each i job r at_job e))
+              came_later its me v.pass.seat.me.0 _ lodged.1.holds view owns after (length told) v.core.system at_k i job r (λ same. absurd (omega arith)) (old.each i job r at_job e))
               (at_end told v.told i r (ap (λ (l : List Told). slice_get l i) (sym more) ∙ at_r));
         }

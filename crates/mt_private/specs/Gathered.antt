@@ -4,8 +4,11 @@ use Rattle.atomic_table.specs.Seated.{TableId}
 use Rattle.mt_bus.specs.declared.system_parts.SystemParts.{SystemParts}
 use Rattle.mt_machine.specs.Memory.{Memory}
 use Rattle.mt_machine.specs.System.{Processor, System}
+use Rattle.mt_rendezvous.specs.declared.view.Added.TheVariants.{Never}
 use Rattle.mt_rendezvous.specs.declared.view.Start.{Start}
+use Rattle.mt_rendezvous.specs.Calls.{PassOf}
 use Rattle.mt_private.specs.declared.visiting.Guest.{Guest}
+use Rattle.mt_private.specs.declared.visiting.YardPass.{YardPass}
 use Rattle.mt_private.specs.Own.{own_memory, own_system, pages_of}
 use Rattle.mt_private.specs.Residents.{pages_at, pages_left, system_of}
 use Rattle.mt_private.specs.YardCalls.{Lodges, done_in}
@@ -20,17 +23,21 @@ OffersFrom t i me = me.0.held ≡ residents t i (drop i t.cpus)
 abbrev pub IsOwnOf : Start → ℕ → System → Type 0
 IsOwnOf t k own = (p : Processor) × (slice_get t.cpus k ≡ Some p) × (own ≡ record { processors = p ∷ []; memory = own_memory (pages_of p) t.ram })
 
+-- a pass, beside a table and a start
+abbrev pub pass_of : TableId → Start → YardPass → PassOf YardSat
+pass_of table t pass = record { table = table; start = t; its = pass.seat.table_id; me = pass.seat.me; number = pass.number }
+
 -- guest k as it was gathered: it has processor k, with the words of the pages that it names, and its pass has added nothing and was shown nothing
-pub record IsGathered (table : TableId) (t : Start) (k : ℕ) (its : TableId) (me : YardSat) (number : ℕ) (own : System) : Type 0 where
-  pub numbered : number ≡ k
-  pub own_is : own ≡ own_system (pages_at t k) k (system_of t)
-  pub lodges : Lodges table t its me number own false false
-  pub none_done : done_in me ≡ []
-  pub unshown : (me.0.shown ≡ None) × (me.0.cancel ≡ false)
+pub record IsGathered (pass : PassOf YardSat) (k : ℕ) (own : System) : Type 0 where
+  pub numbered : pass.number ≡ k
+  pub own_is : own ≡ own_system (pages_at pass.start k) k (system_of pass.start)
+  pub lodges : Lodges pass own Never
+  pub none_done : done_in pass.me ≡ []
+  pub unshown : (pass.me.0.shown ≡ None) × (pass.me.0.cancel ≡ false)
 
 -- so are these, by their places
 abbrev pub AreGathered : TableId → Start → List Guest → Type 0
-AreGathered table t guests = (k : ℕ) (g : Guest) → slice_get guests k ≡ Some g → IsGathered table t k g.pass.seat.table_id g.pass.seat.me g.pass.number g.own
+AreGathered table t guests = (k : ℕ) (g : Guest) → slice_get guests k ≡ Some g → IsGathered (pass_of table t g.pass) k g.own
 
 -- room for one processor, with the words of the pages that this one names
 abbrev pub IsRoom : Processor → Memory → SystemParts → Type 0

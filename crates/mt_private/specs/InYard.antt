@@ -9,27 +9,29 @@ use Rattle.mt_machine.specs.declared.phase.Phase.{Phase}
 use Rattle.mt_machine.specs.declared.phase.Phase.TheVariants.{Arrived, Arrived2, Passed, Running, Taken}
 use Rattle.mt_machine.specs.System.{System}
 use Rattle.mt_machine.specs.Machine.{Machine, is_changing}
+use Rattle.mt_rendezvous.specs.declared.view.Added.{Added}
+use Rattle.mt_rendezvous.specs.declared.view.Added.TheVariants.{Never, Once, Twice}
 use Rattle.mt_rendezvous.specs.declared.view.Start.{Start}
-use Rattle.mt_rendezvous.specs.Calls.{IsRoot, Leads}
+use Rattle.mt_rendezvous.specs.Calls.{IsRoot, Leads, PassOf, SeatOf}
 use Rattle.mt_rendezvous.specs.Station.{start_of}
 use Rattle.mt_rendezvous.specs.Update.{decided}
 use Rattle.mt_private.specs.declared.host.Host.{Host}
 use Rattle.mt_private.specs.declared.host.Yard.{Yard}
 use Rattle.mt_private.specs.declared.job.Job.{Job}
 use Rattle.mt_private.specs.declared.job.Told.{Told}
-use Rattle.mt_private.specs.declared.session.Queue.{Queue}
-use Rattle.mt_private.specs.declared.session.Session.{Session}
+use Rattle.mt_private.specs.declared.gathering.Queue.{Queue}
+use Rattle.mt_private.specs.declared.gathering.Gathering.{Gathering}
 use Rattle.mt_private.specs.declared.view.Resident.{Resident}
 use Rattle.mt_private.specs.declared.view.YardView.{YardView}
 use Rattle.mt_private.specs.declared.visiting.Guest.{Guest}
 use Rattle.mt_private.specs.declared.visiting.Visited.{Visited}
 use Rattle.mt_private.specs.declared.visiting.YardPass.{YardPass}
 use Rattle.mt_private.specs.declared.visitor.Visitor.{Visitor}
-use Rattle.mt_private.specs.Gathered.{AreGathered, IsGathered, IsRest}
+use Rattle.mt_private.specs.Gathered.{AreGathered, IsGathered, IsRest, pass_of}
 use Rattle.mt_private.specs.Left.{AreBack, Leaves}
 use Rattle.mt_private.specs.Visitors.{AreWaiting, HasCome, IsFresh, IsNew, Returned}
-use Rattle.mt_private.specs.YardCalls.{AreIn, IsDrained, IsLeft, Keeps, Lodges, VisitEnds, Visits, done_in}
-use Rattle.mt_private.specs.YardPlays.{Made, as_sat, has_added}
+use Rattle.mt_private.specs.YardCalls.{AreIn, IsDrained, IsLeft, Keeps, Lodges, LodgesAtMostOnce, Stay, VisitEnds, Visits, done_in}
+use Rattle.mt_private.specs.YardPlays.{Made, YardSat, as_seat, has_added}
 
 -- from what it was gathered
 abbrev pub start_at : Yard → Start
@@ -40,9 +42,12 @@ goal_at yard = yard.table.shared.key.goal.value
 
 -- ---- the host
 
+abbrev pub seat_in : Yard → Seat Op YardView → SeatOf YardSat
+seat_in yard seat = record { table = yard.table.shared.table_id; start = start_at yard; its = seat.table_id; me = seat.me }
+
 -- a seat is the root's of this yard, and has said this
 abbrev pub LeadsIn : Yard → Seat Op YardView → Go → Type 0
-LeadsIn yard seat go = Leads yard.table.shared.table_id (start_at yard) seat.table_id (as_sat seat.me) go
+LeadsIn yard seat go = Leads (as_seat (seat_in yard seat)) go
 
 -- the host is of this yard, and has said this
 abbrev pub HostsIn : Yard → Host → Go → Type 0
@@ -50,7 +55,7 @@ HostsIn yard host go = LeadsIn yard host.seat go
 
 -- the host is of this yard, whatever it has said
 abbrev pub IsHostOf : Yard → Host → Type 0
-IsHostOf yard host = IsRoot yard.table.shared.table_id host.seat.table_id (as_sat host.seat.me)
+IsHostOf yard host = IsRoot (as_seat (seat_in yard host.seat))
 
 abbrev pub host_view : Host → YardView
 host_view host = host.seat.me.0
@@ -99,13 +104,12 @@ LeavesIn yard host s = Leaves (start_at yard) (host_view host) s
 abbrev pub pass_view : YardPass → YardView
 pass_view pass = pass.seat.me.0
 
--- the pass's seat lodges its resident, which has this own system
-abbrev pub LodgesIn : Yard → YardPass → System → Bool → Bool → Type 0
-LodgesIn yard pass own added again = Lodges yard.table.shared.table_id (start_at yard) pass.seat.table_id pass.seat.me pass.number own added again
+abbrev pub pass_in : Yard → YardPass → PassOf YardSat
+pass_in yard pass = pass_of yard.table.shared.table_id (start_at yard) pass
 
--- the resident's own machine takes part in the update, from a first system
-abbrev pub VisitsIn : Yard → YardPass → Machine → Bool → Bool → Go → System → Type 0
-VisitsIn yard pass core added again go first = Visits yard.table.shared.table_id (start_at yard) pass.seat.table_id pass.seat.me pass.number core added again go first
+-- the pass's seat lodges its resident, which has this own system
+abbrev pub LodgesIn : Yard → YardPass → System → Added → Type 0
+LodgesIn yard pass own added = Lodges (pass_in yard pass) own added
 
 -- the pass's processor has added to the first count
 abbrev pub HasAdded : YardPass → Type 0
@@ -117,15 +121,14 @@ done_of pass = done_in pass.seat.me
 
 -- the guest is of this yard, whatever its pass has added
 abbrev pub IsGuestOf : Yard → Guest → Type 0
-IsGuestOf yard guest = (added : Bool) × (again : Bool) × LodgesIn yard guest.pass guest.own added again
+IsGuestOf yard guest = (added : Added) × LodgesIn yard guest.pass guest.own added
 
--- what comes of a guest with that pass and own system
-abbrev pub VisitEndsIn : Visited → Yard → RegisterFile → Job → YardPass → System → YardPass → System → Told → Type 0
-VisitEndsIn visited yard goal job pass own later new told =
-    VisitEnds visited yard.table.shared.table_id (start_at yard) pass.number goal job own later.seat.table_id later.seat.me new told
+-- what comes of a guest with that pass and that stay
+abbrev pub VisitEndsIn : Visited → Yard → YardPass → Stay → Type 0
+VisitEndsIn visited yard pass stay = VisitEnds visited (pass_in yard pass) stay
 
 abbrev pub IsGatheredIn : Yard → ℕ → Guest → Type 0
-IsGatheredIn yard k guest = IsGathered yard.table.shared.table_id (start_at yard) k guest.pass.seat.table_id guest.pass.seat.me guest.pass.number guest.own
+IsGatheredIn yard k guest = IsGathered (pass_in yard guest.pass) k guest.own
 
 abbrev pub AreGatheredIn : Yard → List Guest → Type 0
 AreGatheredIn yard guests = AreGathered yard.table.shared.table_id (start_at yard) guests
@@ -143,7 +146,7 @@ pub record IsGatheredFrom (t : Start) (yard : Yard) (host : Host) (guests : List
 
 -- it hasn't taken: its processor runs, and its pass has added to no count
 pub record HasNotTaken (yard : Yard) (pass : YardPass) (core : Machine) : Type 0 where
-  pub lodges : LodgesIn yard pass core.system false false
+  pub lodges : LodgesIn yard pass core.system Never
   pub runs : AreIn Running core.system
   pub idle : core.order ≡ None
 
@@ -151,40 +154,40 @@ pub record HasNotTaken (yard : Yard) (pass : YardPass) (core : Machine) : Type 0
 
 -- it has taken: its buffers are empty, and nothing else has changed
 pub record IsTaken (yard : Yard) (pass : YardPass) (core : Machine) (first : System) : Type 0 where
-  pub visits : VisitsIn yard pass core false false Pending first
+  pub visits : Visits (pass_in yard pass) core Never Pending first
   pub phase : AreIn Taken core.system
   pub drained : IsDrained first core.system
 
 -- its pass has added to the first count, which is the event Arrive unless the count held the cancel
 pub record HasArrived (yard : Yard) (pass : YardPass) (core : Machine) (first : System) : Type 0 where
-  pub visits : VisitsIn yard pass core true false Pending first
+  pub visits : Visits (pass_in yard pass) core Once Pending first
   pub phase : AreIn Taken core.system ⊎ AreIn Arrived core.system
   pub drained : IsDrained first core.system
 
 -- it has passed the first barrier
 pub record HasPassed (yard : Yard) (pass : YardPass) (core : Machine) (first : System) : Type 0 where
-  pub visits : VisitsIn yard pass core true false Given first
+  pub visits : Visits (pass_in yard pass) core Once Given first
   pub phase : AreIn Passed core.system
 
 -- it is between the barriers
 pub record IsBetween (yard : Yard) (pass : YardPass) (core : Machine) (first : System) : Type 0 where
-  pub visits : VisitsIn yard pass core true false Given first
+  pub visits : Visits (pass_in yard pass) core Once Given first
   pub phase : (ph : Phase) × AreIn ph core.system × (is_changing ph ≡ true)
 
 -- its pass has added to the second count
 pub record HasArrivedAgain (yard : Yard) (pass : YardPass) (core : Machine) (first : System) : Type 0 where
-  pub visits : VisitsIn yard pass core true true Given first
+  pub visits : Visits (pass_in yard pass) core Twice Given first
   pub phase : AreIn Arrived2 core.system
 
 -- it has left the second barrier: its processor runs, and a load of the second count showed all processors
 pub record IsReleased (yard : Yard) (pass : YardPass) (core : Machine) : Type 0 where
-  pub lodges : LodgesIn yard pass core.system true true
+  pub lodges : LodgesIn yard pass core.system Twice
   pub runs : AreIn Running core.system
   pub shown : (pass_view pass).shown ≡ Some yard.count
 
 -- it has left an update that was cancelled, which began from a first system: a load of the first count showed the cancel
 pub record HasLeft (yard : Yard) (pass : YardPass) (core : Machine) (first : System) : Type 0 where
-  pub lodges : (added : Bool) × LodgesIn yard pass core.system added false
+  pub lodges : LodgesAtMostOnce (pass_in yard pass) core.system
   pub cancel : (pass_view pass).cancel ≡ true
   pub left : IsLeft first core.system
 
@@ -192,29 +195,28 @@ pub record HasLeft (yard : Yard) (pass : YardPass) (core : Machine) (first : Sys
 abbrev pub IsOutside : Yard → YardPass → Machine → Type 0
 IsOutside yard pass core = HasNotTaken yard pass core ⊎ IsReleased yard pass core
 
--- ---- visitors of a session
+-- ---- visitors of a gathering
 
 -- it has this number and the job at that place, and has not begun
-pub record IsNewIn (session : Session) (k : ℕ) (visitor : Visitor) : Type 0 where
+pub record IsNewIn (gathering : Gathering) (k : ℕ) (visitor : Visitor) : Type 0 where
   pub job : Job
-  pub at : slice_get session.jobs.items k ≡ Some job
-  pub new : IsNew session.yard.table.shared.table_id (start_at session.yard) job k visitor
+  pub at : slice_get gathering.jobs.items k ≡ Some job
+  pub new : IsNew gathering.yard.table.shared.table_id (start_at gathering.yard) job k visitor
 
 -- it has this number and the job at that place, and its visit has ended
-pub record HasComeIn (session : Session) (k : ℕ) (visitor : Visitor) : Type 0 where
+pub record HasComeIn (gathering : Gathering) (k : ℕ) (visitor : Visitor) : Type 0 where
   pub job : Job
-  pub at : slice_get session.jobs.items k ≡ Some job
-  pub come : HasCome session.yard.table.shared.table_id (start_at session.yard) job k visitor
+  pub at : slice_get gathering.jobs.items k ≡ Some job
+  pub come : HasCome gathering.yard.table.shared.table_id (start_at gathering.yard) job k visitor
 
 -- none of the guests in the queue has begun, and each has a place for its answers
-abbrev pub AreWaitingIn : Session → Queue → Type 0
-AreWaitingIn session queue = AreWaiting session.yard.table.shared.table_id (start_at session.yard) session.jobs.items queue.waiting.items queue.told.items
+abbrev pub AreWaitingIn : Gathering → Queue → Type 0
+AreWaitingIn gathering queue = AreWaiting gathering.yard.table.shared.table_id (start_at gathering.yard) gathering.jobs.items queue.waiting.items queue.told.items
 
 -- the answers of all guests in the queue fit the list that has their places now
 abbrev pub HasRoom : Queue → Type 0
 HasRoom queue = length queue.waiting.items ≤ vec_capacity queue.told
 
 -- the first visitors have come back, as many as there are answers
-abbrev pub ReturnedIn : Session → Host → List Told → Type 0
-ReturnedIn session host told =
-    Returned session.yard.table.shared.table_id (start_at session.yard) session.jobs.items host.seat.table_id host.seat.me host.owns.items told
+abbrev pub ReturnedIn : Gathering → Host → List Told → Type 0
+ReturnedIn gathering host told = Returned (seat_in gathering.yard host.seat) gathering.jobs.items host.owns.items told

@@ -9,7 +9,7 @@ use Rattle.mt_private.specs.declared.joint.Joint.TheVariants.{Less, Over}
 use Rattle.mt_private.specs.declared.view.Resident.{Resident}
 use Rattle.mt_private.specs.declared.view.YardView.{YardView}
 use Rattle.mt_private.specs.Own.{own_system}
-use Rattle.mt_private.specs.Residents.{Yard, pages_at, system_of}
+use Rattle.mt_private.specs.Residents.{Yard, pages_at, system_of, scene}
 use Rattle.mt_private.specs.YardCalls.{Keeps}
 use Rattle.mt_private.specs.YardRule.{AreAt}
 
@@ -64,7 +64,7 @@ pub record Leaves (t : Start) (v : YardView) (s : System) : Type 0 where
   pub all : List Resident
   pub first : ℕ
   pub second : ℕ
-  pub yard : Yard t all v.go first second s
+  pub yard : Yard t (scene all v.go s) first second
   pub same : AreAt all v.held
   pub shown : v.cancel ≡ true → v.go ≡ Cancelled
 

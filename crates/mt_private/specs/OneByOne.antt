@@ -59,7 +59,7 @@ abbrev pub jobs_one_by_one : System → RegisterFile → List Job → OneByOne
 jobs_one_by_one s goal jobs = one_by_one s goal (map (ops_in Before) jobs) (map (ops_in After) jobs)
 
 -- the machine and the answers are those
-pub record AreOneByOne (s : System) (goal : RegisterFile) (jobs : List Job) (m : Machine) (told : List Told) : Type 0 where
-  pub left : m ≡ (jobs_one_by_one s goal jobs).left
-  pub before : map (answers_in Before) told ≡ (jobs_one_by_one s goal jobs).before
-  pub after : map (answers_in After) told ≡ (jobs_one_by_one s goal jobs).after
+pub record AreOneByOne (all : OneByOne) (m : Machine) (told : List Told) : Type 0 where
+  pub left : m ≡ all.left
+  pub before : map (answers_in Before) told ≡ all.before
+  pub after : map (answers_in After) told ≡ all.after

@@ -16,9 +16,11 @@ use Rattle.mt_machine.specs.Access.{access}
 use Rattle.mt_machine.specs.Machine.{Calls, IsEnabled, Machine, MachineEvent, common_era, next, step, stepped}
 use Rattle.mt_machine.specs.Start.{IsQuiet}
 use Rattle.mt_machine.specs.Update.{is_call}
+use Rattle.mt_rendezvous.specs.declared.view.Added.{Added}
+use Rattle.mt_rendezvous.specs.declared.view.Added.TheVariants.{Never}
 use Rattle.mt_rendezvous.specs.declared.view.Held.{Held}
 use Rattle.mt_rendezvous.specs.declared.view.Start.{Start}
-use Rattle.mt_rendezvous.specs.Station.{Fits, added_of, again_of, broadcast, cpu_of, go_weight, held, order_of, rise, total}
+use Rattle.mt_rendezvous.specs.Station.{Fits, added_of, again_of, broadcast, cpu_of, go_weight, held, in_second, order_of, rise, total}
 use Rattle.mt_rendezvous.specs.Plays.{CanFollow, after_event}
 use Rattle.mt_private.specs.declared.view.Resident.{Resident}
 use Rattle.mt_private.specs.OneByOne.{at_rest}
@@ -65,13 +67,13 @@ pub record StandsFor (t : Start) (all : List Resident) (s : System) : Type 0 whe
   pub left : own_memory (pages_left t) s.memory ≡ own_memory (pages_left t) t.ram
 
 -- how a processor's phase and what its pass has added go together: as at a rendezvous, and before it takes it runs
-abbrev pub FitsYard : Go → Bool → Bool → Phase → Type 0
-FitsYard go added again Running = ((added ≡ false) × (again ≡ false)) ⊎ Fits go added again Running
-FitsYard go added again other = Fits go added again other
+abbrev pub FitsYard : Go → Added → Phase → Type 0
+FitsYard go added Running = (added ≡ Never) ⊎ Fits go added Running
+FitsYard go added other = Fits go added other
 
 pub record FitsResident (t : Start) (go : Go) (h : Held) : Type 0 where
-  pub fits : FitsYard go h.added h.again h.cpu.phase
-  pub era : h.cpu.era ≡ common_era t.cpus + rise h.again h.cpu.phase
+  pub fits : FitsYard go h.added h.cpu.phase
+  pub era : h.cpu.era ≡ common_era t.cpus + rise (in_second h.added) h.cpu.phase
 
 -- the order is there while its update isn't over
 abbrev pub yard_machine : Start → Go → System → Machine
@@ -82,20 +84,38 @@ pub data Uncalled : Machine → Machine → Type 0 where
   uncalled_start : {s : Machine} → Uncalled s s
   uncalled_on : {s t : Machine} → (e : MachineEvent) → Uncalled s t → IsEnabled t e → is_call e ≡ false → Uncalled s (next t e)
 
--- residents and what the coordinator said stand for a machine that the state after the call reaches without another call
-pub record Resides (t : Start) (all : List Resident) (go : Go) (s : System) : Type 0 where
-  pub opens : Opens t
-  pub reached : Uncalled (broadcast t) (yard_machine t go s)
-  pub stands : StandsFor t all s
-  pub size : length all ≡ length t.cpus
-  pub fits : (k : ℕ) (y : Resident) → get_elem? all k ≡ some y → FitsResident t go y.held × (y.held.number ≡ k)
-
--- one resident moves, and w stands for it then: the machine takes this event, which was enabled, or stays as it is
-pub record Moves (t : Start) (all : List Resident) (go : Go) (s : System) (k : ℕ) (w : Resident) (e : Option MachineEvent) : Type 0 where
+-- all residents, what the coordinator said, and a system
+pub record Scene : Type 0 where
+  pub all : List Resident
+  pub go : Go
   pub system : System
-  pub enabled : CanFollow (yard_machine t go s) e
-  pub becomes : yard_machine t go system ≡ after_event (yard_machine t go s) e
-  pub kept : Resides t (slice_set all k w) go system
+
+abbrev pub scene : List Resident → Go → System → Scene
+scene all go s = record { all = all; go = go; system = s }
+
+-- they stand for a machine that the state after the call reaches without another call
+pub record Resides (t : Start) (now : Scene) : Type 0 where
+  pub opens : Opens t
+  pub reached : Uncalled (broadcast t) (yard_machine t now.go now.system)
+  pub stands : StandsFor t now.all now.system
+  pub size : length now.all ≡ length t.cpus
+  pub fits : (k : ℕ) (y : Resident) → get_elem? now.all k ≡ some y → FitsResident t now.go y.held × (y.held.number ≡ k)
+
+-- a move of the resident with this number, which is this one then, by this event or by none
+pub record Move : Type 0 where
+  pub number : ℕ
+  pub becomes : Resident
+  pub event : Option MachineEvent
+
+abbrev pub move_of : ℕ → Resident → Option MachineEvent → Move
+move_of k w e = record { number = k; becomes = w; event = e }
+
+-- one resident moves so: the machine takes the event, which was enabled, or stays as it is
+pub record Moves (t : Start) (now : Scene) (m : Move) : Type 0 where
+  pub system : System
+  pub enabled : CanFollow (yard_machine t now.go now.system) m.event
+  pub becomes : yard_machine t now.go system ≡ after_event (yard_machine t now.go now.system) m.event
+  pub kept : Resides t (scene (slice_set now.all m.number m.becomes) now.go system)
 
 -- ---- what each step makes of a resident
 
@@ -105,7 +125,7 @@ with_held y h = record y { held = h }
 -- it has the processor and the words of this system
 abbrev pub with_first : Resident → List Processor → Memory → Resident
 with_first y [] m = y
-with_first y (p ∷ ps) m = record y { held = held y.held.number p y.held.added y.held.again; ram = m }
+with_first y (p ∷ ps) m = record y { held = held y.held.number p y.held.added; ram = m }
 
 abbrev pub in_system : Resident → System → Resident
 in_system y o = with_first y o.processors o.memory
@@ -125,19 +145,19 @@ accessed_by op y = record (in_system y (access (own_of y) 0 op).after) { done = 
 -- ---- the two counts
 
 -- the residents and the two counts stand for a machine
-pub record Yard (t : Start) (all : List Resident) (go : Go) (first second : ℕ) (s : System) : Type 0 where
-  pub resides : Resides t all go s
-  pub first_count : first ≡ total added_of (map held_of all) + go_weight go
-  pub second_count : second ≡ total again_of (map held_of all)
+pub record Yard (t : Start) (now : Scene) (first second : ℕ) : Type 0 where
+  pub resides : Resides t now
+  pub first_count : first ≡ total added_of (map held_of now.all) + go_weight now.go
+  pub second_count : second ≡ total again_of (map held_of now.all)
 
 -- one resident moves, as above, and the counts are these then
-pub record Follows (t : Start) (all : List Resident) (go : Go) (s : System) (k : ℕ) (w : Resident) (e : Option MachineEvent) (first second : ℕ) : Type 0 where
-  pub moves : Moves t all go s k w e
-  pub first_count : first ≡ total added_of (map held_of (slice_set all k w)) + go_weight go
-  pub second_count : second ≡ total again_of (map held_of (slice_set all k w))
+pub record Follows (t : Start) (now : Scene) (m : Move) (first second : ℕ) : Type 0 where
+  pub moves : Moves t now m
+  pub first_count : first ≡ total added_of (map held_of (slice_set now.all m.number m.becomes)) + go_weight now.go
+  pub second_count : second ≡ total again_of (map held_of (slice_set now.all m.number m.becomes))
 
--- the coordinator says so: this event, and the first count is this then
-pub record Decides (t : Start) (all : List Resident) (go : Go) (first second : ℕ) (s : System) (e : MachineEvent) : Type 0 where
-  pub enabled : IsEnabled (yard_machine t Pending s) e
-  pub becomes : yard_machine t go s ≡ next (yard_machine t Pending s) e
-  pub kept : Yard t all go first second s
+-- the coordinator says what it says now: this event, and the counts are these then
+pub record Decides (t : Start) (now : Scene) (first second : ℕ) (e : MachineEvent) : Type 0 where
+  pub enabled : IsEnabled (yard_machine t Pending now.system) e
+  pub becomes : yard_machine t now.go now.system ≡ next (yard_machine t Pending now.system) e
+  pub kept : Yard t now first second

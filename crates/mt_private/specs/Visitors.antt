@@ -11,7 +11,7 @@ use Rattle.mt_machine.specs.System.{System}
 use Rattle.mt_machine.specs.Machine.{Calls, IsEnabled, Machine}
 use Rattle.mt_machine.specs.Start.{HasEraRoom, IsQuiet}
 use Rattle.mt_rendezvous.specs.declared.view.Start.{Start}
-use Rattle.mt_rendezvous.specs.Calls.{IsRoot}
+use Rattle.mt_rendezvous.specs.Calls.{IsRoot, PassOf, SeatOf}
 use Rattle.mt_private.specs.declared.job.Job.{Job}
 use Rattle.mt_private.specs.declared.job.Part.{Part}
 use Rattle.mt_private.specs.declared.job.Part.TheVariants.{After, Before}
@@ -22,24 +22,28 @@ use Rattle.mt_private.specs.declared.visiting.Guest.{Guest}
 use Rattle.mt_private.specs.declared.visiting.Visited.{Visited}
 use Rattle.mt_private.specs.declared.visiting.Visited.TheVariants.{Cancelled}
 use Rattle.mt_private.specs.declared.visitor.Visitor.{Visitor}
-use Rattle.mt_private.specs.Gathered.{AreGathered, IsGathered}
+use Rattle.mt_private.specs.Gathered.{AreGathered, IsGathered, pass_of}
 use Rattle.mt_private.specs.Jobs.{AreOpen, FitsJob, IsOpen, answers_in}
 use Rattle.mt_private.specs.Left.{AreOwnsOf, Leaves}
 use Rattle.mt_private.specs.OneByOne.{jobs_one_by_one}
 use Rattle.mt_private.specs.Own.{own_system}
 use Rattle.mt_private.specs.Residents.{pages_at, system_of}
-use Rattle.mt_private.specs.YardCalls.{AreIn, Keeps, VisitEnds}
-use Rattle.mt_private.specs.YardPlays.{YardSat, as_sat}
+use Rattle.mt_private.specs.YardCalls.{AreIn, Keeps, Stay, VisitEnds}
+use Rattle.mt_private.specs.YardPlays.{YardSat, as_seat}
 
 -- the own system of processor k, as it was gathered
 abbrev pub own_at : Start → ℕ → System
 own_at t k = own_system (pages_at t k) k (system_of t)
 
+-- a stay of guest k from then on
+abbrev pub stay_at : Start → ℕ → Job → System → Told → Stay
+stay_at t k job last told = record { job = job; first = own_at t k; last = last; told = told }
+
 -- ---- one visitor
 
 -- it has not begun: it is the guest with this number as it was gathered, its processor runs, and there is room for the answers to its job
 pub record IsNew (table : TableId) (t : Start) (job : Job) (k : ℕ) (v : Visitor) : Type 0 where
-  pub gathered : IsGathered table t k v.pass.seat.table_id v.pass.seat.me v.pass.number v.core.system
+  pub gathered : IsGathered (pass_of table t v.pass) k v.core.system
   pub idle : v.core.order ≡ None
   pub runs : AreIn Running v.core.system
   pub fits : FitsJob job
@@ -47,7 +51,7 @@ pub record IsNew (table : TableId) (t : Start) (job : Job) (k : ℕ) (v : Visito
 
 -- its visit has ended, it has this number and runs, and where it left there is room still for the answers after the update
 pub record HasCome (table : TableId) (t : Start) (job : Job) (k : ℕ) (v : Visitor) : Type 0 where
-  pub ends : VisitEnds v.visited table t k t.goal job (own_at t k) v.pass.seat.table_id v.pass.seat.me v.core.system v.told
+  pub ends : VisitEnds v.visited (pass_of table t v.pass) (stay_at t k job v.core.system v.told)
   pub numbered : v.pass.number ≡ k
   pub runs : AreIn Running v.core.system
   pub has_room : v.visited ≡ Cancelled → IsOpen After job v.told
@@ -67,25 +71,29 @@ pub record AreWaiting (table : TableId) (t : Start) (jobs : List Job) (waiting :
 abbrev pub IsFresh : Start → YardView → List (Option System) → Type 0
 IsFresh t v owns = (v.held ≡ []) × (owns ≡ replicate (length t.cpus) None)
 
+-- the seat of a pass of the host's table
+abbrev pub pass_to : SeatOf YardSat → ℕ → TableId → YardSat → PassOf YardSat
+pass_to host k its me = record { table = host.table; start = host.start; its = its; me = me; number = k }
+
 -- visitor k came back with these answers: its visit ended so, the host keeps its own system and holds its resident, and knows whether it was shown the cancel
-pub record CameBack (table : TableId) (t : Start) (job : Job) (k : ℕ) (v : YardView) (owns : List (Option System)) (told : Told) : Type 0 where
+pub record CameBack (host : SeatOf YardSat) (job : Job) (k : ℕ) (owns : List (Option System)) (told : Told) : Type 0 where
   pub visited : Visited
   pub own : System
   pub its : TableId
   pub me : YardSat
-  pub ends : VisitEnds visited table t k t.goal job (own_at t k) its me own told
+  pub ends : VisitEnds visited (pass_to host k its me) (stay_at host.start k job own told)
   pub runs : AreIn Running own
   pub has_room : visited ≡ Cancelled → IsOpen After job told
   pub kept : slice_get owns k ≡ Some (Some own)
-  pub among : (y : Resident) → me.0.held ≡ y ∷ [] → (i : ℕ) × (get_elem? v.held i ≡ some y)
-  pub shown : me.0.cancel ≡ true → v.cancel ≡ true
+  pub among : (y : Resident) → me.0.held ≡ y ∷ [] → (i : ℕ) × (get_elem? host.me.0.held i ≡ some y)
+  pub shown : me.0.cancel ≡ true → host.me.0.cancel ≡ true
 
 -- the first ones came back, as many as there are answers
-pub record Returned (table : TableId) (t : Start) (jobs : List Job) (its : TableId) (me : YardSat) (owns : List (Option System)) (told : List Told) : Type 0 where
-  pub root : IsRoot table its (as_sat me)
-  pub size : length owns ≡ length t.cpus
-  pub keeps : Keeps me.0 owns
-  pub each : (k : ℕ) (job : Job) (r : Told) → slice_get jobs k ≡ Some job → slice_get told k ≡ Some r → CameBack table t job k me.0 owns r
+pub record Returned (host : SeatOf YardSat) (jobs : List Job) (owns : List (Option System)) (told : List Told) : Type 0 where
+  pub root : IsRoot (as_seat host)
+  pub size : length owns ≡ length host.start.cpus
+  pub keeps : Keeps host.me.0 owns
+  pub each : (k : ℕ) (job : Job) (r : Told) → slice_get jobs k ≡ Some job → slice_get told k ≡ Some r → CameBack host job k owns r
 
 -- the whole update can be done in one piece, and then the accesses after it, for whose answers there are places
 pub record CanGoOn (m : Machine) (goal : RegisterFile) (jobs : List Job) (told : List Told) : Type 0 where
@@ -104,8 +112,8 @@ pub record CanGoOn (m : Machine) (goal : RegisterFile) (jobs : List Job) (told :
 -- where the first ones came back as many as there are processors, and the go was given, the system left and all answers are those of the jobs and the update one by one
 abbrev pub EndsOneByOne : Type 0
 EndsOneByOne =
-    (table : TableId) (t : Start) (jobs : List Job) (its : TableId) (me : YardSat) (owns : List (Option System)) (told : List Told) (s : System)
-    → Returned table t jobs its me owns told → length jobs ≡ length t.cpus → length told ≡ length jobs → Leaves t me.0 s → AreOwnsOf t owns s → me.0.go ≡ Given
-    → (s ≡ (jobs_one_by_one (system_of t) t.goal jobs).left.system)
-    × (map (answers_in Before) told ≡ (jobs_one_by_one (system_of t) t.goal jobs).before)
-    × (map (answers_in After) told ≡ (jobs_one_by_one (system_of t) t.goal jobs).after)
+    (host : SeatOf YardSat) (jobs : List Job) (owns : List (Option System)) (told : List Told) (s : System)
+    → Returned host jobs owns told → length jobs ≡ length host.start.cpus → length told ≡ length jobs → Leaves host.start host.me.0 s → AreOwnsOf host.start owns s → host.me.0.go ≡ Given
+    → (s ≡ (jobs_one_by_one (system_of host.start) host.start.goal jobs).left.system)
+    × (map (answers_in Before) told ≡ (jobs_one_by_one (system_of host.start) host.start.goal jobs).before)
+    × (map (answers_in After) told ≡ (jobs_one_by_one (system_of host.start) host.start.goal jobs).after)

@@ -1,8 +1,7 @@
 -- What the calls of a yard say.
-use Rattle.std.specs.Prelude.{◌≡◌, ◌⊎◌, ℕ, ◌<◌, Bool, true, false, List, [], ◌∷◌, ◌++◌, length, map, slice_get, Option, Some}
+use Rattle.std.specs.Prelude.{◌≡◌, ◌⊎◌, ℕ, ◌<◌, true, false, List, [], ◌∷◌, ◌++◌, length, map, slice_get, Option, Some}
 use mathlib.Core.Option.{some}
 use lib.ListN.{get_elem?}
-use Rattle.atomic_table.specs.Seated.{TableId}
 use Rattle.mt_machine.specs.declared.op.Op.{Op}
 use Rattle.mt_machine.specs.declared.phase.Phase.{Phase}
 use Rattle.mt_machine.specs.declared.phase.Phase.TheVariants.{Running}
@@ -16,15 +15,17 @@ use Rattle.mt_machine.specs.Update.{updated}
 use Rattle.mt_regs.specs.RegisterFile.{RegisterFile}
 use Rattle.mt_core.specs.Rounds.{Rounds, with_go_given}
 use Rattle.mt_core.specs.Steps.{under_way}
-use Rattle.mt_rendezvous.specs.declared.view.Start.{Start}
-use Rattle.mt_rendezvous.specs.Station.{held, order_of}
+use Rattle.mt_rendezvous.specs.declared.view.Added.{Added}
+use Rattle.mt_rendezvous.specs.declared.view.Added.TheVariants.{Twice}
+use Rattle.mt_rendezvous.specs.Calls.{PassOf}
+use Rattle.mt_rendezvous.specs.Station.{held, in_second, order_of}
 use Rattle.mt_private.specs.declared.view.Resident.{Resident}
 use Rattle.mt_private.specs.declared.view.YardView.{YardView}
 use Rattle.mt_private.specs.declared.job.Job.{Job}
 use Rattle.mt_private.specs.declared.job.Told.{Told}
 use Rattle.mt_private.specs.declared.visiting.Visited.{Visited}
 use Rattle.mt_private.specs.declared.visiting.Visited.TheVariants.{Cancelled, Complete}
-use Rattle.mt_private.specs.OneByOne.{at_rest, ran}
+use Rattle.mt_private.specs.OneByOne.{Ran, at_rest, ran}
 use Rattle.mt_private.specs.Residents.{own_of}
 use Rattle.mt_private.specs.YardPlays.{YardSat}
 
@@ -44,15 +45,19 @@ stored_by (y ∷ ys) = y.stored
 abbrev pub stored_in : YardSat → ℕ
 stored_in me = stored_by me.0.held
 
--- a seat of the table lodges one resident: it has this number, and the processor and the words of this system, which has no other
-pub record Lodges (table : TableId) (t : Start) (its : TableId) (me : YardSat) (number : ℕ) (own : System) (added again : Bool) : Type 0 where
+-- the pass's seat is of its table, and lodges one resident: it has the processor and the words of this system, which has no other
+pub record Lodges (pass : PassOf YardSat) (own : System) (added : Added) : Type 0 where
   pub cpu : Processor
-  pub same : its ≡ table
+  pub same : pass.its ≡ pass.table
   pub alone : own.processors ≡ cpu ∷ []
-  pub holds : me.0.held ≡ record { held = held number cpu added again; ram = own.memory; done = done_in me; stored = stored_in me } ∷ []
-  pub told : me.0.start ≡ t
-  pub below : number < length t.cpus
-  pub bare : me.1 ≡ []
+  pub holds : pass.me.0.held ≡ record { held = held pass.number cpu added; ram = own.memory; done = done_in pass.me; stored = stored_in pass.me } ∷ []
+  pub told : pass.me.0.start ≡ pass.start
+  pub below : pass.number < length pass.start.cpus
+  pub bare : pass.me.1 ≡ []
+
+-- so, and the pass hasn't added to the second count
+abbrev pub LodgesAtMostOnce : PassOf YardSat → System → Type 0
+LodgesAtMostOnce pass own = (added : Added) × Lodges pass own added × (in_second added ≡ false)
 
 -- what a host keeps by its number is of a resident that came back
 abbrev pub Keeps : YardView → List (Option System) → Type 0
@@ -67,14 +72,14 @@ abbrev pub in_phase : Phase → System → System
 in_phase ph s = record s { processors = map (λ (p : Processor). record p { phase = ph }) s.processors }
 
 -- the resident's own machine takes part in the yard's update; the goal could be called on the first system; and where the machine's rounds end once the go is given, there end those from that call
-pub record Visits (table : TableId) (t : Start) (its : TableId) (me : YardSat) (number : ℕ) (core : Machine) (added again : Bool) (go : Go) (first : System) : Type 0 where
-  pub lodges : Lodges table t its me number core.system added again
-  pub order : core.order ≡ Some (order_of t go)
-  pub era : common_era core.system.processors ≡ common_era t.cpus
+pub record Visits (pass : PassOf YardSat) (core : Machine) (added : Added) (go : Go) (first : System) : Type 0 where
+  pub lodges : Lodges pass core.system added
+  pub order : core.order ≡ Some (order_of pass.start go)
+  pub era : common_era core.system.processors ≡ common_era pass.start.cpus
   pub one : length first.processors ≡ 1
   pub quiet : IsQuiet (at_rest first)
-  pub enabled : IsEnabled (at_rest first) (Calls t.goal)
-  pub rounds : (n : Machine) → Rounds (under_way (order_of t Given) core.system) n → Rounds (with_go_given (next (at_rest first) (Calls t.goal))) n
+  pub enabled : IsEnabled (at_rest first) (Calls pass.start.goal)
+  pub rounds : (n : Machine) → Rounds (under_way (order_of pass.start Given) core.system) n → Rounds (with_go_given (next (at_rest first) (Calls pass.start.goal))) n
 
 -- the first system once its buffers are emptied, in some phase
 abbrev pub IsDrained : System → System → Type 0
@@ -88,20 +93,35 @@ updated_own goal s = (updated s (0 ∷ []) goal).system
 abbrev pub IsLeft : System → System → Type 0
 IsLeft first own = (own ≡ first) ⊎ (own ≡ in_phase Running (drain 0 first))
 
+-- a guest's stay: its job, the system that it came with, the one that it leaves with, and its answers
+pub record Stay : Type 0 where
+  pub job : Job
+  pub first : System
+  pub last : System
+  pub told : Told
+
+-- its system after the accesses before the update
+abbrev pub after_first : Stay → System
+after_first stay = (ran 0 stay.job.before.items stay.first).after
+
+-- and its accesses once the whole update is done
+abbrev pub after_update_of : RegisterFile → Stay → Ran
+after_update_of goal stay = ran 0 stay.job.after.items (updated_own goal (after_first stay))
+
 -- what comes of a guest. Complete: the accesses before, the whole update and the accesses after, and a load showed that all had arrived again.
 -- Cancelled: the accesses before, and a load showed the cancel
-abbrev pub VisitEnds : Visited → TableId → Start → ℕ → RegisterFile → Job → System → TableId → YardSat → System → Told → Type 0
-VisitEnds Complete table t number goal job own its me new told =
-    Lodges table t its me number new true true
-    × (me.0.shown ≡ Some (length t.cpus))
-    × (new ≡ (ran 0 job.after.items (updated_own goal (ran 0 job.before.items own).after)).after)
-    × (told.before.items ≡ (ran 0 job.before.items own).answers)
-    × (told.after.items ≡ (ran 0 job.after.items (updated_own goal (ran 0 job.before.items own).after)).answers)
-    × (done_in me ≡ job.before.items ++ job.after.items)
-VisitEnds Cancelled table t number goal job own its me new told =
-    ((added : Bool) × Lodges table t its me number new added false)
-    × (me.0.cancel ≡ true)
-    × IsLeft (ran 0 job.before.items own).after new
-    × (told.before.items ≡ (ran 0 job.before.items own).answers)
-    × (told.after.items ≡ [])
-    × (done_in me ≡ job.before.items)
+abbrev pub VisitEnds : Visited → PassOf YardSat → Stay → Type 0
+VisitEnds Complete pass stay =
+    Lodges pass stay.last Twice
+    × (pass.me.0.shown ≡ Some (length pass.start.cpus))
+    × (stay.last ≡ (after_update_of pass.start.goal stay).after)
+    × (stay.told.before.items ≡ (ran 0 stay.job.before.items stay.first).answers)
+    × (stay.told.after.items ≡ (after_update_of pass.start.goal stay).answers)
+    × (done_in pass.me ≡ stay.job.before.items ++ stay.job.after.items)
+VisitEnds Cancelled pass stay =
+    LodgesAtMostOnce pass stay.last
+    × (pass.me.0.cancel ≡ true)
+    × IsLeft (after_first stay) stay.last
+    × (stay.told.before.items ≡ (ran 0 stay.job.before.items stay.first).answers)
+    × (stay.told.after.items ≡ [])
+    × (done_in pass.me ≡ stay.job.before.items)

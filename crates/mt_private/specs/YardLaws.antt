@@ -22,81 +22,81 @@ use Rattle.mt_rendezvous.specs.Plays.{CanFollow, after_event, arrive, arrive_aga
 use Rattle.mt_private.specs.declared.view.Resident.{Resident}
 use Rattle.mt_private.specs.declared.view.YardView.{YardView}
 use Rattle.mt_private.specs.OneByOne.{at_rest}
-use Rattle.mt_private.specs.Residents.{Decides, Follows, Opens, Yard, accessed_by, own_of, stepped_by, system_of, with_held, with_stored}
+use Rattle.mt_private.specs.Residents.{Decides, Follows, Opens, Yard, accessed_by, own_of, stepped_by, system_of, with_held, with_stored, scene, move_of}
 use Rattle.mt_private.specs.YardPlays.{Tells, YardSat, word_after}
+use Rattle.mt_rendezvous.specs.declared.view.Added.TheVariants.{Never, Once, Twice}
+use Rattle.mt_rendezvous.specs.declared.view.Added.{Added}
 use Rattle.mt_private.specs.YardRule.{MeetsYard, first_yard_view, its_machine, with_one, with_decision, yard_both, yard_left, yard_right, yard_spent}
 
--- a yard, and its resident k, whose pass has added so
-pub record Has (t : Start) (all : List Resident) (go : Go) (first second : ℕ) (s : System) (k : ℕ) (y : Resident) (added again : Bool) : Type 0 where
-  pub yard : Yard t all go first second s
+-- resident k, whose pass has added so
+pub record Has (all : List Resident) (k : ℕ) (y : Resident) (added : Added) : Type 0 where
   pub at : get_elem? all k ≡ some y
   pub has_added : y.held.added ≡ added
-  pub has_added_again : y.held.again ≡ again
 
 -- ---- a load of the first count
 
 -- one that runs, and hasn't taken, takes where the count shows no cancel
 abbrev pub LoadTakes : Type 0
 LoadTakes =
-    (t : Start) (all : List Resident) (go : Go) (first second : ℕ) (s : System) (k : ℕ) (y : Resident) → Has t all go first second s k y false false → y.held.cpu.phase ≡ Running
-    → first < 4294967296 → Follows t all go s k (stepped_by t Take y) (Some (Steps k Take)) first second
+    (t : Start) (all : List Resident) (go : Go) (first second : ℕ) (s : System) (k : ℕ) (y : Resident) → Yard t (scene all go s) first second → Has all k y Never → y.held.cpu.phase ≡ Running
+    → first < 4294967296 → Follows t (scene all go s) (move_of k (stepped_by t Take y) (Some (Steps k Take))) first second
 
 -- any load by which nobody moves is no event
 abbrev pub LoadStays : Type 0
 LoadStays =
-    (t : Start) (all : List Resident) (go : Go) (first second : ℕ) (s : System) (k : ℕ) (y : Resident) → Yard t all go first second s → get_elem? all k ≡ some y
-    → Follows t all go s k y None first second
+    (t : Start) (all : List Resident) (go : Go) (first second : ℕ) (s : System) (k : ℕ) (y : Resident) → Yard t (scene all go s) first second → get_elem? all k ≡ some y
+    → Follows t (scene all go s) (move_of k y None) first second
 
 abbrev pub LoadPasses : Type 0
 LoadPasses =
-    (t : Start) (all : List Resident) (go : Go) (first second : ℕ) (s : System) (k : ℕ) (y : Resident) → Has t all go first second s k y true false → y.held.cpu.phase ≡ Arrived
-    → first ≡ length t.cpus + 1 → Follows t all go s k (with_held y (does t Pass y.held)) (Some (Steps k Pass)) first second
+    (t : Start) (all : List Resident) (go : Go) (first second : ℕ) (s : System) (k : ℕ) (y : Resident) → Yard t (scene all go s) first second → Has all k y Once → y.held.cpu.phase ≡ Arrived
+    → first ≡ length t.cpus + 1 → Follows t (scene all go s) (move_of k (with_held y (does t Pass y.held)) (Some (Steps k Pass))) first second
 
 abbrev pub LoadLeaves : Type 0
 LoadLeaves =
-    (t : Start) (all : List Resident) (go : Go) (first second : ℕ) (s : System) (k : ℕ) (y : Resident) → Has t all go first second s k y true false
-    → (y.held.cpu.phase ≡ Taken) ⊎ (y.held.cpu.phase ≡ Arrived) → 4294967296 ≤ first → Follows t all go s k (with_held y (does t Leave y.held)) (Some (Steps k Leave)) first second
+    (t : Start) (all : List Resident) (go : Go) (first second : ℕ) (s : System) (k : ℕ) (y : Resident) → Yard t (scene all go s) first second → Has all k y Once
+    → (y.held.cpu.phase ≡ Taken) ⊎ (y.held.cpu.phase ≡ Arrived) → 4294967296 ≤ first → Follows t (scene all go s) (move_of k (with_held y (does t Leave y.held)) (Some (Steps k Leave))) first second
 
 -- ---- an addition to the first count
 
 abbrev pub AdditionArrives : Type 0
 AdditionArrives =
-    (t : Start) (all : List Resident) (go : Go) (first second : ℕ) (s : System) (k : ℕ) (y : Resident) → Has t all go first second s k y false false → y.held.cpu.phase ≡ Taken
-    → (first < 4294967296 → Follows t all go s k (with_held y (arrive t y.held)) (Some (Steps k Arrive)) (first + 1) second)
-    × (4294967296 ≤ first → Follows t all go s k (with_held y (late y.held)) None (first + 1) second)
+    (t : Start) (all : List Resident) (go : Go) (first second : ℕ) (s : System) (k : ℕ) (y : Resident) → Yard t (scene all go s) first second → Has all k y Never → y.held.cpu.phase ≡ Taken
+    → (first < 4294967296 → Follows t (scene all go s) (move_of k (with_held y (arrive t y.held)) (Some (Steps k Arrive))) (first + 1) second)
+    × (4294967296 ≤ first → Follows t (scene all go s) (move_of k (with_held y (late y.held)) None) (first + 1) second)
 
 -- the coordinator's
 abbrev pub AdditionDecides : Type 0
 AdditionDecides =
-    (t : Start) (all : List Resident) (first second : ℕ) (s : System) → Yard t all Pending first second s
-    → Decides t all Given (first + 1) second s Goes × Decides t all Cancelled (first + 4294967296) second s Cancels
+    (t : Start) (all : List Resident) (first second : ℕ) (s : System) → Yard t (scene all Pending s) first second
+    → Decides t (scene all Given s) (first + 1) second Goes × Decides t (scene all Cancelled s) (first + 4294967296) second Cancels
 
 -- ---- the second count
 
 abbrev pub AdditionArrivesAgain : Type 0
 AdditionArrivesAgain =
-    (t : Start) (all : List Resident) (go : Go) (first second : ℕ) (s : System) (k : ℕ) (y : Resident) → Has t all go first second s k y true false → y.held.cpu.phase ≡ Restored
-    → Follows t all go s k (with_held y (arrive_again t y.held)) (Some (Steps k ArriveAgain)) first (second + 1)
+    (t : Start) (all : List Resident) (go : Go) (first second : ℕ) (s : System) (k : ℕ) (y : Resident) → Yard t (scene all go s) first second → Has all k y Once → y.held.cpu.phase ≡ Restored
+    → Follows t (scene all go s) (move_of k (with_held y (arrive_again t y.held)) (Some (Steps k ArriveAgain))) first (second + 1)
 
 abbrev pub LoadReleases : Type 0
 LoadReleases =
-    (t : Start) (all : List Resident) (go : Go) (first second : ℕ) (s : System) (k : ℕ) (y : Resident) → Has t all go first second s k y true true → y.held.cpu.phase ≡ Arrived2
-    → second ≡ length t.cpus → Follows t all go s k (with_held y (does t Release y.held)) (Some (Steps k Release)) first second
+    (t : Start) (all : List Resident) (go : Go) (first second : ℕ) (s : System) (k : ℕ) (y : Resident) → Yard t (scene all go s) first second → Has all k y Twice → y.held.cpu.phase ≡ Arrived2
+    → second ≡ length t.cpus → Follows t (scene all go s) (move_of k (with_held y (does t Release y.held)) (Some (Steps k Release))) first second
 
 -- ---- a store of the own event word
 
 -- an access, before the processor takes or after it is released or has left; the answer is that of its own system
 abbrev pub StoreAccesses : Type 0
 StoreAccesses =
-    (t : Start) (all : List Resident) (go : Go) (first second : ℕ) (s : System) (k : ℕ) (y : Resident) (op : Op) (n : ℕ) → Yard t all go first second s → get_elem? all k ≡ some y
-    → y.held.cpu.phase ≡ Running → FitsOp op → Follows t all go s k (with_stored (accessed_by op y) n) (Some (Accesses k op)) first second × ((access s k op).answer ≡ (access (own_of y) 0 op).answer)
+    (t : Start) (all : List Resident) (go : Go) (first second : ℕ) (s : System) (k : ℕ) (y : Resident) (op : Op) (n : ℕ) → Yard t (scene all go s) first second → get_elem? all k ≡ some y
+    → y.held.cpu.phase ≡ Running → FitsOp op → Follows t (scene all go s) (move_of k (with_stored (accessed_by op y) n) (Some (Accesses k op))) first second × ((access s k op).answer ≡ (access (own_of y) 0 op).answer)
 
 -- the event that is due between the barriers
 abbrev pub StoreWorks : Type 0
 StoreWorks =
-    (t : Start) (all : List Resident) (go : Go) (first second : ℕ) (s : System) (k : ℕ) (y : Resident) (e : Event) (n : ℕ) → Has t all go first second s k y true false
+    (t : Start) (all : List Resident) (go : Go) (first second : ℕ) (s : System) (k : ℕ) (y : Resident) (e : Event) (n : ℕ) → Yard t (scene all go s) first second → Has all k y Once
     → is_local y.held.cpu.phase ≡ true → ((o : Order) (ps : List Processor) → due o ps y.held.cpu y.held.cpu.phase ≡ Some e)
-    → Follows t all go s k (with_stored (stepped_by t e y) n) (Some (Steps k e)) first second
+    → Follows t (scene all go s) (move_of k (with_stored (stepped_by t e y) n) (Some (Steps k e))) first second
 
 -- ---- the table
 
@@ -151,14 +151,14 @@ abbrev pub MoveIsOneEvent : Type 0
 MoveIsOneEvent =
     (key : Key) (s : YardState) (m : MeetsYard key s) (id : ℕ) (v : YardView) (y : Resident) → get_elem? s.views id ≡ some v → v.held ≡ y ∷ []
     → (i n : ℕ) (w : Resident) (shown : Option ℕ) (cancel : Bool) (e : Option MachineEvent) → w.held.number ≡ y.held.number → Stores y i n w → (cancel ≡ true → m.go ≡ Cancelled)
-    → Follows (start_of key) m.all m.go m.system y.held.number w e (slice_index (slice_set s.words i n) 0) (slice_index (slice_set s.words i n) 1)
+    → Follows (start_of key) (scene m.all m.go m.system) (move_of y.held.number w e) (slice_index (slice_set s.words i n) 0) (slice_index (slice_set s.words i n) 1)
     → IsOneEvent key s (record { words = slice_set s.words i n; homes = s.homes; views = slice_set s.views id (with_one v w shown cancel) }) m e
 
 -- a step of the root by which it says so
 abbrev pub DecisionIsOneEvent : Type 0
 DecisionIsOneEvent =
     (key : Key) (s : YardState) (m : MeetsYard key s) (id n : ℕ) (v : YardView) (go : Go) (e : MachineEvent) → get_elem? s.views id ≡ some v → v.root ≡ true
-    → 0 < length s.words → slice_index (slice_set s.words 0 n) 1 ≡ slice_index s.words 1 → m.go ≡ Pending → Decides (start_of key) m.all go n (slice_index s.words 1) m.system e
+    → 0 < length s.words → slice_index (slice_set s.words 0 n) 1 ≡ slice_index s.words 1 → m.go ≡ Pending → Decides (start_of key) (scene m.all go m.system) n (slice_index s.words 1) e
     → IsOneEvent key s (record { words = slice_set s.words 0 n; homes = s.homes; views = slice_set s.views id (with_decision v go) }) m (Some e)
 
 -- ---- every step at once
@@ -215,13 +215,13 @@ ShownIsFound = (st : Step Op) (me new : YardSat) (found : ℕ) → Tells st me f
 -- its resident left: this yard's update is cancelled, and the first count shows it
 abbrev pub LeftWhereCancelled : Type 0
 LeftWhereCancelled =
-    (key : Key) (s : YardState) (m : MeetsYard key s) (j : ℕ) (v : YardView) (y : Resident) → get_elem? s.views j ≡ some v → v.held ≡ y ∷ [] → y.held.added ≡ true → y.held.again ≡ false
+    (key : Key) (s : YardState) (m : MeetsYard key s) (j : ℕ) (v : YardView) (y : Resident) → get_elem? s.views j ≡ some v → v.held ≡ y ∷ [] → y.held.added ≡ Once
     → y.held.cpu.phase ≡ Running → (m.go ≡ Cancelled) × (4294967296 ≤ slice_index s.words 0)
 
 -- its resident was released: this yard's go is given, and the second count shows all
 abbrev pub ReleasedWhereFull : Type 0
 ReleasedWhereFull =
-    (key : Key) (s : YardState) (m : MeetsYard key s) (j : ℕ) (v : YardView) (y : Resident) → get_elem? s.views j ≡ some v → v.held ≡ y ∷ [] → y.held.again ≡ true
+    (key : Key) (s : YardState) (m : MeetsYard key s) (j : ℕ) (v : YardView) (y : Resident) → get_elem? s.views j ≡ some v → v.held ≡ y ∷ [] → y.held.added ≡ Twice
     → y.held.cpu.phase ≡ Running → (m.go ≡ Given) × (slice_index s.words 1 ≡ length key.cpus.value.items)
 
 -- ---- no step

@@ -13,10 +13,12 @@ use Rattle.mt_machine.specs.System.{System}
 use Rattle.mt_machine.specs.Machine.{Accesses, Cancels, FitsGoal, FitsOp, Goes, MachineEvent, Steps, common_era}
 use Rattle.mt_cpu.specs.Steps.{is_local}
 use Rattle.mt_rendezvous.specs.declared.view.Start.{Start}
+use Rattle.mt_rendezvous.specs.Calls.{SeatOf}
 use Rattle.mt_rendezvous.specs.Plays.{Sat, arrive, arrive_again, does, late, own_event}
 use Rattle.mt_private.specs.declared.view.Resident.{Resident}
 use Rattle.mt_private.specs.declared.view.YardView.{YardView}
-use Rattle.mt_private.specs.Residents.{Decides, Follows, Opens, Yard, accessed_by, stepped_by, with_held, with_stored}
+use Rattle.mt_private.specs.Residents.{Decides, Follows, Opens, Yard, accessed_by, stepped_by, with_held, with_stored, scene, move_of}
+use Rattle.mt_rendezvous.specs.Station.{in_first}
 use Rattle.mt_private.specs.YardRule.{as_view, with_one, with_decision}
 
 abbrev pub YardSat : Type 0
@@ -27,7 +29,7 @@ pub record IsDecided (t : Start) (count : ℕ) (e : MachineEvent) (go : Go) : Ty
   pub all : List Resident
   pub second : ℕ
   pub system : System
-  pub decides : Decides t all go count second system e
+  pub decides : Decides t (scene all go system) count second e
 
 -- the word after an addition
 abbrev pub sum_word : Step Op → ℕ → ℕ
@@ -43,6 +45,9 @@ CancelsYard st me found new = (new.1 ≡ me.1) × (new.0 ≡ with_decision me.0 
 -- what a seat has of one at a rendezvous, where none has slots
 abbrev pub as_sat : YardSat → Sat
 as_sat me = (as_view me.0, [])
+
+abbrev pub as_seat : SeatOf YardSat → SeatOf Sat
+as_seat seat = record { table = seat.table; start = seat.start; its = seat.its; me = as_sat seat.me }
 
 -- ---- the steps of a pass
 
@@ -61,10 +66,10 @@ pub record PassMoves (t : Start) (y w : Resident) (e : Option MachineEvent) : Ty
   pub first : ℕ
   pub second : ℕ
   pub system : System
-  pub yard : Yard t all go first second system
+  pub yard : Yard t (scene all go system) first second
   pub at : get_elem? all y.held.number ≡ some y
   pub later : ℕ × ℕ
-  pub follows : Follows t all go system y.held.number w e later.0 later.1
+  pub follows : Follows t (scene all go system) (move_of y.held.number w e) later.0 later.1
 
 -- the view becomes the one with w, and that is what the step was
 abbrev pub Turns : YardView → YardView → Resident → Resident → Option ℕ → Bool → Option MachineEvent → Type 0
@@ -190,7 +195,7 @@ OfSeat false i n said added = OfPass i n said added
 -- whether the pass of the first of these has added to the first count
 abbrev pub has_added : List Resident → Bool
 has_added [] = false
-has_added (y ∷ ys) = y.held.added
+has_added (y ∷ ys) = in_first y.held.added
 
 -- each step of a seat of a yard is one of these, and tells what that one does
 abbrev pub Tells : Step Op → YardSat → ℕ → YardSat → Type 0

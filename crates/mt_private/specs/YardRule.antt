@@ -11,11 +11,12 @@ use Rattle.mt_machine.specs.Machine.{Machine}
 use Rattle.mt_rendezvous.specs.declared.view.Key.{Key}
 use Rattle.mt_rendezvous.specs.declared.view.Start.{Start}
 use Rattle.mt_rendezvous.specs.declared.view.View.{View}
-use Rattle.mt_rendezvous.specs.Station.{IsHeld, Sits, held, nothing, start_of}
+use Rattle.mt_rendezvous.specs.Station.{IsHeld, Sits, held, nothing, start_of, seating}
 use Rattle.mt_private.specs.declared.view.Resident.{Resident}
 use Rattle.mt_private.specs.declared.view.YardView.{YardView}
 use Rattle.mt_private.specs.Own.{own_memory}
-use Rattle.mt_private.specs.Residents.{Yard, held_of, pages_at, yard_machine}
+use Rattle.mt_rendezvous.specs.declared.view.Added.TheVariants.{Never}
+use Rattle.mt_private.specs.Residents.{Yard, held_of, pages_at, yard_machine, scene}
 
 -- ---- views
 
@@ -34,7 +35,7 @@ with_decision v go = record v { go = go }
 -- processors from number k on, each with its own words, as they are gathered
 abbrev pub residents : Start → ℕ → List Processor → List Resident
 residents t k [] = []
-residents t k (c ∷ cs) = record { held = held k c false false; ram = own_memory (pages_at t k) t.ram; done = []; stored = 0 } ∷ residents t (k + 1) cs
+residents t k (c ∷ cs) = record { held = held k c Never; ram = own_memory (pages_at t k) t.ram; done = []; stored = 0 } ∷ residents t (k + 1) cs
 
 abbrev pub first_yard_view : Key → YardView
 first_yard_view key = record { root = true; held = residents (start_of key) 0 key.cpus.value.items; go = Pending; shown = None; cancel = false; start = start_of key }
@@ -77,11 +78,11 @@ pub record MeetsYard (key : Key) (s : State Op YardView) : Type 0 where
   pub go : Go
   pub owner : ℕ → ℕ
   pub system : System
-  pub yard : Yard (start_of key) all go (slice_index s.words 0) (slice_index s.words 1) system
+  pub yard : Yard (start_of key) (scene all go system) (slice_index s.words 0) (slice_index s.words 1)
   pub wide : length s.words ≡ length all + 2
   pub stored : HoldsStored s.words all
   pub present : (k : ℕ) → k < length all → IsHeld (map as_view s.views) k
-  pub sits : (j : ℕ) (v : View) → get_elem? (map as_view s.views) j ≡ some v → Sits (start_of key) (map held_of all) go owner j v
+  pub sits : (j : ℕ) (v : View) → get_elem? (map as_view s.views) j ≡ some v → Sits (start_of key) (seating (map held_of all) go owner) j v
   pub same : (j : ℕ) (v : YardView) → get_elem? s.views j ≡ some v → AreAt all v.held
   pub cancels : (j : ℕ) (v : YardView) → get_elem? s.views j ≡ some v → v.cancel ≡ true → go ≡ Cancelled
 

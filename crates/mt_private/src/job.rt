@@ -1,4 +1,6 @@
-ghost use Rattle.std.specs.Prelude.{IfOk};
+ghost use Rattle.std.specs.Prelude.{◌≡◌, ◌<◌, IfOk, Some, length, slice_get};
+ghost use Rattle.std.specs.List.{All};
+ghost use Rattle.mt_machine.specs.Machine.{FitsOp};
 ghost use Rattle.mt_private.specs.Jobs.{IsOpen};
 ghost use Rattle.mt_private.specs.declared.job.Part.{Part as JobPart};
 
@@ -47,4 +49,14 @@ impl Told {
         };
         Ok(Told { before, after })
     }
+}
+
+// One of the accesses.
+pub(crate) fn op_at(ops: &[Op], i: usize) -> Op
+    requires place { i < length ops.now }
+    requires fits { All FitsOp ops.now }
+    ensures at { slice_get ops.now i ≡ Some result }
+    ensures fits { FitsOp result }
+{
+    ops[i]
 }

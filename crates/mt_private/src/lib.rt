@@ -4,13 +4,13 @@
 mod caller;
 mod fault;
 mod gather;
+mod gathering;
 mod host;
 mod job;
 mod joint;
 mod leaving;
 mod pages;
 mod runs;
-mod session;
 mod threads;
 mod view;
 mod visiting;

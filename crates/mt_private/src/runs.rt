@@ -1,9 +1,9 @@
 // Jobs of processors and one update, as they are done one after the other.
-ghost use Rattle.std.specs.Prelude.{◌≡◌, ℕ, ◌+◌, ◌++◌, ◌<◌, ◌≤◌, ◌↔◌, [], None, Some, IsSome, Err, OnErr, IfNone, IfOk, IfSome, length, map, slice_get, vec_len, vec_capacity};
+ghost use Rattle.std.specs.Prelude.{◌≡◌, ℕ, ◌+◌, ◌++◌, ◌<◌, ◌≤◌, ◌↔◌, [], None, Some, IsSome, Err, OnErr, IfNone, IfOk, IfSome, length, map, vec_len, vec_capacity};
 ghost use Rattle.std.specs.List.{All};
 ghost use Rattle.mt_regs.specs.declared.fault.Fault.{Fault};
 ghost use Rattle.mt_regs.specs.Faults.{IsAccepted, IsFirstFault};
-ghost use Rattle.mt_machine.specs.Machine.{Calls, FitsGoal, FitsOp, IsEnabled};
+ghost use Rattle.mt_machine.specs.Machine.{FitsGoal, FitsOp};
 ghost use Rattle.mt_machine.specs.Start.{HasEraRoom, IsQuiet};
 ghost use Rattle.mt_machine.specs.Update.{updated};
 ghost use Rattle.mt_core.specs.Rounds.{in_order};
@@ -19,11 +19,11 @@ ghost use Rattle.mt_private.specs.declared.job.Part.TheVariants.{Before, After};
 
 use crate::caller::Caller;
 use crate::fault::PrivateFault;
+use crate::gathering::{Gathering, Queue};
 use crate::host::{Host, Yard};
-use crate::job::{Job, Part, Told};
+use crate::job::{Job, Part, Told, op_at};
 use crate::leaving::leave;
 use crate::pages::shared_page;
-use crate::session::{Queue, Session};
 use crate::threads::{Ended, visit_on_threads};
 use crate::visiting::Guest;
 use mt_bus::System;
@@ -35,15 +35,6 @@ use mt_rendezvous::Refusal;
 use std::alloc::Global;
 use std::sync::Wait;
 use std::thread::Threads;
-
-fn op_at(ops: &[Op], i: usize) -> Op
-    requires place { i < length ops.now }
-    requires fits { All FitsOp ops.now }
-    ensures at { slice_get ops.now i ≡ Some result }
-    ensures fits { FitsOp result }
-{
-    ops[i]
-}
 
 // The accesses of processor k, in order.
 fn do_ops(core: &mut Core, k: u32, ops: &[Op], told: &mut Vec<Done>)
@@ -138,20 +129,6 @@ fn gather_core(alloc: Global, core: &mut Core, goal: &RegFile) -> Option<(Yard, 
     }
 }
 
-// The whole update on this thread, which isn't refused here.
-fn update_alone(core: &mut Core, goal: &RegFile)
-    requires quiet { IsQuiet core.old }
-    requires callable { IsEnabled core.old (Calls goal.now) }
-    requires some { 0 < length core.old.system.processors }
-    requires room { HasEraRoom core.old }
-    ensures { core.new ≡ updated core.old.system (in_order core.old) goal.now }
-{
-    let Ok(()) = core.call(goal.same()) else {
-        unreachable!()
-    };
-    core.round();
-}
-
 // The update on this thread, and then the accesses after it. A refusal alone allows it.
 fn update_and_access(
     refusal: Refusal,
@@ -165,8 +142,7 @@ fn update_and_access(
     ensures after { map (answers_in After) told.new.items ≡ (ran_each 0 (map (ops_in After) jobs.now.items) (updated core.old.system (in_order core.old) goal.now).system).answers }
     ensures before { map (answers_in Before) told.new.items ≡ map (answers_in Before) told.old.items }
 {
-    refusal.spend();
-    update_alone(core, goal);
+    refusal.update_alone(core, goal);
     do_parts(core, Part::After, jobs.as_slice(), told.as_mut_slice());
 }
 
@@ -186,12 +162,12 @@ fn visit_all<R: Threads + Wait + Sync, G: Gate>(
     requires addresses { All FitsJob jobs.items }
     requires open { (part : JobPart) → AreOpen part jobs.items told.items }
     ensures kept { IfNone result (core.new ≡ core.old) }
-    ensures done { IfSome result (λ told. AreOneByOne core.old.system goal jobs.items core.new told.items) }
+    ensures done { IfSome result (λ told. AreOneByOne (jobs_one_by_one core.old.system goal jobs.items) core.new told.items) }
 {
     let Some((yard, host, guests)) = gather_core(alloc, core, &goal) else {
         return None;
     };
-    let session = Session { yard, goal, jobs };
+    let gathering = Gathering { yard, goal, jobs };
     let queue = Queue {
         waiting: guests,
         told,
@@ -200,8 +176,8 @@ fn visit_all<R: Threads + Wait + Sync, G: Gate>(
         outcome,
         host,
         mut told,
-    } = visit_on_threads(caller, &session, host, queue);
-    let Session { yard, goal, jobs } = session;
+    } = visit_on_threads(caller, &gathering, host, queue);
+    let Gathering { yard, goal, jobs } = gathering;
     *core = rested(leave(yard, host));
     match outcome {
         Ok(()) => Some(told),

@@ -1,14 +1,10 @@
 // A processor on its own thread, with its pass: its accesses, and its events of one update.
-ghost use Rattle.std.specs.Prelude.{◌≡◌, ◌<◌, ◌≤◌, ◌++◌, [], ◌∷◌, false, Some, IsTrue, length, slice_get, vec_capacity};
-ghost use Rattle.std.specs.List.{All};
+ghost use Rattle.std.specs.Prelude.{◌≡◌, ◌<◌, false, IsTrue, length};
 ghost use Rattle.mt_machine.specs.declared.phase.Phase.{Phase as MachinePhase};
 ghost use Rattle.mt_machine.specs.declared.phase.Phase.TheVariants.{Restored};
-ghost use Rattle.mt_machine.specs.Access.{access};
 ghost use Rattle.mt_machine.specs.System.{System as MachineSystem};
-ghost use Rattle.mt_machine.specs.Machine.{FitsOp};
 ghost use Rattle.mt_cpu.specs.Steps.{is_local};
 ghost use Rattle.mt_core.specs.Steps.{step_after};
-ghost use Rattle.mt_private.specs.OneByOne.{ran};
 ghost use Rattle.mt_private.specs.YardCalls.{AreIn, stored_in};
 
 use crate::host::{CANCEL, Yard};
@@ -17,7 +13,7 @@ use atomic_table::Seat;
 use mt_bus::System;
 use mt_core::{Core, a_core_arises};
 use mt_cpu::is_local;
-use mt_machine::{Done, Op, Phase};
+use mt_machine::{Op, Phase};
 use mt_regs::RegFile;
 
 /// What a thread carries its processor in.
@@ -46,15 +42,6 @@ pub enum Visited {
     Cancelled,
 }
 
-fn op_at(ops: &[Op], i: usize) -> Op
-    requires place { i < length ops.now }
-    requires fits { All FitsOp ops.now }
-    ensures at { slice_get ops.now i ≡ Some result }
-    ensures fits { FitsOp result }
-{
-    ops[i]
-}
-
 // The phase of the one processor.
 fn phase_of(core: &Core) -> Phase
     requires { length core.now.system.processors ≡ 1 }
@@ -64,52 +51,7 @@ fn phase_of(core: &Core) -> Phase
 }
 
 impl YardPass {
-    ghost use Rattle.mt_private.specs.InYard.{HasArrivedAgain, HasLeft, HasNotTaken, HasPassed, IsTaken, IsBetween, IsOutside, IsReleased, done_of, goal_at};
-
-    // Exchanges the own event word, which holds what was stored last. That announces the access and is that event. Does
-    // the access.
-    fn access(&mut self, yard: &Yard, core: &mut Core, op: Op) -> Done
-        requires outside { IsOutside yard.now self.old core.old }
-        requires fits { FitsOp op }
-        ensures not_taken { HasNotTaken yard.now self.old core.old → HasNotTaken yard.now self.new core.new }
-        ensures released { IsReleased yard.now self.old core.old → IsReleased yard.now self.new core.new }
-        ensures done { done_of self.new ≡ done_of self.old ++ op ∷ [] }
-        ensures number { self.new.number ≡ self.old.number }
-        ensures answer { result ≡ (access core.old.system 0 op).answer }
-        ensures after { core.new ≡ record core.old { system = (access core.old.system 0 op).after } }
-    {
-        let word = self.number as usize + 2;
-        let next = self.stored.wrapping_add(1);
-        yard.table
-            .shared
-            .compare_exchange_with::<YardTurn>(&mut self.seat, word, self.stored, next, &op);
-        self.stored = next;
-        core.access(0, op)
-    }
-
-    // Does these accesses, in order.
-    pub(crate) fn access_all(
-        &mut self,
-        yard: &Yard,
-        core: &mut Core,
-        ops: &[Op],
-        told: &mut Vec<Done>,
-    )
-        requires outside { IsOutside yard.now self.old core.old }
-        requires fits { All FitsOp ops.now }
-        requires empty { told.old.items ≡ [] }
-        requires room { length ops.now ≤ vec_capacity told.old }
-        ensures not_taken { HasNotTaken yard.now self.old core.old → HasNotTaken yard.now self.new core.new }
-        ensures released { IsReleased yard.now self.old core.old → IsReleased yard.now self.new core.new }
-        ensures done { done_of self.new ≡ done_of self.old ++ ops.now }
-        ensures number { self.new.number ≡ self.old.number }
-        ensures after { core.new ≡ record core.old { system = (ran 0 ops.now core.old.system).after } }
-        ensures answers { told.new.items ≡ (ran 0 ops.now core.old.system).answers }
-    {
-        for i in 0..ops.len() {
-            told.push_reserved(self.access(yard, core, op_at(ops, i)));
-        }
-    }
+    ghost use Rattle.mt_private.specs.InYard.{HasArrivedAgain, HasLeft, HasNotTaken, HasPassed, IsTaken, IsBetween, done_of, goal_at};
 
     // Loads the first count. If it shows no cancel that is Take, and the result is true; else it is no event.
     pub(crate) fn take(&mut self, yard: &Yard, core: &mut Core, goal: &RegFile) -> bool
@@ -126,7 +68,7 @@ impl YardPass {
         if found >= CANCEL {
             return false;
         }
-        let Ok(()) = core.call(goal.same()) else {
+        let Ok(()) = core.call(goal) else {
             unreachable!()
         };
         core.step(0);

@@ -96,7 +96,7 @@ fn update<R: Threads + Wait + Sync, G: Gate>(
     ensures short { IfSome result (λ fault. HasThreeDigits fault.msr) }
 {
     goal.is_register_file(); // a fact for the proof
-    match update_with(caller, alloc, core, goal) {
+    match update_with(caller, alloc, core, &goal) {
         Ok(()) => None,
         Err(fault) => Some(refusal(fault)),
     }

@@ -4,8 +4,6 @@ use Rattle.std.specs.Prelude.{IfSome, option_to_list, slice_get}
 use Rattle.std.specs.List.{All}
 use mathlib.Core.Option.{some}
 use lib.ListN.{get_elem?}
-use Rattle.atomic_table.specs.Table.{Me}
-use Rattle.atomic_table.specs.Seated.{TableId}
 use Rattle.atomic_table.proofs.Lists.{at_last, at_longer}
 use Rattle.mt_bus.specs.Parts.{system}
 use Rattle.mt_machine.specs.declared.phase.Phase.TheVariants.{Running, Taken}
@@ -16,6 +14,8 @@ use Rattle.mt_laws.proofs.Barrier.Claims.{all_get, all_of}
 use Rattle.mt_rendezvous.specs.declared.station.Attendee.{Attendee}
 use Rattle.mt_rendezvous.specs.declared.station.Outcome.{Outcome}
 use Rattle.mt_rendezvous.specs.declared.station.Outcome.TheVariants.{Complete, Cancelled}
+use Rattle.mt_rendezvous.specs.declared.view.Added.{Added}
+use Rattle.mt_rendezvous.specs.declared.view.Added.TheVariants.{Once, Twice}
 use Rattle.mt_rendezvous.specs.declared.view.Held.{Held}
 use Rattle.mt_rendezvous.specs.declared.view.Start.{Start}
 use Rattle.mt_rendezvous.specs.declared.view.View.{View}
@@ -23,32 +23,21 @@ use Rattle.mt_rendezvous.specs.Station.{Begins, both, broadcast, held}
 use Rattle.mt_rendezvous.specs.declared.station.Pass.{Pass}
 use Rattle.mt_rendezvous.specs.declared.station.Root.{Root}
 use Rattle.mt_rendezvous.specs.declared.station.Station.{Station}
-use Rattle.mt_rendezvous.specs.Calls.{Carries, Ends, HoldsOne}
-use Rattle.mt_rendezvous.specs.InStation.{AllNewIn, AttendedIn, CameAs, IsNewIn, IsQueue, IsRootIn, IsTaken, IsTakenAs, OneLess, Returned, Tied, pass_view, root_view, said_by, start_at}
+use Rattle.mt_rendezvous.specs.Calls.{Ends}
+use Rattle.mt_rendezvous.specs.InStation.{AllNewIn, AttendedIn, CameAs, CarriesIn, IsNewIn, IsQueue, IsRootIn, IsTaken, IsTakenAs, OneLess, Returned, Tied, pass_view, root_view, said_by, start_at}
 use Rattle.mt_rendezvous.specs.Update.{decided, left_by}
 
 -- ---- one attendee
 
-module _ (table : TableId) (t : Start) (its : TableId) (me : Me (Unit {0}) View) (k : ℕ) (q : Processor) where
-  holds_one : (added again : Bool) → Carries table t its me k q added again → HoldsOne table its me k q
-  holds_one added again w = (held k q added again, w.same, w.bare, w.holds, refl, refl)
-
-pub came : (station : Station) (o : Outcome) (pass later : Pass) (p q : Processor) → AttendedIn o station pass p later q → later.number ≡ pass.number → CameAs station pass.number (record { cpu = q; pass = later })
+pub came : (station : Station) (o : Outcome) (pass later : Pass) (p q : Processor) → AttendedIn o station later p q → later.number ≡ pass.number → CameAs station pass.number (record { cpu = q; pass = later })
 came station o pass later p q a same = one o a
   where
-    id : TableId
-    id = station.table.shared.table_id
+    of : (added : Added) → CarriesIn station later q added → q.phase ≡ Running → CameAs station pass.number (record { cpu = q; pass = later })
+    of added w runs = record { holds = (held later.number q added, w.same, w.bare, w.holds, refl, refl); runs = runs; numbered = same }
 
-    of : (added again : Bool) → Carries id (start_at station) later.seat.table_id later.seat.me pass.number q added again → q.phase ≡ Running → CameAs station pass.number (record { cpu = q; pass = later })
-    of added again w runs = record {
-      holds = subst (λ n. HoldsOne id later.seat.table_id later.seat.me n q) (sym same) (holds_one id (start_at station) later.seat.table_id later.seat.me pass.number q added again w);
-      runs = runs;
-      numbered = same;
-    }
-
-    one : (o : Outcome) → AttendedIn o station pass p later q → CameAs station pass.number (record { cpu = q; pass = later })
-    one Complete a = of true true a.0 (ap (λ r. r.phase) a.2)
-    one Cancelled a = of true false a.0 (ap (λ r. r.phase) a.1)
+    one : (o : Outcome) → AttendedIn o station later p q → CameAs station pass.number (record { cpu = q; pass = later })
+    one Complete a = of Twice a.0 (ap (λ r. r.phase) a.2)
+    one Cancelled a = of Once a.0 (ap (λ r. r.phase) a.1)
 
 -- ---- attendees in a row
 

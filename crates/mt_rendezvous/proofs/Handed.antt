@@ -14,7 +14,7 @@ use Rattle.mt_laws.specs.Updates.{all_running}
 use Rattle.mt_laws.proofs.Barrier.Claims.{all_get}
 use Rattle.mt_laws.proofs.Updates.Broadcast.{led_ends}
 use Rattle.mt_rendezvous.specs.declared.view.Start.{Start}
-use Rattle.mt_rendezvous.specs.Station.{Fits, broadcast, rise, weight}
+use Rattle.mt_rendezvous.specs.Station.{Fits, broadcast, rise, weight, in_second}
 use Rattle.mt_rendezvous.specs.Laws.{machine_of}
 use Rattle.mt_rendezvous.proofs.Keeps.{all_true}
 use Rattle.mt_rendezvous.proofs.Unique.{first_of}
@@ -29,6 +29,7 @@ use Rattle.mt_rendezvous.specs.declared.view.View.{View}
 use Rattle.mt_rendezvous.specs.declared.view.Key.{Key}
 use Rattle.mt_rendezvous.specs.Station.{Meets, cpu_of, first_memory_word, joined, order_of, start_of}
 use Rattle.mt_rendezvous.specs.Calls.{Ends}
+use Rattle.mt_rendezvous.specs.declared.view.Added.TheVariants.{Once, Twice}
 use Rattle.mt_rendezvous.proofs.Keeps.{at_cpu}
 
 consed : (x y : ℕ) (xs ys : List ℕ) → x ∷ xs ≡ y ∷ ys → (x ≡ y) × (xs ≡ ys)
@@ -63,10 +64,10 @@ module _ (key : Key) (s : State (Unit {0}) View) (m : Meets key s) (running : Al
   runs : (k : ℕ) (h : Held) → get_elem? m.all k ≡ some h → h.cpu.phase ≡ Running
   runs k h e = all_get (λ p. p.phase ≡ Running) (map cpu_of m.all) running k h.cpu (at_cpu m.all k h e)
 
-  fits_there : (k : ℕ) (h : Held) (go : Go) → m.go ≡ go → get_elem? m.all k ≡ some h → Fits go h.added h.again Running × (h.cpu.era ≡ common_era t.cpus + weight h.again)
+  fits_there : (k : ℕ) (h : Held) (go : Go) → m.go ≡ go → get_elem? m.all k ≡ some h → Fits go h.added Running × (h.cpu.era ≡ common_era t.cpus + weight (in_second h.added))
   fits_there k h go is e =
       let f = (m.fits k h e).0 in
-      (subst (λ (x : Go × Phase). Fits x.0 h.added h.again x.1) (λ i. (is i, runs k h e i)) f.fits, f.era ∙ ap (λ (ph : Phase). common_era t.cpus + rise h.again ph) (runs k h e))
+      (subst (λ (x : Go × Phase). Fits x.0 h.added x.1) (λ i. (is i, runs k h e i)) f.fits, f.era ∙ ap (λ (ph : Phase). common_era t.cpus + rise (in_second h.added) ph) (runs k h e))
 
   first : (h : Held) × (get_elem? m.all 0 ≡ some h)
   first = first_of m.all m.some_one
@@ -85,18 +86,18 @@ module _ (key : Key) (s : State (Unit {0}) View) (m : Meets key s) (running : Al
   none_by : (b : Bool) → is_over (order_of t m.go) (map cpu_of m.all) ≡ b → b ≡ true → (machine_of key s m).order ≡ None
   none_by b is on = ap (λ (x : Bool). if x then None else Some (order_of t m.go)) (is ∙ on)
 
-  twice : (h : Held) → Fits Given h.added h.again Running → h.again ≡ true
-  twice h f = ⊎_elim (λ (x : (h.again ≡ false) × (Given ≡ Cancelled)). absurd (let e = x.1 in cc)) (λ (x : (h.again ≡ true) × (Given ≡ Given)). x.0) f.1
+  twice : (h : Held) → Fits Given h.added Running → in_second h.added ≡ true
+  twice h f = ⊎_elim (λ (x : (h.added ≡ Once) × (Given ≡ Cancelled)). absurd (let e = x.1 in cc)) (λ (x : (h.added ≡ Twice) × (Given ≡ Given)). ap in_second x.0) f
 
-  once : (h : Held) → Fits Cancelled h.added h.again Running → h.again ≡ false
-  once h f = ⊎_elim (λ (x : (h.again ≡ false) × (Cancelled ≡ Cancelled)). x.0) (λ (x : (h.again ≡ true) × (Cancelled ≡ Given)). absurd (let e = x.1 in cc)) f.1
+  once : (h : Held) → Fits Cancelled h.added Running → in_second h.added ≡ false
+  once h f = ⊎_elim (λ (x : (h.added ≡ Once) × (Cancelled ≡ Cancelled)). ap in_second x.0) (λ (x : (h.added ≡ Twice) × (Cancelled ≡ Given)). absurd (let e = x.1 in cc)) f
 
   pub was_given : m.go ≡ Given → machine_of key s m ≡ updated (broadcast t).system [] t.goal
   was_given is =
       let released = all_true (has_released (order_of t m.go)) m.all (λ k h e.
       let f = fits_there k h Given is e in
       let era = f.1 in
-      let one : weight h.again ≡ 1 = ap weight (twice h f.0) in
+      let one : weight (in_second h.added) ≡ 1 = ap weight (twice h f.0) in
       lt-ltb (common_era t.cpus) h.cpu.era (omega arith)) in
       let over : is_over (order_of t m.go) (map cpu_of m.all) ≡ true = ap (λ (b : Bool). b || (is_cancelled m.go && not (list_any (λ p. is_waiting_to_pass p.phase) (map cpu_of m.all)))) released in
       ⊎_elim (λ e. e)
@@ -104,7 +105,7 @@ module _ (key : Key) (s : State (Unit {0}) View) (m : Meets key s) (running : Al
       let p = era_by (λ (r : Processor). record r { phase = Running }) _ e refl in
       let f = fits_there 0 first.0 Given is first.1 in
       let era = f.1 in
-      let one : weight first.0.again ≡ 1 = ap weight (twice first.0 f.0) in
+      let one : weight (in_second first.0.added) ≡ 1 = ap weight (twice first.0 f.0) in
       let same : first.0.cpu.era ≡ p.0.era = ap (λ (r : Processor). r.era) p.2 in
       let was = p.1 in
       absurd (omega arith))
@@ -127,7 +128,7 @@ module _ (key : Key) (s : State (Unit {0}) View) (m : Meets key s) (running : Al
       let p = era_by (settled_processor t.goal) _ e refl in
       let f = fits_there 0 first.0 Cancelled is first.1 in
       let era = f.1 in
-      let zero_more : weight first.0.again ≡ 0 = ap weight (once first.0 f.0) in
+      let zero_more : weight (in_second first.0.added) ≡ 0 = ap weight (once first.0 f.0) in
       let same : first.0.cpu.era ≡ p.0.era + 1 = ap (λ (r : Processor). r.era) p.2 in
       let was = p.1 in
       absurd (omega arith))

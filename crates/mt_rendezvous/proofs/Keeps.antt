@@ -22,8 +22,9 @@ use Rattle.mt_rendezvous.specs.declared.view.Held.{Held}
 use Rattle.mt_rendezvous.specs.declared.view.Start.{Start}
 use Rattle.mt_rendezvous.specs.declared.view.View.{View}
 use Rattle.mt_rendezvous.specs.declared.view.Key.{Key}
-use Rattle.mt_rendezvous.specs.Station.{order_of, broadcast, cpu_of, first_memory_word, system_of, joined, start_of, view, weight, total, added_of, again_of, go_weight, phase_word_of, Fits, FitsHeld, rise, Sits, IsHeld, Meets}
-use Rattle.mt_rendezvous.specs.Plays.{CanFollow, PassSteps, Took, after_event}
+use Rattle.mt_rendezvous.specs.Station.{order_of, broadcast, cpu_of, first_memory_word, system_of, joined, start_of, view, weight, total, added_of, again_of, go_weight, phase_word_of, Fits, FitsHeld, rise, Sits, IsHeld, Meets, in_second, seating}
+use Rattle.mt_rendezvous.specs.Plays.{CanFollow, PassSteps, Took, after_event, word_step}
+use Rattle.mt_rendezvous.specs.declared.view.Added.{Added}
 use Rattle.mt_rendezvous.specs.Laws.{Follows}
 
 -- ---- lists
@@ -111,29 +112,29 @@ no_rise : (again : Bool) (p : Phase) → IsUnderWay p → rise again p ≡ 0
 no_rise again Running u = absurd u
 no_rise again other u = refl
 
-waits : (added again : Bool) (p : Phase) → IsUnderWay p → Fits Cancelled added again p → is_waiting_to_pass p ≡ true
-waits added again Running u f = absurd u
-waits added again Taken u f = refl
-waits added again Arrived u f = refl
-waits added again Arrived2 u f = absurd (let e = f.2 in cc)
-waits added again other u f = absurd (let e = f.2 in cc)
+waits : (added : Added) (p : Phase) → IsUnderWay p → Fits Cancelled added p → is_waiting_to_pass p ≡ true
+waits added Running u f = absurd u
+waits added Taken u f = refl
+waits added Arrived u f = refl
+waits added Arrived2 u f = absurd (let e = f.1 in cc)
+waits added other u f = absurd (let e = f.1 in cc)
 
-cancel_over : (added again : Bool) (go : Go) (l : List Held) (k : ℕ) (h : Held) → get_elem? l k ≡ some h → IsUnderWay h.cpu.phase → Fits go added again h.cpu.phase
+cancel_over : (added : Added) (go : Go) (l : List Held) (k : ℕ) (h : Held) → get_elem? l k ≡ some h → IsUnderWay h.cpu.phase → Fits go added h.cpu.phase
     → (is_cancelled go && not (list_any (λ p. is_waiting_to_pass p.phase) (map cpu_of l))) ≡ false
-cancel_over added again Pending l k h at u f = refl
-cancel_over added again Given l k h at u f = refl
-cancel_over added again Cancelled l k h at u f = ap not (any_true (λ p. is_waiting_to_pass p.phase) l k h at (waits added again h.cpu.phase u f))
+cancel_over added Pending l k h at u f = refl
+cancel_over added Given l k h at u f = refl
+cancel_over added Cancelled l k h at u f = ap not (any_true (λ p. is_waiting_to_pass p.phase) l k h at (waits added h.cpu.phase u f))
 
-pub order_stands : (t : Start) (all : List Held) (go : Go) (words : List ℕ) (k : ℕ) (h : Held) → get_elem? all k ≡ some h → IsUnderWay h.cpu.phase → Fits go h.added h.again h.cpu.phase → h.cpu.era ≡ common_era t.cpus + rise h.again h.cpu.phase
+pub order_stands : (t : Start) (all : List Held) (go : Go) (words : List ℕ) (k : ℕ) (h : Held) → get_elem? all k ≡ some h → IsUnderWay h.cpu.phase → Fits go h.added h.cpu.phase → h.cpu.era ≡ common_era t.cpus + rise (in_second h.added) h.cpu.phase
     → (joined t all go words).order ≡ Some (order_of t go)
 order_stands t all go words k h at u fits era = ap (λ (b : Bool). if b then None else Some (order_of t go)) over
   where
     released : has_released (order_of t go) h.cpu ≡ false
-    released = let z = no_rise h.again h.cpu.phase u in le-ltb (common_era t.cpus) h.cpu.era (omega arith)
+    released = let z = no_rise (in_second h.added) h.cpu.phase u in le-ltb (common_era t.cpus) h.cpu.era (omega arith)
 
     over : is_over (order_of t go) (map cpu_of all) ≡ false
     over = ap (λ b. b || (is_cancelled go && not (list_any (λ p. is_waiting_to_pass p.phase) (map cpu_of all)))) (all_false (has_released (order_of t go)) all k h at released)
-        ∙ cancel_over h.added h.again go all k h at u fits
+        ∙ cancel_over h.added go all k h at u fits
 
 pub stands_order : (t : Start) (all : List Held) (go : Go) (words : List ℕ) (k : ℕ) (h : Held) → get_elem? all k ≡ some h → IsUnderWay h.cpu.phase → FitsHeld t go h
     → (joined t all go words).order ≡ Some (order_of t go)
@@ -184,7 +185,7 @@ order_there t s go k e h = one (is_over (order_of t go) s.processors) h
     one true h = absurd (cc)
     one false h = refl
 
-pub took_of : (t : Start) (i found new : ℕ) (e : Event) (h w : Held) → PassSteps t i found new (Some (Steps h.number e)) h w → Took t h.number e h.cpu w.cpu
+pub took_of : (t : Start) (i found new : ℕ) (e : Event) (h w : Held) → PassSteps t (word_step i found new) (Some (Steps h.number e)) h w → Took t h.number e h.cpu w.cpu
 took_of t i found new e h w r = record {
   machine = joined t r.all r.go r.words;
   go = r.go;
@@ -256,7 +257,7 @@ codes_stored all words k n w codes is wide j g e = ⊎_elim
 -- ---- seats, once the processor of one is another
 
 abbrev pub AllSit : Start → List Held → Go → (ℕ → ℕ) → List View → Type 0
-AllSit t all go owner views = (j : ℕ) (v : View) → get_elem? views j ≡ some v → Sits t all go owner j v
+AllSit t all go owner views = (j : ℕ) (v : View) → get_elem? views j ≡ some v → Sits t (seating all go owner) j v
 
 pub told_of : (t : Start) (v : View) (h : Held) (hs : List Held) → v.held ≡ h ∷ hs → ((v.held ≡ []) × (v.root ≡ false)) ⊎ (v.start ≡ t) → v.start ≡ t
 told_of t v h hs is (inl nothing) = absurd (let e = nothing.0 in cc)
@@ -274,7 +275,7 @@ module _ (t : Start) (all : List Held) (go : Go) (owner : ℕ → ℕ) (views : 
 
   pub seats_moved : (shown : Option ℕ) → AllSit t (set all h.number w) go owner (set views id (view v.root (w ∷ []) v.go shown v))
   seats_moved shown j u e = ⊎_elim
-      (λ (x : (j ≡ id) × (view v.root (w ∷ []) v.go shown v ≡ u)). subst (λ (y : ℕ × View). Sits t (set all h.number w) go owner y.0 y.1) (λ i. (sym x.0 i, x.1 i))
+      (λ (x : (j ≡ id) × (view v.root (w ∷ []) v.go shown v ≡ u)). subst (λ (y : ℕ × View). Sits t (seating (set all h.number w) go owner) y.0 y.1) (λ i. (sym x.0 i, x.1 i))
       (record { root = (seats id v at).root; told = inr (told_of t v h [] is (seats id v at).told); holds = own; apart = ((λ i g none. absurd (some-ne-none g (sym none))), tt) }))
       (λ (x : (j ≢ id) × (get_elem? views j ≡ some u)). let its = seats j u x.1 in record {
         root = its.root;
@@ -294,7 +295,7 @@ module _ (key : Key) where
   -- a step of the pass that holds h, by which the word i becomes n and it holds w: the rule is kept, and the machine takes this event or none
   pub record Placed (s : St) (m : Meets key s) (id i n : ℕ) (v : View) (h w : Held) (shown : Option ℕ) (e : Option MachineEvent) : Type 0 where
     pub follows : Follows key s (record { words = set s.words i n; homes = s.homes; views = set s.views id (view v.root (w ∷ []) v.go shown v) }) m e
-    pub steps : PassSteps v.start i (slice_index s.words i) n e h w
+    pub steps : PassSteps v.start (word_step i (slice_index s.words i) n) e h w
     pub led : Led (broadcast t) (joined t (set m.all h.number w) m.go (set s.words i n))
 
   pub placed : (s : St) (m : Meets key s) (id i n : ℕ) (v : View) (h w : Held) (shown : Option ℕ) (e : Option MachineEvent) → get_elem? s.views id ≡ some v → v.held ≡ h ∷ [] → w.number ≡ h.number
@@ -311,7 +312,7 @@ module _ (key : Key) where
       let l = led_after (broadcast t) (joined t m.all m.go s.words) (joined t (set m.all k w) m.go (set s.words i n)) e m.led_to comes in
       record {
         led = l;
-        steps = subst (λ (y : Start). PassSteps y i (slice_index s.words i) n e h w) (sym told)
+        steps = subst (λ (y : Start). PassSteps y (word_step i (slice_index s.words i) n) e h w) (sym told)
             (record { all = m.all; go = m.go; words = s.words; led = m.led_to; at = there; first = m.first; second = m.second; word = refl; enabled = comes.0; becomes = comes.1 });
         follows = record {
           enabled = comes.0;

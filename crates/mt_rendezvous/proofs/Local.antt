@@ -19,8 +19,10 @@ use Rattle.mt_machine.specs.Control.{reload_cr3}
 use Rattle.mt_cpu.specs.Steps.{is_local}
 use Rattle.mt_rendezvous.specs.declared.view.Held.{Held}
 use Rattle.mt_rendezvous.specs.declared.view.Start.{Start}
-use Rattle.mt_rendezvous.specs.Station.{order_of, code, phase_word, Fits, FitsHeld, Waits, rise}
+use Rattle.mt_rendezvous.specs.Station.{order_of, code, phase_word, Fits, FitsHeld, Waits, rise, in_first, in_second}
 use Rattle.mt_rendezvous.specs.Plays.{written}
+use Rattle.mt_rendezvous.specs.declared.view.Added.TheVariants.{Never, Once, Twice}
+use Rattle.mt_rendezvous.specs.declared.view.Added.{Added}
 use Rattle.mt_rendezvous.proofs.Keeps.{IsUnderWay}
 
 -- ---- phases and the rule
@@ -42,19 +44,19 @@ changing_waits_not Taken h w = absurd (cc)
 changing_waits_not Arrived h w = absurd (cc)
 changing_waits_not other h w = w
 
-pub fits_changing : (go : Go) (added again : Bool) (p : Phase) → is_changing p ≡ true → again ≡ false → added ≡ true → go ≡ Given → Fits go added again p
-fits_changing go added again Running h a b c = absurd (cc)
-fits_changing go added again Taken h a b c = absurd (cc)
-fits_changing go added again Arrived h a b c = absurd (cc)
-fits_changing go added again Arrived2 h a b c = absurd (cc)
-fits_changing go added again other h a b c = (a, b, c)
+pub fits_changing : (go : Go) (added : Added) (p : Phase) → is_changing p ≡ true → added ≡ Once → go ≡ Given → Fits go added p
+fits_changing go added Running h a b = absurd (cc)
+fits_changing go added Taken h a b = absurd (cc)
+fits_changing go added Arrived h a b = absurd (cc)
+fits_changing go added Arrived2 h a b = absurd (cc)
+fits_changing go added other h a b = (a, b)
 
-pub changing_fits : (go : Go) (added again : Bool) (p : Phase) → is_changing p ≡ true → Fits go added again p → (again ≡ false) × (added ≡ true) × (go ≡ Given)
-changing_fits go added again Running h f = absurd (cc)
-changing_fits go added again Taken h f = absurd (cc)
-changing_fits go added again Arrived h f = absurd (cc)
-changing_fits go added again Arrived2 h f = absurd (cc)
-changing_fits go added again other h f = f
+pub changing_fits : (go : Go) (added : Added) (p : Phase) → is_changing p ≡ true → Fits go added p → (added ≡ Once) × (go ≡ Given)
+changing_fits go added Running h f = absurd (cc)
+changing_fits go added Taken h f = absurd (cc)
+changing_fits go added Arrived h f = absurd (cc)
+changing_fits go added Arrived2 h f = absurd (cc)
+changing_fits go added other h f = f
 
 pub word_is_code : (again : Bool) (p : Phase) → is_changing p ≡ true → phase_word again p ≡ code p
 word_is_code again Running h = absurd (cc)
@@ -66,34 +68,42 @@ no_rise again Running u = absurd u
 no_rise again other u = refl
 
 pub same_era : (t : Start) (go : Go) (h : Held) → FitsHeld t go h → IsUnderWay h.cpu.phase → h.cpu.era ≡ common_era t.cpus
-same_era t go h f u = let e = f.era in let z = no_rise h.again h.cpu.phase u in omega arith
+same_era t go h f u = let e = f.era in let z = no_rise (in_second h.added) h.cpu.phase u in omega arith
 
 -- a processor that is on its way after an event that leaves its era
-pub fits_on : (t : Start) (go : Go) (h : Held) → h.cpu.era ≡ common_era t.cpus → IsUnderWay h.cpu.phase → Fits go h.added h.again h.cpu.phase → (Waits h.cpu.phase → slice_get t.cpus h.number ≡ Some (record h.cpu { phase = Taken })) → FitsHeld t go h
-fits_on t go h era u f first = record { first = first; fits = f; era = let z = no_rise h.again h.cpu.phase u in omega arith }
+pub fits_on : (t : Start) (go : Go) (h : Held) → h.cpu.era ≡ common_era t.cpus → IsUnderWay h.cpu.phase → Fits go h.added h.cpu.phase → (Waits h.cpu.phase → slice_get t.cpus h.number ≡ Some (record h.cpu { phase = Taken })) → FitsHeld t go h
+fits_on t go h era u f first = record { first = first; fits = f; era = let z = no_rise (in_second h.added) h.cpu.phase u in omega arith }
 
 -- ---- the barriers' counts
 
-pub arrived_in : (t : Start) (p : Processor) (added again : Bool) (ph : Phase) → Fits Given added again ph → added ≡ true → p.era ≡ common_era t.cpus + rise again ph → has_arrived (order_of t Given) (record p { phase = ph }) ≡ true
-arrived_in t p added again Taken f a era = let c = f.1 a in absurd (cc)
-arrived_in t p added again Running f a era = ⊎_elim
-    (λ (x : (again ≡ false) × (Given ≡ Cancelled)). let e = x.1 in absurd (cc))
-    (λ (x : (again ≡ true) × (Given ≡ Given)). let up : rise again Running ≡ 1 = ap (λ b. rise b Running) x.0 in lt-ltb (common_era t.cpus) p.era (omega arith))
-    f.1
-arrived_in t p added again other f a era = refl
+pub arrived_in : (t : Start) (p : Processor) (added : Added) (ph : Phase) → Fits Given added ph → in_first added ≡ true → p.era ≡ common_era t.cpus + rise (in_second added) ph → has_arrived (order_of t Given) (record p { phase = ph }) ≡ true
+arrived_in t p added Taken f a era = absurd (⊎_elim
+    (λ (x : added ≡ Never). let e : false ≡ true = ap in_first (sym x) ∙ a in cc)
+    (λ (x : (added ≡ Once) × (Given ≡ Cancelled)). let e = x.1 in cc)
+    f)
+arrived_in t p added Running f a era = ⊎_elim
+    (λ (x : (added ≡ Once) × (Given ≡ Cancelled)). let e = x.1 in absurd (cc))
+    (λ (x : (added ≡ Twice) × (Given ≡ Given)). let up : rise (in_second added) Running ≡ 1 = ap (λ b. rise (in_second b) Running) x.0 in lt-ltb (common_era t.cpus) p.era (omega arith))
+    f
+arrived_in t p added other f a era = refl
 
-pub arrived_of : (t : Start) (go : Go) (h : Held) → go ≡ Given → FitsHeld t go h → h.added ≡ true → has_arrived (order_of t go) h.cpu ≡ true
+pub arrived_of : (t : Start) (go : Go) (h : Held) → go ≡ Given → FitsHeld t go h → in_first h.added ≡ true → has_arrived (order_of t go) h.cpu ≡ true
 arrived_of t go h is f a =
     subst (λ (g : Go). has_arrived (order_of t g) h.cpu ≡ true) (sym is)
-    (arrived_in t h.cpu h.added h.again h.cpu.phase (subst (λ (g : Go). Fits g h.added h.again h.cpu.phase) is f.fits) a f.era)
+    (arrived_in t h.cpu h.added h.cpu.phase (subst (λ (g : Go). Fits g h.added h.cpu.phase) is f.fits) a f.era)
 
-pub again_in : (t : Start) (go : Go) (p : Processor) (added again : Bool) (ph : Phase) → Fits go added again ph → again ≡ true → p.era ≡ common_era t.cpus + rise again ph → has_arrived_again (order_of t go) (record p { phase = ph }) ≡ true
-again_in t go p added again Arrived2 f a era = refl
-again_in t go p added again Running f a era = let up : rise again Running ≡ 1 = ap (λ b. rise b Running) a in lt-ltb (common_era t.cpus) p.era (omega arith)
-again_in t go p added again other f a era = absurd (let c = f.0 in cc)
+pub again_in : (t : Start) (go : Go) (p : Processor) (added : Added) (ph : Phase) → Fits go added ph → in_second added ≡ true → p.era ≡ common_era t.cpus + rise (in_second added) ph → has_arrived_again (order_of t go) (record p { phase = ph }) ≡ true
+again_in t go p added Arrived2 f a era = refl
+again_in t go p added Running f a era = let up : rise (in_second added) Running ≡ 1 = ap (λ b. rise b Running) a in lt-ltb (common_era t.cpus) p.era (omega arith)
+again_in t go p added Taken f a era = absurd (⊎_elim
+    (λ (x : added ≡ Never). let e : false ≡ true = ap in_second (sym x) ∙ a in cc)
+    (λ (x : (added ≡ Once) × (go ≡ Cancelled)). let e : false ≡ true = ap in_second (sym x.0) ∙ a in cc)
+    f)
+again_in t go p added Arrived f a era = absurd (let e : false ≡ true = ap in_second (sym f) ∙ a in cc)
+again_in t go p added other f a era = absurd (let e : false ≡ true = ap in_second (sym f.0) ∙ a in cc)
 
-pub again_of_held : (t : Start) (go : Go) (h : Held) → FitsHeld t go h → h.again ≡ true → has_arrived_again (order_of t go) h.cpu ≡ true
-again_of_held t go h f a = again_in t go h.cpu h.added h.again h.cpu.phase f.fits a f.era
+pub again_of_held : (t : Start) (go : Go) (h : Held) → FitsHeld t go h → in_second h.added ≡ true → has_arrived_again (order_of t go) h.cpu ≡ true
+again_of_held t go h f a = again_in t go h.cpu h.added h.cpu.phase f.fits a f.era
 
 -- ---- local events
 

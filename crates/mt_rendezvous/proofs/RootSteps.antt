@@ -20,24 +20,26 @@ use Rattle.mt_rendezvous.specs.declared.view.Held.{Held}
 use Rattle.mt_rendezvous.specs.declared.view.Start.{Start}
 use Rattle.mt_rendezvous.specs.declared.view.View.{View}
 use Rattle.mt_rendezvous.specs.declared.view.Key.{Key}
-use Rattle.mt_rendezvous.specs.Station.{order_of, broadcast, Begins, cpu_of, first_count, first_memory_word, system_of, joined, start_of, held, numbered, first_view, total, added_of, again_of, go_weight, phase_word, phase_word_of, Fits, FitsHeld, rise, Apart, Sits, IsHeld, Meets, one, others, root_left, pass_right, both, spent}
+use Rattle.mt_rendezvous.specs.Station.{order_of, broadcast, Begins, cpu_of, first_count, first_memory_word, system_of, joined, start_of, held, numbered, first_view, total, added_of, again_of, go_weight, phase_word, phase_word_of, Fits, FitsHeld, rise, Apart, Sits, IsHeld, Meets, one, others, root_left, pass_right, both, spent, in_first, seating}
 use Rattle.mt_rendezvous.specs.Calls.{opening_words}
-use Rattle.mt_rendezvous.specs.Plays.{Decided, after_event, with_go, Gives, Cancels}
+use Rattle.mt_rendezvous.specs.Plays.{Decided, after_event, with_go, Gives, Cancels, word_step}
 use Rattle.mt_rendezvous.specs.Laws.{Follows, machine_of}
+use Rattle.mt_rendezvous.specs.declared.view.Added.TheVariants.{Never, Once, Twice}
+use Rattle.mt_rendezvous.specs.declared.view.Added.{Added}
 use Rattle.mt_rendezvous.proofs.Keeps.{AllSit, told_of, total_small, weight_small, kept_present, IsUnderWay, stands_order, low_word}
 
 -- the coordinator's word changes once
-pub turned : (go new : Go) (added again : Bool) (p : Phase) → go ≡ Pending → Fits go added again p → Fits new added again p
-turned go new added again Taken is f = (f.0, λ a. let c = f.1 a in absurd (cc))
-turned go new added again Arrived is f = f
-turned go new added again Running is f = absurd (⊎_elim (λ (t : (again ≡ false) × (go ≡ Cancelled)). let e = t.1 in cc) (λ (t : (again ≡ true) × (go ≡ Given)). let e = t.1 in cc) f.1)
-turned go new added again Arrived2 is f = absurd (let e = f.2 in cc)
-turned go new added again other is f = absurd (let e = f.2 in cc)
+pub turned : (go new : Go) (added : Added) (p : Phase) → go ≡ Pending → Fits go added p → Fits new added p
+turned go new added Taken is f = ⊎_elim (λ (t : added ≡ Never). inl t) (λ (t : (added ≡ Once) × (go ≡ Cancelled)). absurd (let e = t.1 in cc)) f
+turned go new added Arrived is f = f
+turned go new added Running is f = absurd (⊎_elim (λ (t : (added ≡ Once) × (go ≡ Cancelled)). let e = t.1 in cc) (λ (t : (added ≡ Twice) × (go ≡ Given)). let e = t.1 in cc) f)
+turned go new added Arrived2 is f = absurd (let e = f.1 in cc)
+turned go new added other is f = absurd (let e = f.1 in cc)
 
 -- before it does, each processor is on its way
-pending_under_way : (go : Go) (added again : Bool) (p : Phase) → go ≡ Pending → Fits go added again p → IsUnderWay p
-pending_under_way go added again Running is f = absurd (⊎_elim (λ (t : (again ≡ false) × (go ≡ Cancelled)). let e = t.1 in cc) (λ (t : (again ≡ true) × (go ≡ Given)). let e = t.1 in cc) f.1)
-pending_under_way go added again other is f = tt
+pending_under_way : (go : Go) (added : Added) (p : Phase) → go ≡ Pending → Fits go added p → IsUnderWay p
+pending_under_way go added Running is f = absurd (⊎_elim (λ (t : (added ≡ Once) × (go ≡ Cancelled)). let e = t.1 in cc) (λ (t : (added ≡ Twice) × (go ≡ Given)). let e = t.1 in cc) f)
+pending_under_way go added other is f = tt
 
 pub first_of : (l : List Held) → 0 < length l → (h : Held) × (get_elem? l 0 ≡ some h)
 first_of [] b = absurd (omega arith)
@@ -140,7 +142,7 @@ module _ (t : Start) (all : List Held) (go : Go) (owner : ℕ → ℕ) (views : 
       let length_l : length (set views id (root_left v)) ≡ length views = length-set views id (root_left v) in
       ⊎_elim
       (λ (x : get_elem? (set views id (root_left v)) j ≡ some u). ⊎_elim
-      (λ (x : (j ≡ id) × (root_left v ≡ u)). subst (λ (x : ℕ × View). Sits t all go own' x.0 x.1) (λ i. (sym x.0 i, x.1 i))
+      (λ (x : (j ≡ id) × (root_left v ≡ u)). subst (λ (x : ℕ × View). Sits t (seating all go own') x.0 x.1) (λ i. (sym x.0 i, x.1 i))
       (record {
         root = seat.root;
         told = inr told;
@@ -156,7 +158,7 @@ module _ (t : Start) (all : List Held) (go : Go) (owner : ℕ → ℕ) (views : 
         apart = its.apart;
       })
       (at_set views id j (root_left v) u x))
-      (λ (x : (j ≡ length (set views id (root_left v))) × (pass_right v ≡ u)). subst (λ (x : ℕ × View). Sits t all go own' x.0 x.1) (λ i. (sym (x.0 ∙ length_l) i, x.1 i))
+      (λ (x : (j ≡ length (set views id (root_left v))) × (pass_right v ≡ u)). subst (λ (x : ℕ × View). Sits t (seating all go own') x.0 x.1) (λ i. (sym (x.0 ∙ length_l) i, x.1 i))
       (record {
         root = λ no. absurd (true≢false (sym no));
         told = inr told;
@@ -171,7 +173,7 @@ module _ (t : Start) (all : List Held) (go : Go) (owner : ℕ → ℕ) (views : 
       let seat = seats id v at in
       let r = seat.root root in
       ⊎_elim
-      (λ (x : (j ≡ id) × (with_go v new ≡ u)). subst (λ (y : ℕ × View). Sits t all new owner y.0 y.1) (λ i. (sym x.0 i, x.1 i))
+      (λ (x : (j ≡ id) × (with_go v new ≡ u)). subst (λ (y : ℕ × View). Sits t (seating all new owner) y.0 y.1) (λ i. (sym x.0 i, x.1 i))
       (record { root = λ _. (r.0, refl); told = seat.told; holds = seat.holds; apart = seat.apart }))
       (λ (x : (j ≢ id) × (get_elem? views j ≡ some u)). let its = seats j u x.1 in
       record { root = λ is. absurd (x.0 ((its.root is).0 ∙ sym r.0)); told = its.told; holds = its.holds; apart = its.apart })
@@ -196,9 +198,9 @@ module _ (t : Start) (all : List Held) (go : Go) (owner : ℕ → ℕ) (views : 
       let joined : (both v w).held ≡ h ∷ v.held = ap (λ (l : List Held). l ++ v.held) is in
       let away = λ (i : ℕ) (g : Held) (e : get_elem? v.held i ≡ some g) (same : g.number ≡ h.number). apart (sym theirs.1 ∙ sym (ap owner same) ∙ (seat.holds i g e).1) in
       ⊎_elim
-      (λ (x : (j ≡ other) × (spent ≡ u)). subst (Sits t all go own' j) x.1 (record { root = λ no. absurd (true≢false (sym no)); told = inl (refl, refl); holds = λ i g nothing. absurd (some-ne-none g (sym nothing)); apart = tt }))
+      (λ (x : (j ≡ other) × (spent ≡ u)). subst (Sits t (seating all go own') j) x.1 (record { root = λ no. absurd (true≢false (sym no)); told = inl (refl, refl); holds = λ i g nothing. absurd (some-ne-none g (sym nothing)); apart = tt }))
       (λ (x : (j ≢ other) × (get_elem? (set views id (both v w)) j ≡ some u)). ⊎_elim
-      (λ (r : (j ≡ id) × (both v w ≡ u)). subst (λ (x : ℕ × View). Sits t all go own' x.0 x.1) (λ i. (sym r.0 i, r.1 i))
+      (λ (r : (j ≡ id) × (both v w ≡ u)). subst (λ (x : ℕ × View). Sits t (seating all go own') x.0 x.1) (λ i. (sym r.0 i, r.1 i))
       (record {
         root = seat.root;
         told = inr told;
@@ -247,7 +249,7 @@ module _ (key : Key) where
       let h = first_of m.all m.some_one in
       let f = (m.fits 0 h.0 h.1).0 in
       subst (λ (g : Go). (joined start m.all g s.words).order ≡ Some (order_of start g)) was
-      (stands_order start m.all m.go s.words 0 h.0 h.1 (pending_under_way m.go h.0.added h.0.again h.0.cpu.phase was f.fits) f)
+      (stands_order start m.all m.go s.words 0 h.0 h.1 (pending_under_way m.go h.0.added h.0.cpu.phase was f.fits) f)
 
   root_told : (s : St) (m : Meets key s) (id : ℕ) (v : View) → get_elem? s.views id ≡ some v → v.root ≡ true → v.start ≡ start
   root_told s m id v at root = by_case (m.seats id v at).told
@@ -259,7 +261,7 @@ module _ (key : Key) where
   -- what comes of the coordinator's addition to word 0
   pub record Turned (s : St) (m : Meets key s) (id : ℕ) (v : View) (new : Go) (n : ℕ) (e : MachineEvent) : Type 0 where
     pub follows : Follows key s (record { words = set s.words 0 n; homes = s.homes; views = set s.views id (with_go v new) }) m (Some e)
-    pub steps : Decided v.start 0 (get_or s.words 0 0) n e new
+    pub steps : Decided v.start (word_step 0 (get_or s.words 0 0) n) e new
 
   decides : (s : St) (m : Meets key s) (id : ℕ) (v : View) (new : Go) (n : ℕ) (e : MachineEvent) → get_elem? s.views id ≡ some v → v.root ≡ true → (was : m.go ≡ Pending) → Word new e → is_led e ≡ true
       → (total added_of m.all ≤ length m.all → n ≡ total added_of m.all + go_weight new) → Turned s m id v new n e
@@ -273,7 +275,7 @@ module _ (key : Key) where
       let low : joined start m.all new (set s.words 0 n) ≡ joined start m.all new s.words = ap (stepped (order_of start new)) (sym (low_word start m.all s.words 0 n (omega arith))) in
       let becomes : joined start m.all new (set s.words 0 n) ≡ next (joined start m.all Pending s.words) e = low ∙ sym a.moves in
       record {
-        steps = subst (λ (y : Start). Decided y 0 (get_or s.words 0 0) n e new) (sym (root_told s m id v at root))
+        steps = subst (λ (y : Start). Decided y (word_step 0 (get_or s.words 0 0) n) e new) (sym (root_told s m id v at root))
             (record { all = m.all; words = s.words; led = l; first = m.first ∙ ap (first_count m.all) was; second = y; word = refl; enabled = a.enabled; becomes = becomes });
         follows = record {
           enabled = subst (λ (g : Go). IsEnabled (joined start m.all g s.words) e) (sym was) a.enabled;
@@ -288,11 +290,11 @@ module _ (key : Key) where
             some_one = m.some_one;
             few = m.few;
             wide = length-set s.words 0 n ∙ wide;
-            first = here ∙ count (total_small added_of (λ g. weight_small g.added) m.all);
+            first = here ∙ count (total_small added_of (λ g. weight_small (in_first g.added)) m.all);
             second = there ∙ y;
             codes = λ k h e. get_or-set_other s.words 0 (k + 2) n 0 (λ (q : k + 2 ≡ 0). omega arith) ∙ m.codes k h e;
             present = λ k b. kept_present s.views id v (with_go v new) at (λ i h e. (i, h, e, refl)) k (m.present k b);
-            fits = λ k h e. let f = m.fits k h e in (record { first = f.0.first; fits = turned m.go new h.added h.again h.cpu.phase was f.0.fits; era = f.0.era }, f.1);
+            fits = λ k h e. let f = m.fits k h e in (record { first = f.0.first; fits = turned m.go new h.added h.cpu.phase was f.0.fits; era = f.0.era }, f.1);
             seats = seats_decided start m.all m.go m.owner s.views m.seats id v at new root;
           };
         };
@@ -393,14 +395,14 @@ pub numbered_length : (k : ℕ) (cs : List Processor) → length (numbered k cs)
 numbered_length k [] = refl
 numbered_length k (c ∷ cs) = ap suc (numbered_length (k + 1) cs)
 
-pub numbered_none : (f : Held → ℕ) → ((k : ℕ) (c : Processor) → f (held k c false false) ≡ 0) → (k : ℕ) (cs : List Processor) → total f (numbered k cs) ≡ 0
+pub numbered_none : (f : Held → ℕ) → ((k : ℕ) (c : Processor) → f (held k c Never) ≡ 0) → (k : ℕ) (cs : List Processor) → total f (numbered k cs) ≡ 0
 numbered_none f z k [] = refl
 numbered_none f z k (c ∷ cs) = let a = z k c in let r = numbered_none f z (k + 1) cs in omega arith
 
-pub numbered_at : (k : ℕ) (cs : List Processor) (j : ℕ) (h : Held) → get_elem? (numbered k cs) j ≡ some h → (c : Processor) × (get_elem? cs j ≡ some c) × (h ≡ held (k + j) c false false)
+pub numbered_at : (k : ℕ) (cs : List Processor) (j : ℕ) (h : Held) → get_elem? (numbered k cs) j ≡ some h → (c : Processor) × (get_elem? cs j ≡ some c) × (h ≡ held (k + j) c Never)
 numbered_at k [] j h e = absurd (some-ne-none h (sym e))
-numbered_at k (c ∷ cs) zero h e = let n : k ≡ k + zero = omega arith in (c, refl, sym (some-injective (held k c false false) h e) ∙ ap (λ (i : ℕ). held i c false false) n)
-numbered_at k (c ∷ cs) (suc j) h e = let r = numbered_at (k + 1) cs j h e in let n : k + 1 + j ≡ k + suc j = omega arith in (r.0, r.1, r.2 ∙ ap (λ (i : ℕ). held i r.0 false false) n)
+numbered_at k (c ∷ cs) zero h e = let n : k ≡ k + zero = omega arith in (c, refl, sym (some-injective (held k c Never) h e) ∙ ap (λ (i : ℕ). held i c Never) n)
+numbered_at k (c ∷ cs) (suc j) h e = let r = numbered_at (k + 1) cs j h e in let n : k + 1 + j ≡ k + suc j = omega arith in (r.0, r.1, r.2 ∙ ap (λ (i : ℕ). held i r.0 Never) n)
 
 pub numbered_apart : (k : ℕ) (cs : List Processor) → Apart (numbered k cs)
 numbered_apart k [] = tt
@@ -408,7 +410,7 @@ numbered_apart k (c ∷ cs) = ((λ i h e same. let r = numbered_at (k + 1) cs i 
 
 pub numbered_some : (k : ℕ) (cs : List Processor) (j : ℕ) → j < length (numbered k cs) → (h : Held) × (get_elem? (numbered k cs) j ≡ some h) × (h.number ≡ k + j)
 numbered_some k [] j b = absurd (omega arith)
-numbered_some k (c ∷ cs) zero b = (held k c false false, refl, omega arith)
+numbered_some k (c ∷ cs) zero b = (held k c Never, refl, omega arith)
 numbered_some k (c ∷ cs) (suc j) b = let r = numbered_some (k + 1) cs j (omega arith) in let n = r.2 in (r.0, r.1, omega arith)
 
 -- the words at the start: the counts and the phases are 0, and memory follows
@@ -458,7 +460,7 @@ begins key words broad present few opens =
     fits_first k h e = let r = numbered_at 0 key.cpus.value.items k h e in
         let era : r.0.era ≡ common_era key.cpus.value.items = all_get (λ p. p.era ≡ common_era key.cpus.value.items) key.cpus.value.items broad.broadcasts.one_era k r.0 (at_std key.cpus.value.items k r.0 r.1) in
         subst (λ (g : Held). FitsHeld (start_of key) Pending g × (g.number ≡ k)) (sym r.2)
-        (record { first = λ _. first_is k r.0 r.1; fits = subst (λ p. Fits Pending false false p) (sym (taken k r.0 r.1)) (refl, (λ f. absurd (true≢false (sym f)))); era = era ∙ rises r.0.phase (taken k r.0 r.1) (common_era key.cpus.value.items) }, omega arith)
+        (record { first = λ _. first_is k r.0 r.1; fits = subst (λ p. Fits Pending Never p) (sym (taken k r.0 r.1)) (inl refl); era = era ∙ rises r.0.phase (taken k r.0 r.1) (common_era key.cpus.value.items) }, omega arith)
       where
         rises : (p : _) → p ≡ Taken → (n : ℕ) → n ≡ n + rise false p
         rises p e n = let z : rise false p ≡ 0 = ap (rise false) e in omega arith
@@ -474,21 +476,21 @@ begins key words broad present few opens =
 
         order : (joined (start_of key) (numbered 0 key.cpus.value.items) Pending words).order ≡ Some (order_of (start_of key) Pending)
         order = let f = fits_first 0 some_first.0 some_first.1 in
-            stands_order (start_of key) (numbered 0 key.cpus.value.items) Pending words 0 some_first.0 some_first.1 (pending_under_way Pending some_first.0.added some_first.0.again some_first.0.cpu.phase refl f.0.fits) f.0
+            stands_order (start_of key) (numbered 0 key.cpus.value.items) Pending words 0 some_first.0 some_first.1 (pending_under_way Pending some_first.0.added some_first.0.cpu.phase refl f.0.fits) f.0
 
     numbers : (cs : List Processor) (i : ℕ) (h : Held) → get_elem? (numbered 0 cs) i ≡ some h → (get_elem? (numbered 0 cs) h.number ≡ some h) × (◌≡◌ {A = ℕ} 0 0)
     numbers cs i h e = let r = numbered_at 0 cs i h e in let n : i ≡ h.number = omega (arith, ap (λ (g : Held). g.number) r.2) in (subst (λ (k : ℕ). get_elem? (numbered 0 cs) k ≡ some h) n e, refl)
 
     only_first : (j : ℕ) (v : View) → get_elem? (first_view key ∷ []) j ≡ some v → (cs : List Processor) → length (numbered 0 cs) ≡ length cs
-        → Sits (start_of key) (numbered 0 key.cpus.value.items) Pending (λ _. 0) j v
-    only_first zero v e cs size = subst (λ (u : View). Sits (start_of key) (numbered 0 key.cpus.value.items) Pending (λ _. 0) 0 u) (some-injective (first_view key) v e)
+        → Sits (start_of key) (seating (numbered 0 key.cpus.value.items) Pending (λ _. 0)) j v
+    only_first zero v e cs size = subst (λ (u : View). Sits (start_of key) (seating (numbered 0 key.cpus.value.items) Pending (λ _. 0)) 0 u) (some-injective (first_view key) v e)
         (record { root = λ _. (refl, refl); told = inr refl; holds = numbers key.cpus.value.items; apart = numbered_apart 0 key.cpus.value.items })
     only_first (suc j) v e cs size = absurd (some-ne-none v (sym e))
 
 -- the processors from number i on begin with the i-th
-pub offered : (cpus : List Processor) (i : ℕ) (d : Processor) → i < length cpus → numbered i (drop i cpus) ≡ held i (get_or cpus i d) false false ∷ numbered (i + 1) (drop (i + 1) cpus)
+pub offered : (cpus : List Processor) (i : ℕ) (d : Processor) → i < length cpus → numbered i (drop i cpus) ≡ held i (get_or cpus i d) Never ∷ numbered (i + 1) (drop (i + 1) cpus)
 offered cpus i d h = let e : drop i cpus ≡ get_or cpus i d ∷ drop (suc i) cpus = drop-cons cpus i d h in let n : suc i ≡ i + 1 = omega arith in
-    ap (numbered i) e ∙ ap (λ (k : ℕ). held i (get_or cpus i d) false false ∷ numbered (i + 1) (drop k cpus)) n
+    ap (numbered i) e ∙ ap (λ (k : ℕ). held i (get_or cpus i d) Never ∷ numbered (i + 1) (drop k cpus)) n
 
 pub at_get : (l : List Processor) (i : ℕ) (d : Processor) → i < length l → get_elem? l i ≡ some (get_or l i d)
 at_get [] i d h = absurd (omega arith)
@@ -501,11 +503,11 @@ drop_std (x ∷ xs) zero c e = let h : x ≡ c = cc in ((λ k. h k ∷ xs), omeg
 drop_std (x ∷ xs) (suc i) c e = let r = drop_std xs i c e in (r.0, (let b = r.1 in omega arith))
 
 -- the processors from number i on begin with the one that stands there
-pub offered_at : (cpus : List Processor) (i : ℕ) (c : Processor) → slice_get cpus i ≡ Some c → (numbered i (drop i cpus) ≡ held i c false false ∷ numbered (i + 1) (drop (i + 1) cpus)) × (i < length cpus)
+pub offered_at : (cpus : List Processor) (i : ℕ) (c : Processor) → slice_get cpus i ≡ Some c → (numbered i (drop i cpus) ≡ held i c Never ∷ numbered (i + 1) (drop (i + 1) cpus)) × (i < length cpus)
 offered_at cpus i c e =
     let r = drop_std cpus i c e in
     let n : suc i ≡ i + 1 = omega arith in
-    (ap (numbered i) r.0 ∙ ap (λ (k : ℕ). held i c false false ∷ numbered (i + 1) (drop k cpus)) n, r.1)
+    (ap (numbered i) r.0 ∙ ap (λ (k : ℕ). held i c Never ∷ numbered (i + 1) (drop k cpus)) n, r.1)
 
 -- ---- the words at the start
 

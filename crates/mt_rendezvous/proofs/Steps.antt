@@ -24,10 +24,12 @@ use Rattle.mt_rendezvous.specs.declared.view.Held.{Held}
 use Rattle.mt_rendezvous.specs.declared.view.Start.{Start}
 use Rattle.mt_rendezvous.specs.declared.view.View.{View}
 use Rattle.mt_rendezvous.specs.declared.view.Key.{Key}
-use Rattle.mt_rendezvous.specs.Station.{Begins, order_of, broadcast, cpu_of, first_memory_word, memory_of, system_of, joined, start_of, view, with_held, weight, total, added_of, again_of, go_weight, code, phase_word, phase_word_of, Fits, FitsHeld, Waits, Meets}
+use Rattle.mt_rendezvous.specs.Station.{Begins, order_of, broadcast, cpu_of, first_memory_word, memory_of, system_of, joined, start_of, view, with_held, weight, total, added_of, again_of, go_weight, code, phase_word, phase_word_of, Fits, FitsHeld, Waits, Meets, rise, in_first, in_second}
 use Rattle.mt_machine.specs.Machine.{MachineEvent, Steps as Does}
-use Rattle.mt_rendezvous.specs.Plays.{PassSteps, Stands, Of, does, arrive, late, arrive_again, own_event, work, with_shown, written, Arrives, Passes, Works, ArrivesAgain, Releases}
+use Rattle.mt_rendezvous.specs.Plays.{PassSteps, Stands, Of, does, arrive, late, arrive_again, own_event, work, with_shown, written, Arrives, Passes, Works, ArrivesAgain, Releases, word_step}
 use Rattle.mt_rendezvous.proofs.Keeps.{Placed, placed, Comes, comes_by, comes_still, total_set, total_small, total_full, weight_small, at_cpu, at_less, all_true, acts, low_word, stands_order, drop_set, codes_kept, codes_stored, IsUnderWay}
+use Rattle.mt_rendezvous.specs.declared.view.Added.TheVariants.{Never, Once, Twice}
+use Rattle.mt_rendezvous.specs.declared.view.Added.{Added}
 use Rattle.mt_rendezvous.proofs.Local.{changing_under_way, local_changing, fits_changing, changing_fits, changing_waits_not, word_is_code, same_era, fits_on, arrived_of, again_of_held, IsWork, works_in, takes_not, written_not, written_is}
 
 pub only : (w g : Held) → w ∷ [] ≡ g ∷ [] → w ≡ g
@@ -126,8 +128,8 @@ module _ (key : Key) where
       record {
         at = mine.0;
         owned = mine.1;
-        few_added = total_small added_of (λ g. weight_small g.added) m.all;
-        few_again = total_small again_of (λ g. weight_small g.again) m.all;
+        few_added = total_small added_of (λ g. weight_small (in_first g.added)) m.all;
+        few_again = total_small again_of (λ g. weight_small (in_second g.added)) m.all;
         fits = (m.fits h.number h mine.0).0;
         told = told;
         size = m.size ∙ ap (λ (u : Start). length u.cpus) (sym told);
@@ -138,14 +140,14 @@ module _ (key : Key) where
       by_case (inr x) = x
 
   -- The word 0 becomes n, which counts w in place of h
-  at_first : (s : St) (m : Meets key s) (id : ℕ) (v : View) (h w : Held) (shown : Option ℕ) (n : ℕ) (e : Option MachineEvent) → get_elem? s.views id ≡ some v → v.held ≡ h ∷ [] → w.number ≡ h.number → w.again ≡ h.again
-      → phase_word_of w ≡ phase_word_of h → Comes (joined t m.all m.go s.words) (joined t (set m.all h.number w) m.go (set s.words 0 n)) e → FitsHeld t m.go w → n + weight h.added ≡ get_or s.words 0 0 + weight w.added
+  at_first : (s : St) (m : Meets key s) (id : ℕ) (v : View) (h w : Held) (shown : Option ℕ) (n : ℕ) (e : Option MachineEvent) → get_elem? s.views id ≡ some v → v.held ≡ h ∷ [] → w.number ≡ h.number → in_second w.added ≡ in_second h.added
+      → phase_word_of w ≡ phase_word_of h → Comes (joined t m.all m.go s.words) (joined t (set m.all h.number w) m.go (set s.words 0 n)) e → FitsHeld t m.go w → n + weight (in_first h.added) ≡ get_or s.words 0 0 + weight (in_first w.added)
       → Placed key s m id 0 n v h w shown e
   at_first s m id v h w shown n e at is same same_again same_code comes fits count =
       let f = found s m id v h at is in
       let x = total_set added_of m.all h.number h w f.at in
       let u = total_set again_of m.all h.number h w f.at in
-      let a : weight w.again ≡ weight h.again = ap weight same_again in
+      let a : weight (in_second w.added) ≡ weight (in_second h.added) = ap weight same_again in
       let z = m.first in
       let wide = m.wide in
       let here : get_or (set s.words 0 n) 0 0 ≡ n = get_or-set_same s.words 0 n 0 (omega arith) in
@@ -176,35 +178,36 @@ module _ (key : Key) where
       ((4294967296 ≤ get_or s.words 0 0) × Placed key s m id 0 ((get_or s.words 0 0 + 1) % 18446744073709551616) v h (late h) v.shown None)
       ⊎ ((get_or s.words 0 0 < 4294967296) × Placed key s m id 0 ((get_or s.words 0 0 + 1) % 18446744073709551616) v h (arrive v.start h) v.shown (Some (Does h.number Arrive)))
 
-  pub arrival : (s : St) (m : Meets key s) (id : ℕ) (v : View) (h : Held) → get_elem? s.views id ≡ some v → v.held ≡ h ∷ [] → h.added ≡ false → h.again ≡ false → h.cpu.phase ≡ Taken → Arrival s m id v h
-  arrival s m id v h at is out first taken =
+  pub arrival : (s : St) (m : Meets key s) (id : ℕ) (v : View) (h : Held) → get_elem? s.views id ≡ some v → v.held ≡ h ∷ [] → h.added ≡ Never → h.cpu.phase ≡ Taken → Arrival s m id v h
+  arrival s m id v h at is out taken =
       let x : ℕ = get_or s.words 0 0 in
       let n : ℕ = (x + 1) % 18446744073709551616 in
       let f = found s m id v h at is in
       let few : total added_of m.all < 65536 = (let b = f.few_added in let c = m.few in omega arith) in
       let g = go_small m.go in
       let e = m.first in
-      let o : weight h.added ≡ 0 = ap weight out in
-      let count : n + weight h.added ≡ x + 1 = omega arith in
+      let o : weight (in_first h.added) ≡ 0 = ap (λ a. weight (in_first a)) out in
+      let first : in_second h.added ≡ false = ap in_second out in
+      let count : n + weight (in_first h.added) ≡ x + 1 = omega arith in
       let u : IsUnderWay h.cpu.phase = under_way h.cpu.phase Taken taken tt in
       ⊎_elim
       (λ (c : (m.go ≡ Cancelled) × (4294967296 ≤ get_or s.words 0 0)). inl (
         c.1,
-        at_first s m id v h (late h) v.shown n None at is refl refl refl (comes_none s m h.number 0 n h (late h) f.at refl (omega arith))
-            (record { first = f.fits.first; fits = subst (λ p. Fits m.go true h.again p) (sym taken) (first, λ _. c.0); era = f.fits.era }) count,
+        at_first s m id v h (late h) v.shown n None at is refl (sym first) (ap (λ b. phase_word b h.cpu.phase) (sym first)) (comes_none s m h.number 0 n h (late h) f.at refl (omega arith))
+            (record { first = f.fits.first; fits = subst (λ p. Fits m.go Once p) (sym taken) (inr (refl, c.0)); era = f.fits.era ∙ ap (λ b. common_era t.cpus + rise b h.cpu.phase) first }) count,
       ))
       (λ (c : (m.go ≢ Cancelled) × (get_or s.words 0 0 < 4294967296)). let w = arrive v.start h in inr (
         c.1,
-        at_first s m id v h w v.shown n (Some (Does h.number Arrive)) at is refl refl (sym (ap (phase_word h.again) taken))
+        at_first s m id v h w v.shown n (Some (Does h.number Arrive)) at is refl (sym first) (sym (ap (phase_word (in_second h.added)) taken))
             (comes_low s m h.number 0 n Arrive h w f.at u f.fits (omega arith) (due_arrive t m.go (map cpu_of m.all) h.cpu taken c.0) refl (system_of t m.all s.words) refl refl)
-            (fits_on t m.go w (same_era t m.go h f.fits u) tt (first, refl) (λ _. f.fits.first (subst Waits (sym taken) tt))) count,
+            (fits_on t m.go w (same_era t m.go h f.fits u) tt refl (λ _. f.fits.first (subst Waits (sym taken) tt))) count,
       ))
       (shows m.go (total added_of m.all) x e few)
 
   -- an addition to word 0
-  pub arrives : (slots id : ℕ) (me : Me (Unit {0}) View) (h : Held) → me.0.held ≡ h ∷ [] → h.added ≡ false → h.again ≡ false → h.cpu.phase ≡ Taken
+  pub arrives : (slots id : ℕ) (me : Me (Unit {0}) View) (h : Held) → me.0.held ≡ h ∷ [] → h.added ≡ Never → h.cpu.phase ≡ Taken
       → Allows (Meets key) slots id me 0 (λ n. (n + 1) % 2 ^ 64) (Arrives (step slots 0 1 0 none) me)
-  arrives slots id me h is out first taken s m _ at small =
+  arrives slots id me h is out taken s m _ at small =
       let n : ℕ = (get_or s.words 0 0 + 1) % 18446744073709551616 in
       let f = found s m id me.0 h at is in
       let here : slice_get t.cpus h.number ≡ Some h.cpu = f.fits.first (subst Waits (sym taken) tt) ∙ ap (λ (ph : Phase). Some (record h.cpu { phase = ph })) (sym taken) in
@@ -220,7 +223,7 @@ module _ (key : Key) where
           subst Begins (sym f.told) m.begins,
           told_first,
           (λ (below : get_or s.words 0 0 < 4294967296). absurd (let b = c.0 in omega arith)),
-          (λ _. (moved me.0 late h is, of_one me.0 h (λ g. PassSteps me.0.start 0 (get_or s.words 0 0) n None g (late g)) is c.1.steps)),
+          (λ _. (moved me.0 late h is, of_one me.0 h (λ g. PassSteps me.0.start (word_step 0 (get_or s.words 0 0) n) None g (late g)) is c.1.steps)),
         ),
       ))
       (λ (c : (get_or s.words 0 0 < 4294967296) × Placed key s m id 0 n me.0 h (arrive me.0.start h) me.0.shown (Some (Does h.number Arrive))). (
@@ -234,12 +237,12 @@ module _ (key : Key) where
           told_first,
           (λ _. (
             moved me.0 (arrive me.0.start) h is,
-            of_one me.0 h (λ g. PassSteps me.0.start 0 (get_or s.words 0 0) n (Some (Does g.number Arrive)) g (arrive me.0.start g)) is c.1.steps,
+            of_one me.0 h (λ g. PassSteps me.0.start (word_step 0 (get_or s.words 0 0) n) (Some (Does g.number Arrive)) g (arrive me.0.start g)) is c.1.steps,
           )),
           (λ (above : 4294967296 ≤ get_or s.words 0 0). absurd (let b = c.0 in omega arith)),
         ),
       ))
-      (arrival s m id me.0 h at is out first taken)
+      (arrival s m id me.0 h at is out taken)
 
   stands : (all : List Held) (go g : Go) (words : List ℕ) (k : ℕ) (h : Held) → Led (broadcast t) (joined t all go words) → get_elem? all k ≡ some h → IsUnderWay h.cpu.phase → FitsHeld t go h → go ≡ g → Stands t g k h.cpu
   stands all go g words k h l at u f is = record {
@@ -250,14 +253,14 @@ module _ (key : Key) where
   }
 
   all_arrived : (s : St) (m : Meets key s) → total added_of m.all ≡ length m.all → m.go ≡ Given → list_all (has_arrived (order_of t m.go)) (map cpu_of m.all) ≡ true
-  all_arrived s m full given = all_true (has_arrived (order_of t m.go)) m.all (λ k h at. arrived_of t m.go h given (m.fits k h at).0 (is_true h.added (total_full added_of (λ g. weight_small g.added) m.all full k h at)))
+  all_arrived s m full given = all_true (has_arrived (order_of t m.go)) m.all (λ k h at. arrived_of t m.go h given (m.fits k h at).0 (is_true (in_first h.added) (total_full added_of (λ g. weight_small (in_first g.added)) m.all full k h at)))
 
   pub all_again : (s : St) (m : Meets key s) → get_or s.words 1 0 ≡ length m.all → list_all (has_arrived_again (order_of t m.go)) (map cpu_of m.all) ≡ true
-  all_again s m full = all_true (has_arrived_again (order_of t m.go)) m.all (λ k h at. again_of_held t m.go h (m.fits k h at).0 (is_true h.again (total_full again_of (λ g. weight_small g.again) m.all (sym m.second ∙ full) k h at)))
+  all_again s m full = all_true (has_arrived_again (order_of t m.go)) m.all (λ k h at. again_of_held t m.go h (m.fits k h at).0 (is_true (in_second h.added) (total_full again_of (λ g. weight_small (in_second g.added)) m.all (sym m.second ∙ full) k h at)))
 
-  its_phase : (go : Go) (added again : Bool) (p : Phase) → (p ≡ Taken) ⊎ (p ≡ Arrived) → Fits go added again p → added ≡ true → go ≡ Given → p ≡ Arrived
-  its_phase go added again p (inr e) f a g = e
-  its_phase go added again p (inl e) f a g = absurd (let c = (subst (Fits go added again) e f).1 a in cc)
+  its_phase : (go : Go) (added : Added) (p : Phase) → (p ≡ Taken) ⊎ (p ≡ Arrived) → Fits go added p → added ≡ Once → go ≡ Given → p ≡ Arrived
+  its_phase go added p (inr e) f a g = e
+  its_phase go added p (inl e) f a g = absurd (⊎_elim (λ (x : added ≡ Never). cc) (λ (x : (added ≡ Once) × (go ≡ Cancelled)). let c = x.1 in cc) (subst (Fits go added) e f))
 
   waiting_word : (again : Bool) (p : Phase) → (p ≡ Taken) ⊎ (p ≡ Arrived) → 0 ≡ phase_word again p
   waiting_word again p (inl e) = sym (ap (phase_word again) e)
@@ -275,8 +278,9 @@ module _ (key : Key) where
       × (h.cpu.phase ≡ Arrived) × Stands v.start Given h.number (does v.start Pass h).cpu × (4294967296 ≤ get_or s.words 0 0 → ⊥))
       ⊎ ((get_or s.words 0 0 < 4294967296) × (get_or s.words 0 0 ≢ length v.start.cpus + 1) × Placed key s m id 0 (get_or s.words 0 0) v h h v.shown None))
 
-  pub passing : (s : St) (m : Meets key s) (id : ℕ) (v : View) (h : Held) → get_elem? s.views id ≡ some v → v.held ≡ h ∷ [] → h.added ≡ true → h.again ≡ false → (h.cpu.phase ≡ Taken) ⊎ (h.cpu.phase ≡ Arrived) → Passing s m id v h
-  passing s m id v h at is counted first waits =
+  pub passing : (s : St) (m : Meets key s) (id : ℕ) (v : View) (h : Held) → get_elem? s.views id ≡ some v → v.held ≡ h ∷ [] → h.added ≡ Once → (h.cpu.phase ≡ Taken) ⊎ (h.cpu.phase ≡ Arrived) → Passing s m id v h
+  passing s m id v h at is counted waits =
+      let first : in_second h.added ≡ false = ap in_second counted in
       let x : ℕ = get_or s.words 0 0 in
       let f = found s m id v h at is in
       let few : length m.all < 65536 = m.few in
@@ -286,9 +290,9 @@ module _ (key : Key) where
       ⊎_elim
       (λ (c : (m.go ≡ Cancelled) × (4294967296 ≤ get_or s.words 0 0)). let w = does v.start Leave h in inl (
         c.1,
-        at_first s m id v h w v.shown x (Some (Does h.number Leave)) at is refl refl (left_word h.again first ∙ waiting_word h.again h.cpu.phase waits)
+        at_first s m id v h w v.shown x (Some (Does h.number Leave)) at is refl refl (left_word (in_second h.added) first ∙ waiting_word (in_second h.added) h.cpu.phase waits)
             (comes_low s m h.number 0 x Leave h w f.at u f.fits (omega arith) (due_leave t m.go (map cpu_of m.all) h.cpu waits c.0) refl (system_of t m.all s.words) refl refl)
-            (record { first = λ w. absurd w; fits = (counted, inl (first, c.0)); era = let e = same_era t m.go h f.fits u in let z : weight h.again ≡ 0 = ap weight first in omega arith }) refl,
+            (record { first = λ w. absurd w; fits = inl (counted, c.0); era = let e = same_era t m.go h f.fits u in let z : weight (in_second h.added) ≡ 0 = ap weight first in omega arith }) refl,
         subst (λ (y : Start). Stands y Cancelled h.number h.cpu) (sym f.told) (stands m.all m.go Cancelled s.words h.number h m.led_to f.at u f.fits c.0),
         (λ (e : get_or s.words 0 0 ≡ length v.start.cpus + 1). let above = c.1 in omega arith),
       ))
@@ -296,9 +300,9 @@ module _ (key : Key) where
       (λ (e : get_or s.words 0 0 ≡ length v.start.cpus + 1). let w = does v.start Pass h in
       let r = ready m.go (total added_of m.all) (get_or s.words 0 0) (length m.all) m.first least few (omega arith) in
       let all = all_arrived s m r.1 r.0 in
-      let p : h.cpu.phase ≡ Arrived = its_phase m.go h.added h.again h.cpu.phase waits f.fits.fits counted r.0 in
-      let g = fits_on t m.go w (same_era t m.go h f.fits u) tt (first, counted, r.0) (λ w. absurd w) in
-      let there = at_first s m id v h w v.shown x (Some (Does h.number Pass)) at is refl refl (waiting_word h.again h.cpu.phase waits)
+      let p : h.cpu.phase ≡ Arrived = its_phase m.go h.added h.cpu.phase waits f.fits.fits counted r.0 in
+      let g = fits_on t m.go w (same_era t m.go h f.fits u) tt (counted, r.0) (λ w. absurd w) in
+      let there = at_first s m id v h w v.shown x (Some (Does h.number Pass)) at is refl refl (waiting_word (in_second h.added) h.cpu.phase waits)
       (comes_low s m h.number 0 x Pass h w f.at u f.fits (omega arith) (due_pass t m.go (map cpu_of m.all) h.cpu p r.0 all) refl (system_of t m.all s.words) refl refl) g refl in
       inr (inl (
         e,
@@ -315,9 +319,9 @@ module _ (key : Key) where
       (shows m.go (total added_of m.all) x m.first (omega arith))
 
   -- a load of word 0
-  pub passes : (slots id : ℕ) (me : Me (Unit {0}) View) (h : Held) → me.0.held ≡ h ∷ [] → h.added ≡ true → h.again ≡ false → (h.cpu.phase ≡ Taken) ⊎ (h.cpu.phase ≡ Arrived)
+  pub passes : (slots id : ℕ) (me : Me (Unit {0}) View) (h : Held) → me.0.held ≡ h ∷ [] → h.added ≡ Once → (h.cpu.phase ≡ Taken) ⊎ (h.cpu.phase ≡ Arrived)
       → Allows (Meets key) slots id me 0 (λ n. n) (Passes (step slots 0 0 0 none) me)
-  passes slots id me h is counted first waits s m _ at small = by_case (passing s m id me.0 h at is counted first waits)
+  passes slots id me h is counted waits s m _ at small = by_case (passing s m id me.0 h at is counted waits)
     where
       by_case : Passing s m id me.0 h → (w : View) × (a : Act (Unit {0})) × Valid s.homes me.1 a × Meets key (stepped s 0 (get_or s.words 0 0) id me.1 w a) × Passes (step slots 0 0 0 none) me (get_or s.words 0 0) (w, carried_after me.1 a)
       by_case (inl c) = (
@@ -330,7 +334,7 @@ module _ (key : Key) where
           (λ full. absurd (c.3 full)),
           (λ _. (
             moved me.0 (does me.0.start Leave) h is,
-            of_one me.0 h (λ g. PassSteps me.0.start 0 (get_or s.words 0 0) (get_or s.words 0 0) (Some (Does g.number Leave)) g (does me.0.start Leave g)) is c.1.steps,
+            of_one me.0 h (λ g. PassSteps me.0.start (word_step 0 (get_or s.words 0 0) (get_or s.words 0 0)) (Some (Does g.number Leave)) g (does me.0.start Leave g)) is c.1.steps,
             of_one me.0 h (λ g. Stands me.0.start Cancelled g.number g.cpu) is c.2,
           )),
           (λ (below : get_or s.words 0 0 < 4294967296) _. absurd (let above = c.0 in omega arith)),
@@ -345,7 +349,7 @@ module _ (key : Key) where
           refl,
           (λ _. (
             moved me.0 (does me.0.start Pass) h is,
-            of_one me.0 h (λ g. PassSteps me.0.start 0 (get_or s.words 0 0) (get_or s.words 0 0) (Some (Does g.number Pass)) g (does me.0.start Pass g)) is c.1.steps,
+            of_one me.0 h (λ g. PassSteps me.0.start (word_step 0 (get_or s.words 0 0) (get_or s.words 0 0)) (Some (Does g.number Pass)) g (does me.0.start Pass g)) is c.1.steps,
             of_one me.0 h (λ g. (g.cpu.phase ≡ Arrived) × Stands me.0.start Given g.number (does me.0.start Pass g).cpu) is (c.2, c.3),
           )),
           (λ above. absurd (c.4 above)),
@@ -361,19 +365,19 @@ module _ (key : Key) where
           refl,
           (λ full. absurd (c.1 full)),
           (λ (above : 4294967296 ≤ get_or s.words 0 0). absurd (let b = c.0 in omega arith)),
-          (λ _ _. (unmoved me.0 h is, of_one me.0 h (λ g. PassSteps me.0.start 0 (get_or s.words 0 0) (get_or s.words 0 0) None g g) is c.2.steps)),
+          (λ _ _. (unmoved me.0 h is, of_one me.0 h (λ g. PassSteps me.0.start (word_step 0 (get_or s.words 0 0) (get_or s.words 0 0)) None g g) is c.2.steps)),
         ),
       )
 
   -- The word 1 becomes n, which counts w in place of h
-  at_second : (s : St) (m : Meets key s) (id : ℕ) (v : View) (h w : Held) (shown : Option ℕ) (n : ℕ) (e : Option MachineEvent) → get_elem? s.views id ≡ some v → v.held ≡ h ∷ [] → w.number ≡ h.number → w.added ≡ h.added
-      → phase_word_of w ≡ phase_word_of h → Comes (joined t m.all m.go s.words) (joined t (set m.all h.number w) m.go (set s.words 1 n)) e → FitsHeld t m.go w → n + weight h.again ≡ get_or s.words 1 0 + weight w.again
+  at_second : (s : St) (m : Meets key s) (id : ℕ) (v : View) (h w : Held) (shown : Option ℕ) (n : ℕ) (e : Option MachineEvent) → get_elem? s.views id ≡ some v → v.held ≡ h ∷ [] → w.number ≡ h.number → in_first w.added ≡ in_first h.added
+      → phase_word_of w ≡ phase_word_of h → Comes (joined t m.all m.go s.words) (joined t (set m.all h.number w) m.go (set s.words 1 n)) e → FitsHeld t m.go w → n + weight (in_second h.added) ≡ get_or s.words 1 0 + weight (in_second w.added)
       → Placed key s m id 1 n v h w shown e
   at_second s m id v h w shown n e at is same same_added same_code comes fits count =
       let f = found s m id v h at is in
       let x = total_set added_of m.all h.number h w f.at in
       let u = total_set again_of m.all h.number h w f.at in
-      let a : weight w.added ≡ weight h.added = ap weight same_added in
+      let a : weight (in_first w.added) ≡ weight (in_first h.added) = ap weight same_added in
       let z = m.first in
       let y = m.second in
       let wide = m.wide in
@@ -381,29 +385,30 @@ module _ (key : Key) where
       let there : get_or (set s.words 1 n) 0 0 ≡ get_or s.words 0 0 = get_or-set_other s.words 1 0 n 0 (λ (e : 0 ≡ 1). omega arith) in
       placed key s m id 1 n v h w shown e at is same comes fits (omega arith) (omega arith) (codes_kept m.all s.words h.number 1 n h w m.codes f.at same_code (inl (omega arith)))
 
-  pub arriving_again : (s : St) (m : Meets key s) (id : ℕ) (v : View) (h : Held) → get_elem? s.views id ≡ some v → v.held ≡ h ∷ [] → h.added ≡ true → h.again ≡ false → h.cpu.phase ≡ Restored
+  pub arriving_again : (s : St) (m : Meets key s) (id : ℕ) (v : View) (h : Held) → get_elem? s.views id ≡ some v → v.held ≡ h ∷ [] → h.added ≡ Once → h.cpu.phase ≡ Restored
       → Placed key s m id 1 ((get_or s.words 1 0 + 1) % 18446744073709551616) v h (arrive_again v.start h) v.shown (Some (Does h.number ArriveAgain))
-  arriving_again s m id v h at is counted first restored =
+  arriving_again s m id v h at is counted restored =
+      let first : in_second h.added ≡ false = ap in_second counted in
       let n : ℕ = (get_or s.words 1 0 + 1) % 18446744073709551616 in
       let f = found s m id v h at is in
       let least : total again_of m.all ≤ length m.all = f.few_again in
       let few : length m.all < 65536 = m.few in
       let e : get_or s.words 1 0 ≡ total again_of m.all = m.second in
-      let o : weight h.again ≡ 0 = ap weight first in
-      let old : Fits m.go h.added h.again Restored = subst (Fits m.go h.added h.again) restored f.fits.fits in
+      let o : weight (in_second h.added) ≡ 0 = ap weight first in
+      let old : Fits m.go h.added Restored = subst (Fits m.go h.added) restored f.fits.fits in
       let u : IsUnderWay h.cpu.phase = under_way h.cpu.phase Restored restored tt in
       let w = arrive_again v.start h in
-      at_second s m id v h w v.shown n (Some (Does h.number ArriveAgain)) at is refl refl (sym (ap (phase_word h.again) restored))
+      at_second s m id v h w v.shown n (Some (Does h.number ArriveAgain)) at is refl (sym (ap in_first counted)) (sym (ap (phase_word (in_second h.added)) restored))
       (comes_low s m h.number 1 n ArriveAgain h w f.at u f.fits (omega arith) (ap (due (order_of t m.go) (map cpu_of m.all) h.cpu) restored) refl (system_of t m.all s.words) refl refl)
-      (fits_on t m.go w (same_era t m.go h f.fits u) tt (refl, counted, old.2) (λ w. absurd w)) (omega arith)
+      (fits_on t m.go w (same_era t m.go h f.fits u) tt (refl, old.1) (λ w. absurd w)) (omega arith)
 
   -- an addition to word 1
-  pub arrives_again : (slots id : ℕ) (me : Me (Unit {0}) View) (h : Held) → me.0.held ≡ h ∷ [] → h.added ≡ true → h.again ≡ false → h.cpu.phase ≡ Restored
+  pub arrives_again : (slots id : ℕ) (me : Me (Unit {0}) View) (h : Held) → me.0.held ≡ h ∷ [] → h.added ≡ Once → h.cpu.phase ≡ Restored
       → Allows (Meets key) slots id me 1 (λ n. (n + 1) % 2 ^ 64) (ArrivesAgain (step slots 1 1 0 none) me)
-  arrives_again slots id me h is counted first restored s m _ at small =
+  arrives_again slots id me h is counted restored s m _ at small =
       let x : ℕ = get_or s.words 1 0 in
       let n : ℕ = (x + 1) % 18446744073709551616 in
-      let p = arriving_again s m id me.0 h at is counted first restored in (
+      let p = arriving_again s m id me.0 h at is counted restored in (
         view me.0.root (arrive_again me.0.start h ∷ []) me.0.go me.0.shown me.0,
         keeps,
         tt,
@@ -411,7 +416,7 @@ module _ (key : Key) where
         (
           refl,
           moved me.0 (arrive_again me.0.start) h is,
-          of_one me.0 h (λ g. PassSteps me.0.start 1 x n (Some (Does g.number ArriveAgain)) g (arrive_again me.0.start g)) is p.steps,
+          of_one me.0 h (λ g. PassSteps me.0.start (word_step 1 x n) (Some (Does g.number ArriveAgain)) g (arrive_again me.0.start g)) is p.steps,
         ),
       )
 
@@ -421,28 +426,28 @@ module _ (key : Key) where
       ((get_or s.words 1 0 ≡ length v.start.cpus) × Placed key s m id 1 (get_or s.words 1 0) v h (does v.start Release h) (Some (get_or s.words 1 0)) (Some (Does h.number Release)) × (h.cpu.era ≡ common_era v.start.cpus))
       ⊎ ((get_or s.words 1 0 ≢ length v.start.cpus) × Placed key s m id 1 (get_or s.words 1 0) v h h (Some (get_or s.words 1 0)) None)
 
-  pub releasing : (s : St) (m : Meets key s) (id : ℕ) (v : View) (h : Held) → get_elem? s.views id ≡ some v → v.held ≡ h ∷ [] → h.added ≡ true → h.again ≡ true → h.cpu.phase ≡ Arrived2 → Releasing s m id v h
-  releasing s m id v h at is counted twice waits =
+  pub releasing : (s : St) (m : Meets key s) (id : ℕ) (v : View) (h : Held) → get_elem? s.views id ≡ some v → v.held ≡ h ∷ [] → h.added ≡ Twice → h.cpu.phase ≡ Arrived2 → Releasing s m id v h
+  releasing s m id v h at is twice waits =
       let x : ℕ = get_or s.words 1 0 in
       let f = found s m id v h at is in
       let size : length m.all ≡ length v.start.cpus = f.size in
-      let old : Fits m.go h.added h.again Arrived2 = subst (Fits m.go h.added h.again) waits f.fits.fits in
+      let old : Fits m.go h.added Arrived2 = subst (Fits m.go h.added) waits f.fits.fits in
       let u : IsUnderWay h.cpu.phase = under_way h.cpu.phase Arrived2 waits tt in
       dite (ℕ_discrete (get_or s.words 1 0) (length v.start.cpus))
       (λ (e : get_or s.words 1 0 ≡ length v.start.cpus). let w = does v.start Release h in
       let all = all_again s m (e ∙ sym size) in inl (
         e,
-        at_second s m id v h w (Some x) x (Some (Does h.number Release)) at is refl refl (ap (λ b. phase_word b Running) twice ∙ sym (ap (phase_word h.again) waits))
+        at_second s m id v h w (Some x) x (Some (Does h.number Release)) at is refl refl (ap (λ a. phase_word (in_second a) Running) twice ∙ sym (ap (phase_word (in_second h.added)) waits))
             (comes_low s m h.number 1 x Release h w f.at u f.fits (omega arith) (due_release t m.go (map cpu_of m.all) h.cpu waits all) refl (system_of t m.all s.words) refl refl)
-            (record { first = λ w. absurd w; fits = (counted, inr (twice, old.2)); era = let e = same_era t m.go h f.fits u in let z : weight h.again ≡ 1 = ap weight twice in omega arith }) refl,
+            (record { first = λ w. absurd w; fits = inr (twice, old.1); era = let e = same_era t m.go h f.fits u in let z : weight (in_second h.added) ≡ 1 = ap (λ a. weight (in_second a)) twice in omega arith }) refl,
         same_era t m.go h f.fits u ∙ ap (λ (y : Start). common_era y.cpus) (sym f.told),
       ))
       (λ (n : get_or s.words 1 0 ≢ length v.start.cpus). inr (n, at_second s m id v h h (Some x) x None at is refl refl refl (comes_none s m h.number 1 x h h f.at refl (omega arith)) f.fits refl))
 
   -- a load of word 1
-  pub releases : (slots id : ℕ) (me : Me (Unit {0}) View) (h : Held) → me.0.held ≡ h ∷ [] → h.added ≡ true → h.again ≡ true → h.cpu.phase ≡ Arrived2
+  pub releases : (slots id : ℕ) (me : Me (Unit {0}) View) (h : Held) → me.0.held ≡ h ∷ [] → h.added ≡ Twice → h.cpu.phase ≡ Arrived2
       → Allows (Meets key) slots id me 1 (λ n. n) (Releases (step slots 1 0 0 none) me)
-  releases slots id me h is counted twice waits s m _ at small =
+  releases slots id me h is twice waits s m _ at small =
       let x : ℕ = get_or s.words 1 0 in
       let f = found s m id me.0 h at is in
       let below : get_or s.words 1 0 < 65536 = (let e = m.second in let least = f.few_again in let few = m.few in omega arith) in
@@ -457,7 +462,7 @@ module _ (key : Key) where
           below,
           (λ _. (
             moved_shown me.0 (does me.0.start Release) h x is,
-            of_one me.0 h (λ g. PassSteps me.0.start 1 x x (Some (Does g.number Release)) g (does me.0.start Release g)) is c.1.steps,
+            of_one me.0 h (λ g. PassSteps me.0.start (word_step 1 x x) (Some (Does g.number Release)) g (does me.0.start Release g)) is c.1.steps,
             of_one me.0 h (λ g. g.cpu.era ≡ common_era me.0.start.cpus) is c.2,
           )),
           (λ (n : get_or s.words 1 0 ≢ length me.0.start.cpus). absurd (n c.0)),
@@ -472,24 +477,24 @@ module _ (key : Key) where
           refl,
           below,
           (λ (e : get_or s.words 1 0 ≡ length me.0.start.cpus). absurd (c.0 e)),
-          (λ _. (shown_only me.0 h x is, of_one me.0 h (λ g. PassSteps me.0.start 1 x x None g g) is c.1.steps)),
+          (λ _. (shown_only me.0 h x is, of_one me.0 h (λ g. PassSteps me.0.start (word_step 1 x x) None g g) is c.1.steps)),
         ),
       ))
-      (releasing s m id me.0 h at is counted twice waits)
+      (releasing s m id me.0 h at is twice waits)
 
   -- ---- the stores
 
   -- a word behind the counts becomes n, and the processor does this event
-  at_store : (s : St) (m : Meets key s) (id i n : ℕ) (v : View) (h w : Held) (e : Option MachineEvent) → get_elem? s.views id ≡ some v → v.held ≡ h ∷ [] → w.number ≡ h.number → w.added ≡ h.added → w.again ≡ h.again → 2 ≤ i
+  at_store : (s : St) (m : Meets key s) (id i n : ℕ) (v : View) (h w : Held) (e : Option MachineEvent) → get_elem? s.views id ≡ some v → v.held ≡ h ∷ [] → w.number ≡ h.number → w.added ≡ h.added → 2 ≤ i
       → Comes (joined t m.all m.go s.words) (joined t (set m.all h.number w) m.go (set s.words i n)) e → FitsHeld t m.go w
       → ((j : ℕ) (g : Held) → get_elem? (set m.all h.number w) j ≡ some g → get_or (set s.words i n) (j + 2) 0 ≡ phase_word_of g)
       → Placed key s m id i n v h w v.shown e
-  at_store s m id i n v h w e at is same same_added same_again high comes fits codes =
+  at_store s m id i n v h w e at is same same_added high comes fits codes =
       let f = found s m id v h at is in
       let x = total_set added_of m.all h.number h w f.at in
       let u = total_set again_of m.all h.number h w f.at in
-      let a : weight w.added ≡ weight h.added = ap weight same_added in
-      let b : weight w.again ≡ weight h.again = ap weight same_again in
+      let a : weight (in_first w.added) ≡ weight (in_first h.added) = ap (λ a. weight (in_first a)) same_added in
+      let b : weight (in_second w.added) ≡ weight (in_second h.added) = ap (λ a. weight (in_second a)) same_added in
       let z = m.first in
       let y = m.second in
       let zeroth : get_or (set s.words i n) 0 0 ≡ get_or s.words 0 0 = get_or-set_other s.words i 0 n 0 (λ (e : 0 ≡ i). omega arith) in
@@ -518,16 +523,16 @@ module _ (key : Key) where
       let w = does me.0.start e h in
       let on : is_changing h.cpu.phase ≡ true = local_changing h.cpu.phase d.here in
       let u : IsUnderWay h.cpu.phase = changing_under_way h.cpu.phase on in
-      let old = changing_fits m.go h.added h.again h.cpu.phase on f.fits.fits in
+      let old = changing_fits m.go h.added h.cpu.phase on f.fits.fits in
       let works : IsWork me.0.start.goal e h.cpu = works_in me.0.start.goal h.cpu e h.cpu.phase refl d.here d.due_is (order_of t Given) in
       let u' : IsUnderWay w.cpu.phase = changing_under_way w.cpu.phase works.0 in
-      let g : FitsHeld t m.go w = fits_on t m.go w (works.1 ∙ same_era t m.go h f.fits u) u' (fits_changing m.go h.added h.again w.cpu.phase works.0 old.0 old.1 old.2) (λ x. absurd (changing_waits_not w.cpu.phase works.0 x)) in
+      let g : FitsHeld t m.go w = fits_on t m.go w (works.1 ∙ same_era t m.go h f.fits u) u' (fits_changing m.go h.added w.cpu.phase works.0 old.0 old.1) (λ x. absurd (changing_waits_not w.cpu.phase works.0 x)) in
       let own : w.cpu ≡ own_step t.goal e h.cpu = ap (λ (y : Start). own_step y.goal e h.cpu) f.told in
       let a = acts t m.all m.go s.words (set s.words i n) h.number e h w f.at (stands_order t m.all m.go s.words h.number h f.at u f.fits) (d.due_is (order_of t m.go) (map cpu_of m.all)) own before in
-      let p = at_store s m id i n me.0 h w (Some (Does h.number e)) at d.is refl refl refl high (comes_by t m.all m.go s.words (set s.words i n) h.number e h w a) g codes in (
+      let p = at_store s m id i n me.0 h w (Some (Does h.number e)) at d.is refl refl high (comes_by t m.all m.go s.words (set s.words i n) h.number e h w a) g codes in (
         p,
         subst (λ (y : Start). Stands y Given h.number w.cpu) (sym f.told)
-            (stands (set m.all h.number w) m.go Given (set s.words i n) h.number w p.led (set_here m.all h.number w (at_less m.all h.number h f.at)) u' g old.2),
+            (stands (set m.all h.number w) m.go Given (set s.words i n) h.number w p.led (set_here m.all h.number w (at_less m.all h.number h f.at)) u' g old.1),
       )
 
   -- what such a store tells
@@ -542,8 +547,8 @@ module _ (key : Key) where
         (
           refl,
           ap (λ (y : Event). view me.0.root (does me.0.start y h ∷ []) me.0.go me.0.shown me.0) own_e ∙ moved me.0 (work me.0.start) h d.is,
-          of_one me.0 h (λ x. (was : ℕ) × PassSteps me.0.start i was n (Some (Does x.number (own_event me.0.start x.cpu))) x (work me.0.start x)) d.is
-              (subst (λ (y : Event). (was : ℕ) × PassSteps me.0.start i was n (Some (Does h.number y)) h (does me.0.start y h)) own_e (get_or s.words i 0, p.0.steps)),
+          of_one me.0 h (λ x. (was : ℕ) × PassSteps me.0.start (word_step i was n) (Some (Does x.number (own_event me.0.start x.cpu))) x (work me.0.start x)) d.is
+              (subst (λ (y : Event). (was : ℕ) × PassSteps me.0.start (word_step i was n) (Some (Does h.number y)) h (does me.0.start y h)) own_e (get_or s.words i 0, p.0.steps)),
           of_one me.0 h (λ x. Stands me.0.start Given x.number (work me.0.start x).cpu) d.is (subst (λ (y : Event). Stands me.0.start Given h.number (does me.0.start y h).cpu) own_e p.1),
         ),
       )
@@ -560,7 +565,7 @@ module _ (key : Key) where
       let on : IsWork me.0.start.goal e h.cpu = works_in me.0.start.goal h.cpu e h.cpu.phase refl d.here d.due_is (order_of t Given) in
       storing id (h.number + 2) n me h e d s m at (omega arith)
       (written_not e h.number (system_of t m.all s.words) (takes_not h.cpu e h.cpu.phase d.here d.due_is (order_of t Given)) no_word ∙ low_word t m.all s.words (h.number + 2) n (omega arith))
-      (codes_stored m.all s.words h.number n w m.codes (is_code ∙ sym (word_is_code h.again w.cpu.phase on.0)) (omega arith))
+      (codes_stored m.all s.words h.number n w m.codes (is_code ∙ sym (word_is_code (in_second h.added) w.cpu.phase on.0)) (omega arith))
 
   -- the store of a word of memory
   pub word_stored : (id i j address value : ℕ) (me : Me (Unit {0}) View) (h : Held) (e : Event) → IsDue me h e → written e ≡ Some (address, value) → place me.0.start.ram address ≡ Some j → i ≡ first_memory_word me.0.start + j
@@ -576,7 +581,7 @@ module _ (key : Key) where
       let at_place : first_memory_word t + j ≡ i = ap (λ (y : Start). first_memory_word y + j) (sym f.told) ∙ sym at_i in
       storing id i value me h e d s m at (omega arith)
       (ap (λ (y : Event). before_own y h.number (system_of t m.all s.words)) is ∙ back ∙ ap (λ (i : ℕ). system_of t m.all (set s.words i value)) at_place)
-      (codes_kept m.all s.words h.number i value h (does me.0.start e h) m.codes f.at (ap (λ (y : Event). phase_word h.again (own_step me.0.start.goal y h.cpu).phase) is) (inr (omega arith)))
+      (codes_kept m.all s.words h.number i value h (does me.0.start e h) m.codes f.at (ap (λ (y : Event). phase_word (in_second h.added) (own_step me.0.start.goal y h.cpu).phase) is) (inr (omega arith)))
 
   pub works : (slots id n : ℕ) (me : Me (Unit {0}) View) (h : Held) (e : Event) → IsDue me h e → written e ≡ None → n ≡ code (own_step me.0.start.goal e h.cpu).phase
       → Allows (Meets key) slots id me (h.number + 2) (λ _. n) (λ _. Works (step slots (h.number + 2) n 0 none) me n)

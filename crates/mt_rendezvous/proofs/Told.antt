@@ -18,6 +18,7 @@ use Rattle.mt_rendezvous.specs.declared.view.Key.{Key}
 use Rattle.mt_rendezvous.specs.Station.{Meets, code, first_memory_word, held, with_held}
 use Rattle.mt_rendezvous.specs.Plays.{Arrives, GoesTo, IsWaiting, Passes, Sat, Tells, TellsAt, arrive, does, late, own_event, written}
 use Rattle.mt_rendezvous.proofs.Steps.{IsDue, arrives, arrives_again, own_is, passes, releases, works, writes_back}
+use Rattle.mt_rendezvous.specs.declared.view.Added.TheVariants.{Never, Once, Twice}
 use Rattle.mt_rendezvous.proofs.RootSteps.{cancels, gives}
 
 -- ---- a store goes behind the counts
@@ -83,20 +84,20 @@ module _ (st : Step (Unit {0})) (me new : Sat) (found : ℕ) where
 
 -- ---- where the event between the barriers is stored
 
-pub goes_own : (t : Start) (k n : ℕ) (c : Processor) (e : Event) → own_event t c ≡ e → written e ≡ None → n ≡ code (own_step t.goal e c).phase → GoesTo t k c (written (own_event t c)) (k + 2) n
-goes_own t k n c e own no_word is_code =
-    subst (λ (w : Option (ℕ × ℕ)). GoesTo t k c w (k + 2) n) (sym (ap written own ∙ no_word)) (refl, is_code ∙ ap (λ (y : Event). code (own_step t.goal y c).phase) (sym own))
+pub goes_own : (slots : ℕ) (t : Start) (k n : ℕ) (c : Processor) (e : Event) → own_event t c ≡ e → written e ≡ None → n ≡ code (own_step t.goal e c).phase → GoesTo t (held k c Once) (written (own_event t c)) (step slots (k + 2) n 0 none)
+goes_own slots t k n c e own no_word is_code =
+    subst (λ (w : Option (ℕ × ℕ)). GoesTo t (held k c Once) w (step slots (k + 2) n 0 none)) (sym (ap written own ∙ no_word)) (refl, is_code ∙ ap (λ (y : Event). code (own_step t.goal y c).phase) (sym own))
 
-pub goes_back : (t : Start) (k i j address value : ℕ) (c : Processor) (e : Event) → own_event t c ≡ e → written e ≡ Some (address, value) → place t.ram address ≡ Some j → i ≡ first_memory_word t + j
-    → GoesTo t k c (written (own_event t c)) i value
-goes_back t k i j address value c e own word placed at_i = subst (λ (w : Option (ℕ × ℕ)). GoesTo t k c w i value) (sym (ap written own ∙ word)) (refl, j, placed, at_i)
+pub goes_back : (slots : ℕ) (t : Start) (k i j address value : ℕ) (c : Processor) (e : Event) → own_event t c ≡ e → written e ≡ Some (address, value) → place t.ram address ≡ Some j → i ≡ first_memory_word t + j
+    → GoesTo t (held k c Once) (written (own_event t c)) (step slots i value 0 none)
+goes_back slots t k i j address value c e own word placed at_i = subst (λ (w : Option (ℕ × ℕ)). GoesTo t (held k c Once) w (step slots i value 0 none)) (sym (ap written own ∙ word)) (refl, j, placed, at_i)
 
 -- ---- the calls
 
 module _ (key : Key) (slots id k : ℕ) (me : Sat) (c : Processor) where
-  pub arrives_told : me.0.root ≡ false → me.0.held ≡ held k c false false ∷ [] → c.phase ≡ Taken → Allows (Meets key) slots id me 0 (λ n. (n + 1) % 2 ^ 64) (Tells (step slots 0 1 0 none) me)
+  pub arrives_told : me.0.root ≡ false → me.0.held ≡ held k c Never ∷ [] → c.phase ≡ Taken → Allows (Meets key) slots id me 0 (λ n. (n + 1) % 2 ^ 64) (Tells (step slots 0 1 0 none) me)
   arrives_told no_root is taken s m size at small =
-      let r = arrives key slots id me (held k c false false) is refl refl taken s m size at small in (
+      let r = arrives key slots id me (held k c Never) is refl taken s m size at small in (
         r.0,
         r.1,
         r.2,
@@ -104,26 +105,26 @@ module _ (key : Key) (slots id k : ℕ) (me : Sat) (c : Processor) where
         ((λ (root : me.0.root ≡ true). absurd (true≢false (sym root ∙ no_root))), (λ _. (record { number = k; cpu = c; holds = is; phase = taken }, r.4))),
       )
 
-  pub passes_told : me.0.held ≡ held k c true false ∷ [] → IsWaiting c.phase → Allows (Meets key) slots id me 0 (λ n. n) (Tells (step slots 0 0 0 none) me)
+  pub passes_told : me.0.held ≡ held k c Once ∷ [] → IsWaiting c.phase → Allows (Meets key) slots id me 0 (λ n. n) (Tells (step slots 0 0 0 none) me)
   passes_told is waits s m size at small =
-      let r = passes key slots id me (held k c true false) is refl refl waits s m size at small in
+      let r = passes key slots id me (held k c Once) is refl waits s m size at small in
       (r.0, r.1, r.2, r.3, (record { number = k; cpu = c; holds = is; phase = waits }, r.4))
 
-  pub arrives_again_told : me.0.held ≡ held k c true false ∷ [] → c.phase ≡ Restored → Allows (Meets key) slots id me 1 (λ n. (n + 1) % 2 ^ 64) (Tells (step slots 1 1 0 none) me)
+  pub arrives_again_told : me.0.held ≡ held k c Once ∷ [] → c.phase ≡ Restored → Allows (Meets key) slots id me 1 (λ n. (n + 1) % 2 ^ 64) (Tells (step slots 1 1 0 none) me)
   arrives_again_told is restored s m size at small =
-      let r = arrives_again key slots id me (held k c true false) is refl refl restored s m size at small in
+      let r = arrives_again key slots id me (held k c Once) is refl restored s m size at small in
       (r.0, r.1, r.2, r.3, (record { number = k; cpu = c; holds = is; phase = restored }, r.4))
 
-  pub releases_told : me.0.held ≡ held k c true true ∷ [] → c.phase ≡ Arrived2 → Allows (Meets key) slots id me 1 (λ n. n) (Tells (step slots 1 0 0 none) me)
+  pub releases_told : me.0.held ≡ held k c Twice ∷ [] → c.phase ≡ Arrived2 → Allows (Meets key) slots id me 1 (λ n. n) (Tells (step slots 1 0 0 none) me)
   releases_told is waits s m size at small =
-      let r = releases key slots id me (held k c true true) is refl refl waits s m size at small in
+      let r = releases key slots id me (held k c Twice) is refl waits s m size at small in
       (r.0, r.1, r.2, r.3, (record { number = k; cpu = c; holds = is; phase = waits }, r.4))
 
-  pub works_told : (n : ℕ) (e : Event) → IsDue key me (held k c true false) e → written e ≡ None → n ≡ code (own_step me.0.start.goal e c).phase
+  pub works_told : (n : ℕ) (e : Event) → IsDue key me (held k c Once) e → written e ≡ None → n ≡ code (own_step me.0.start.goal e c).phase
       → Allows (Meets key) slots id me (k + 2) (λ _. n) (λ _. Tells (step slots (k + 2) n 0 none) me n)
   works_told n e d no_word is_code s m size at small =
-      let r = works key slots id n me (held k c true false) e d no_word is_code s m size at small in
-      let goes = goes_own me.0.start k n c e (own_is key me.0.start me (held k c true false) e d) no_word is_code in (
+      let r = works key slots id n me (held k c Once) e d no_word is_code s m size at small in
+      let goes = goes_own slots me.0.start k n c e (own_is key me.0.start me (held k c Once) e d) no_word is_code in (
         r.0,
         r.1,
         r.2,
@@ -131,11 +132,11 @@ module _ (key : Key) (slots id k : ℕ) (me : Sat) (c : Processor) where
         at_store (k + 2) n (step slots (k + 2) n 0 none) me (r.0, carried_after me.1 r.1) n (omega arith) (record { number = k; cpu = c; holds = d.is; phase = d.here }, goes, r.4),
       )
 
-  pub writes_back_told : (i j address value : ℕ) (e : Event) → IsDue key me (held k c true false) e → written e ≡ Some (address, value) → place me.0.start.ram address ≡ Some j → i ≡ first_memory_word me.0.start + j
+  pub writes_back_told : (i j address value : ℕ) (e : Event) → IsDue key me (held k c Once) e → written e ≡ Some (address, value) → place me.0.start.ram address ≡ Some j → i ≡ first_memory_word me.0.start + j
       → Allows (Meets key) slots id me i (λ _. value) (λ _. Tells (step slots i value 0 none) me value)
   writes_back_told i j address value e d word placed at_i s m size at small =
-      let r = writes_back key slots id i j address value me (held k c true false) e d word placed at_i s m size at small in
-      let goes = goes_back me.0.start k i j address value c e (own_is key me.0.start me (held k c true false) e d) word placed at_i in (
+      let r = writes_back key slots id i j address value me (held k c Once) e d word placed at_i s m size at small in
+      let goes = goes_back slots me.0.start k i j address value c e (own_is key me.0.start me (held k c Once) e d) word placed at_i in (
         r.0,
         r.1,
         r.2,

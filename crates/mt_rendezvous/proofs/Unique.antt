@@ -22,7 +22,7 @@ use Rattle.mt_rendezvous.specs.declared.view.Start.{Start}
 use Rattle.mt_rendezvous.specs.declared.view.View.{View}
 use Rattle.mt_rendezvous.specs.declared.view.Key.{Key}
 use Rattle.atomic_table.specs.Table.{State}
-use Rattle.mt_rendezvous.specs.Station.{Meets, broadcast, joined, start_of, order_of, total, added_of, again_of, go_weight, cpu_of, rise, weight}
+use Rattle.mt_rendezvous.specs.Station.{Meets, broadcast, joined, start_of, order_of, total, added_of, again_of, go_weight, cpu_of, rise, weight, in_second}
 use Rattle.mt_rendezvous.specs.Laws.{HoldsWhereFull, StandsForOne, machine_of}
 use Rattle.mt_rendezvous.proofs.Keeps.{total_full, weight_small, at_cpu}
 use Rattle.mt_rendezvous.proofs.Steps.{all_again}
@@ -96,8 +96,8 @@ holds_where_full key s m full = one (is_over (order_of t m.go) (map cpu_of m.all
     first : (h : Held) × (get_elem? m.all 0 ≡ some h)
     first = first_of m.all m.some_one
 
-    twice : first.0.again ≡ true
-    twice = is_true first.0.again (total_full again_of (λ g. weight_small g.again) m.all (sym m.second ∙ full ∙ sym m.size) 0 first.0 first.1)
+    twice : in_second first.0.added ≡ true
+    twice = is_true (in_second first.0.added) (total_full again_of (λ g. weight_small (in_second g.added)) m.all (sym m.second ∙ full ∙ sym m.size) 0 first.0 first.1)
 
     ends : (joined t m.all m.go s.words).order ≡ None → All (HoldsNothing t.goal) (machine_of key s m).system.processors × ((a : ℕ) → a % 8 ≡ 0 → word_at (machine_of key s m).system.memory a ≡ now (broadcast t).system a)
     ends over = ⊎_elim
@@ -121,7 +121,7 @@ holds_where_full key s m full = one (is_over (order_of t m.go) (map cpu_of m.all
             let era : here.0.era ≡ common_era t.cpus = all_get (λ (r : Processor). r.era ≡ common_era t.cpus) t.cpus m.begins.broadcasts.one_era 0 here.0 here.1 in
             let running : h.cpu.phase ≡ Running = ap (λ (p : Processor). p.phase) here.2 in
             let same : h.cpu.era ≡ here.0.era = ap (λ (p : Processor). p.era) here.2 in
-            let up : rise h.again h.cpu.phase ≡ 1 = ap (rise h.again) running ∙ ap weight twice in
+            let up : rise (in_second h.added) h.cpu.phase ≡ 1 = ap (rise (in_second h.added)) running ∙ ap weight twice in
             let e' = f.era in
             omega arith
 

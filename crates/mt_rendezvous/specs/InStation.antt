@@ -1,5 +1,5 @@
 -- What holds at a station: relations on a table and what it was gathered from, applied to the station's own, and to the root, passes and attendees.
-use Rattle.std.specs.Prelude.{◌≡◌, ℕ, ◌+◌, Bool, true, false, List, length, Option, Some, slice_get}
+use Rattle.std.specs.Prelude.{◌≡◌, ℕ, ◌+◌, Bool, true, false, List, [], ◌∷◌, length, Option, None, Some, slice_get}
 use Rattle.std.specs.List.{All}
 use mathlib.Core.Option.{some}
 use lib.ListN.{get_elem?}
@@ -11,18 +11,22 @@ use Rattle.mt_machine.specs.declared.event.Event.TheVariants.{Leave, Pass as Pas
 use Rattle.mt_machine.specs.Memory.{Memory, Window}
 use Rattle.mt_machine.specs.System.{Processor}
 use Rattle.mt_machine.specs.Machine.{common_era, is_changing, own_step}
+use Rattle.mt_machine.specs.Update.{settled_processor}
 use Rattle.mt_rendezvous.specs.declared.station.Attendee.{Attendee}
 use Rattle.mt_rendezvous.specs.declared.station.Outcome.{Outcome}
+use Rattle.mt_rendezvous.specs.declared.station.Outcome.TheVariants.{Cancelled as Stopped, Complete}
 use Rattle.mt_rendezvous.specs.declared.station.Pass.{Pass}
 use Rattle.mt_rendezvous.specs.declared.station.Root.{Root}
 use Rattle.mt_rendezvous.specs.declared.station.Station.{Station}
+use Rattle.mt_rendezvous.specs.declared.view.Added.{Added}
+use Rattle.mt_rendezvous.specs.declared.view.Added.TheVariants.{Never, Once, Twice}
 use Rattle.mt_rendezvous.specs.declared.view.Held.{Held}
 use Rattle.mt_rendezvous.specs.declared.view.Start.{Start}
 use Rattle.mt_rendezvous.specs.declared.view.View.{View}
 use Rattle.mt_rendezvous.specs.Station.{Begins, start_of}
-use Rattle.mt_rendezvous.specs.Plays.{IsWaiting, Made, Stands}
+use Rattle.mt_rendezvous.specs.Plays.{IsWaiting, Made, Sat, Stands}
 use Rattle.mt_rendezvous.specs.Update.{decided}
-use Rattle.mt_rendezvous.specs.Calls.{Attended, Attends, Carries, Ends, HasAdded, HoldsOne, IsRoot, Leads, Offers}
+use Rattle.mt_rendezvous.specs.Calls.{Carries, Ends, HasAdded, IsRoot, Leads, Offers, PassOf, SeatOf}
 
 -- from what it was gathered
 abbrev pub start_at : Station → Start
@@ -40,12 +44,15 @@ IsAsGathered station k c = slice_get (start_at station).cpus k ≡ Some c
 
 -- ---- the root
 
+abbrev pub seat_in : Station → Root → SeatOf Sat
+seat_in station root = record { table = station.table.shared.table_id; start = start_at station; its = root.seat.table_id; me = root.seat.me }
+
 abbrev pub IsRootIn : Station → Root → Type 0
-IsRootIn station root = IsRoot station.table.shared.table_id root.seat.table_id root.seat.me
+IsRootIn station root = IsRoot (seat_in station root)
 
 -- it has said so: nothing yet, the go, or the cancel
 abbrev pub LeadsIn : Station → Root → Go → Type 0
-LeadsIn station root go = Leads station.table.shared.table_id (start_at station) root.seat.table_id root.seat.me go
+LeadsIn station root go = Leads (seat_in station root) go
 
 -- it has the processors from number i on
 abbrev pub OffersIn : Station → ℕ → Root → Type 0
@@ -85,53 +92,57 @@ pass_view pass = pass.seat.me.0
 abbrev pub shown_to : Pass → Option ℕ
 shown_to pass = (pass_view pass).shown
 
+abbrev pub pass_in : Station → Pass → PassOf Sat
+pass_in station pass = record { table = station.table.shared.table_id; start = start_at station; its = pass.seat.table_id; me = pass.seat.me; number = pass.number }
+
 -- it has this processor, and has added so to the two counts
-abbrev pub CarriesIn : Station → Pass → Processor → Bool → Bool → Type 0
-CarriesIn station pass cpu added again = Carries station.table.shared.table_id (start_at station) pass.seat.table_id pass.seat.me pass.number cpu added again
+abbrev pub CarriesIn : Station → Pass → Processor → Added → Type 0
+CarriesIn station pass cpu added = Carries (pass_in station pass) cpu added
 
 abbrev pub HasAddedIn : Pass → Type 0
 HasAddedIn pass = HasAdded (pass_view pass)
 
--- what comes of the pass that had the processor p
-abbrev pub AttendedIn : Outcome → Station → Pass → Processor → Pass → Processor → Type 0
-AttendedIn outcome station pass p later q = Attended outcome station.table.shared.table_id (start_at station) pass.number p later.seat.table_id later.seat.me q
+-- what comes of an attendee: its processor p is q, the one that the update leaves, after a load showed that all had arrived again; or it is as it was, and runs
+abbrev pub AttendedIn : Outcome → Station → Pass → Processor → Processor → Type 0
+AttendedIn Complete station pass p q = CarriesIn station pass q Twice × (shown_to pass ≡ Some (length (start_at station).cpus)) × (q ≡ settled_processor (goal_at station) p)
+AttendedIn Stopped station pass p q = CarriesIn station pass q Once × (q ≡ record p { phase = Running })
 
 -- ---- the states of a pass and its processor, from the first to the last
 
 -- the processor has taken, and its pass has added nothing
 pub record IsTaken (station : Station) (pass : Pass) (cpu : Processor) : Type 0 where
-  pub carries : CarriesIn station pass cpu false false
+  pub carries : CarriesIn station pass cpu Never
   pub taken : cpu.phase ≡ Taken
 
 -- the pass has added to the first count, and its processor waits there
 pub record HasArrived (station : Station) (pass : Pass) (cpu : Processor) : Type 0 where
   pub begins : Begins (start_at station)
-  pub carries : CarriesIn station pass cpu true false
+  pub carries : CarriesIn station pass cpu Once
   pub waits : IsWaiting cpu.phase
 
 -- the go was given, and the processor is between the barriers
 pub record HasPassed (station : Station) (pass : Pass) (cpu : Processor) : Type 0 where
   pub begins : Begins (start_at station)
-  pub carries : CarriesIn station pass cpu true false
+  pub carries : CarriesIn station pass cpu Once
   pub stands : Stands (start_at station) Given pass.number cpu
   pub between : is_changing cpu.phase ≡ true
 
 -- the pass has added to the second count, and its processor waits there
 pub record HasArrivedAgain (station : Station) (pass : Pass) (cpu : Processor) : Type 0 where
   pub begins : Begins (start_at station)
-  pub carries : CarriesIn station pass cpu true true
+  pub carries : CarriesIn station pass cpu Twice
   pub waits : cpu.phase ≡ Arrived2
 
 -- a load showed that all had arrived again, and the processor runs
 pub record IsReleased (station : Station) (pass : Pass) (cpu : Processor) : Type 0 where
-  pub carries : CarriesIn station pass cpu true true
+  pub carries : CarriesIn station pass cpu Twice
   pub shown : shown_to pass ≡ Some station.count
   pub runs : cpu.phase ≡ Running
   pub risen : cpu.era ≡ common_era (start_at station).cpus + 1
 
 -- a load showed the cancel in place of the go, and the processor runs
 pub record HasLeft (station : Station) (pass : Pass) (cpu : Processor) : Type 0 where
-  pub carries : CarriesIn station pass cpu true false
+  pub carries : CarriesIn station pass cpu Once
   pub runs : cpu.phase ≡ Running
 
 -- what the first wait leads to, by the event that ends it
@@ -142,8 +153,11 @@ Waited false station pass p q = HasLeft station pass q × (q ≡ own_step (goal_
 -- ---- attendees
 
 -- the attendee carries the processor with this number as it was gathered, and its pass has added nothing and has been shown nothing
-abbrev pub IsNewIn : Station → ℕ → Attendee → Type 0
-IsNewIn station k a = Attends station.table.shared.table_id (start_at station) k a.cpu a.pass.seat.table_id a.pass.seat.me a.pass.number
+pub record IsNewIn (station : Station) (k : ℕ) (a : Attendee) : Type 0 where
+  pub numbered : a.pass.number ≡ k
+  pub first : IsAsGathered station k a.cpu
+  pub carries : CarriesIn station a.pass a.cpu Never
+  pub unshown : shown_to a.pass ≡ None
 
 -- so do these, by their places
 abbrev pub AllNewIn : Station → List Attendee → Type 0
@@ -163,7 +177,8 @@ OneLess station items left = (length items ≡ length left + 1) × IsQueue stati
 
 -- its pass holds its processor, whatever the pass has added
 abbrev pub HoldsOneIn : Station → Attendee → Type 0
-HoldsOneIn station a = HoldsOne station.table.shared.table_id a.pass.seat.table_id a.pass.seat.me a.pass.number a.cpu
+HoldsOneIn station a =
+    (h : Held) × (a.pass.seat.table_id ≡ station.table.shared.table_id) × (a.pass.seat.me.1 ≡ []) × ((pass_view a.pass).held ≡ h ∷ []) × (h.cpu ≡ a.cpu) × (h.number ≡ a.pass.number)
 
 -- it has ended, and has this number
 pub record CameAs (station : Station) (k : ℕ) (a : Attendee) : Type 0 where

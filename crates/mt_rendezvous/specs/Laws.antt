@@ -1,5 +1,5 @@
 -- What holds of a station between any two steps.
-use Rattle.std.specs.Prelude.{◌≡◌, ◌≢◌, ◌⊎◌, ◌<◌, ◌≤◌, ◌+◌, ◌-◌, ◌^◌, ℕ, zero, suc, ◌%◌, Bool, true, false, List, [], ◌∷◌, ◌++◌, length, slice_index, slice_set, Option, Some, None, IsTrue}
+use Rattle.std.specs.Prelude.{◌≡◌, ◌≢◌, ◌⊎◌, ◌<◌, ◌≤◌, ◌+◌, ◌-◌, ◌^◌, ℕ, zero, suc, ◌%◌, true, List, [], ◌∷◌, ◌++◌, length, slice_index, slice_set, Option, Some, None, IsTrue}
 use Rattle.std.specs.List.{All}
 use mathlib.Core.Option.{none, some}
 use lib.ListN.{get_elem?}
@@ -14,6 +14,8 @@ use Rattle.mt_machine.specs.Machine.{Cancels as CancelsUpdate, Goes, Machine, Ma
 use Rattle.mt_cpu.specs.Steps.{is_local}
 use Rattle.mt_machine.specs.Update.{Led}
 use Rattle.mt_laws.specs.Updates.{HoldsNothing}
+use Rattle.mt_rendezvous.specs.declared.view.Added.{Added}
+use Rattle.mt_rendezvous.specs.declared.view.Added.TheVariants.{Never, Once, Twice}
 use Rattle.mt_rendezvous.specs.declared.view.Held.{Held}
 use Rattle.mt_rendezvous.specs.declared.view.View.{View}
 use Rattle.mt_rendezvous.specs.declared.view.Key.{Key}
@@ -43,13 +45,13 @@ HoldsWhereFull =
 -- a seat's one processor ended with one addition: this station's update is cancelled, and word 0 shows it
 abbrev pub LeftWhereCancelled : Type 0
 LeftWhereCancelled =
-    (key : Key) (s : State (Unit {0}) View) (m : Meets key s) (j k : ℕ) (v : View) (c : Processor) → get_elem? s.views j ≡ some v → v.held ≡ held k c true false ∷ [] → c.phase ≡ Running
+    (key : Key) (s : State (Unit {0}) View) (m : Meets key s) (j k : ℕ) (v : View) (c : Processor) → get_elem? s.views j ≡ some v → v.held ≡ held k c Once ∷ [] → c.phase ≡ Running
     → (m.go ≡ Cancelled) × (4294967296 ≤ slice_index s.words 0)
 
 -- it ended with both: this station's go is given, and word 1 shows all
 abbrev pub ReleasedWhereFull : Type 0
 ReleasedWhereFull =
-    (key : Key) (s : State (Unit {0}) View) (m : Meets key s) (j k : ℕ) (v : View) (c : Processor) → get_elem? s.views j ≡ some v → v.held ≡ held k c true true ∷ [] → c.phase ≡ Running
+    (key : Key) (s : State (Unit {0}) View) (m : Meets key s) (j k : ℕ) (v : View) (c : Processor) → get_elem? s.views j ≡ some v → v.held ≡ held k c Twice ∷ [] → c.phase ≡ Running
     → (m.go ≡ Given) × (slice_index s.words 1 ≡ length key.cpus.value.items)
 
 -- a broadcast state whose era may rise is one from which a station can be gathered
@@ -92,9 +94,9 @@ pub record HasPass (s : Station) (id : ℕ) (me : Sat) (h : Held) : Type 0 where
   pub holds : me.0.held ≡ h ∷ []
 
 -- of each station, and each seat of a pass with this one processor, whatever a step leaves the seat as
-abbrev pub OfPass : Bool → Bool → ((key : Key) (s : Station) → Meets key s → ℕ → ℕ → Processor → Sat → Sat → Type 0) → Type 0
-OfPass added again P =
-    (key : Key) (s : Station) (m : Meets key s) (id k : ℕ) (c : Processor) (me new : Sat) → HasPass s id me (held k c added again)
+abbrev pub OfPass : Added → ((key : Key) (s : Station) → Meets key s → ℕ → ℕ → Processor → Sat → Sat → Type 0) → Type 0
+OfPass added P =
+    (key : Key) (s : Station) (m : Meets key s) (id k : ℕ) (c : Processor) (me new : Sat) → HasPass s id me (held k c added)
     → P key s m id k c me new
 
 -- the root's first processor is given away: no event
@@ -124,7 +126,7 @@ CancelFollows =
 -- an addition of a pass to word 0
 abbrev pub ArriveFollows : Type 0
 ArriveFollows =
-    OfPass false false
+    OfPass Never
     (λ key s m id k c me new. c.phase ≡ Taken → Arrives (step 0 0 1 0 none) me (slice_index s.words 0) new
     → (slice_index s.words 0 < 4294967296 → Follows key s (raised s id new 0 1) m (Some (Steps k Arrive)))
     × (4294967296 ≤ slice_index s.words 0 → Follows key s (raised s id new 0 1) m None))
@@ -132,7 +134,7 @@ ArriveFollows =
 -- a load of word 0
 abbrev pub PassFollows : Type 0
 PassFollows =
-    OfPass true false
+    OfPass Once
     (λ key s m id k c me new. IsWaiting c.phase → Passes (step 0 0 0 0 none) me (slice_index s.words 0) new
     → (slice_index s.words 0 ≡ length me.0.start.cpus + 1 → Follows key s (loaded s id new 0) m (Some (Steps k Pass)))
     × (4294967296 ≤ slice_index s.words 0 → Follows key s (loaded s id new 0) m (Some (Steps k Leave)))
@@ -141,22 +143,22 @@ PassFollows =
 -- a store
 abbrev pub WorkFollows : Type 0
 WorkFollows =
-    OfPass true false
+    OfPass Once
     (λ key s m id k c me new. (i n : ℕ) → IsTrue (is_local c.phase)
-    → GoesTo me.0.start k c (written (own_event me.0.start c)) i n → Works (step 0 i n 0 none) me n new
+    → GoesTo me.0.start (held k c Once) (written (own_event me.0.start c)) (step 0 i n 0 none) → Works (step 0 i n 0 none) me n new
     → Follows key s (stored s id new i n) m (Some (Steps k (own_event me.0.start c))))
 
 -- an addition to word 1
 abbrev pub ArriveAgainFollows : Type 0
 ArriveAgainFollows =
-    OfPass true false
+    OfPass Once
     (λ key s m id k c me new. c.phase ≡ Restored → ArrivesAgain (step 0 1 1 0 none) me (slice_index s.words 1) new
     → Follows key s (raised s id new 1 1) m (Some (Steps k ArriveAgain)))
 
 -- a load of word 1
 abbrev pub ReleaseFollows : Type 0
 ReleaseFollows =
-    OfPass true true
+    OfPass Twice
     (λ key s m id k c me new. c.phase ≡ Arrived2 → Releases (step 0 1 0 0 none) me (slice_index s.words 1) new
     → (slice_index s.words 1 ≡ length me.0.start.cpus → Follows key s (loaded s id new 1) m (Some (Steps k Release)))
     × (slice_index s.words 1 ≢ length me.0.start.cpus → Follows key s (loaded s id new 1) m None))

@@ -1,5 +1,5 @@
 -- What each step of a seat tells: its view before and after, and the event that it is, or that it is none.
-use Rattle.std.specs.Prelude.{◌≡◌, ◌≢◌, ◌⊎◌, ℕ, zero, suc, ◌+◌, ◌%◌, ◌^◌, ◌<◌, ◌≤◌, Bool, true, false, List, [], ◌∷◌, map, length, slice_get, slice_index, slice_set, Option, Some, None, IsTrue}
+use Rattle.std.specs.Prelude.{◌≡◌, ◌≢◌, ◌⊎◌, ℕ, zero, suc, ◌+◌, ◌%◌, ◌^◌, ◌<◌, ◌≤◌, true, false, List, [], ◌∷◌, map, length, slice_get, slice_index, slice_set, Option, Some, None, IsTrue}
 use Rattle.std.specs.Option.{option_map_or}
 use mathlib.Core.Option.{none, some}
 use lib.ListN.{get_elem?}
@@ -15,6 +15,8 @@ use Rattle.mt_machine.specs.System.{Processor}
 use Rattle.mt_machine.specs.Machine.{Machine, MachineEvent, Steps, Goes, Cancels as CancelsUpdate, IsEnabled, common_era, due, next, own_step}
 use Rattle.mt_machine.specs.Update.{Led}
 use Rattle.mt_cpu.specs.Steps.{is_local}
+use Rattle.mt_rendezvous.specs.declared.view.Added.{Added}
+use Rattle.mt_rendezvous.specs.declared.view.Added.TheVariants.{Never, Once, Twice}
 use Rattle.mt_rendezvous.specs.declared.view.Held.{Held}
 use Rattle.mt_rendezvous.specs.declared.view.Start.{Start}
 use Rattle.mt_rendezvous.specs.declared.view.View.{View}
@@ -35,10 +37,19 @@ abbrev pub CanFollow : Machine → Option MachineEvent → Type 0
 CanFollow m None = Unit {0}
 CanFollow m (Some e) = IsEnabled m e
 
--- A step of the pass that holds h, by which word i becomes new where it was found: the words and views stood for a machine that the broadcast leads to,
+-- a word, what a step finds there, and what it leaves
+pub record WordStep : Type 0 where
+  pub word : ℕ
+  pub found : ℕ
+  pub left : ℕ
+
+abbrev pub word_step : ℕ → ℕ → ℕ → WordStep
+word_step i found new = record { word = i; found = found; left = new }
+
+-- A step of the pass that holds h, by which a word becomes another: the words and views stood for a machine that the broadcast leads to,
 -- and the two counts held what had been added to them.
 -- With the new word, and with w in place of h, they stand for the machine after this event, which was enabled, or for the same machine if there is none.
-pub record PassSteps (t : Start) (i found new : ℕ) (e : Option MachineEvent) (h w : Held) : Type 0 where
+pub record PassSteps (t : Start) (change : WordStep) (e : Option MachineEvent) (h w : Held) : Type 0 where
   pub all : List Held
   pub go : Go
   pub words : List ℕ
@@ -46,20 +57,20 @@ pub record PassSteps (t : Start) (i found new : ℕ) (e : Option MachineEvent) (
   pub at : get_elem? all h.number ≡ some h
   pub first : slice_index words 0 ≡ first_count all go
   pub second : slice_index words 1 ≡ second_count all
-  pub word : slice_index words i ≡ found
+  pub word : slice_index words change.word ≡ change.found
   pub enabled : CanFollow (joined t all go words) e
-  pub becomes : joined t (slice_set all h.number w) go (slice_set words i new) ≡ after_event (joined t all go words) e
+  pub becomes : joined t (slice_set all h.number w) go (slice_set words change.word change.left) ≡ after_event (joined t all go words) e
 
 -- the same of a step of the root, which leaves the processors and says `go`
-pub record Decided (t : Start) (i found new : ℕ) (e : MachineEvent) (go : Go) : Type 0 where
+pub record Decided (t : Start) (change : WordStep) (e : MachineEvent) (go : Go) : Type 0 where
   pub all : List Held
   pub words : List ℕ
   pub led : Led (broadcast t) (joined t all Pending words)
   pub first : slice_index words 0 ≡ first_count all Pending
   pub second : slice_index words 1 ≡ second_count all
-  pub word : slice_index words i ≡ found
+  pub word : slice_index words change.word ≡ change.found
   pub enabled : IsEnabled (joined t all Pending words) e
-  pub becomes : joined t all go (slice_set words i new) ≡ next (joined t all Pending words) e
+  pub becomes : joined t all go (slice_set words change.word change.left) ≡ next (joined t all Pending words) e
 
 -- ---- what a call's contract says of one processor
 
@@ -88,17 +99,17 @@ Of v P = (h : Held) → v.held ≡ h ∷ [] → P h
 
 -- what each step makes of the one processor of a pass
 abbrev pub does : Start → Event → Held → Held
-does t e h = held h.number (own_step t.goal e h.cpu) h.added h.again
+does t e h = held h.number (own_step t.goal e h.cpu) h.added
 
 abbrev pub arrive : Start → Held → Held
-arrive t h = held h.number (own_step t.goal Arrive h.cpu) true h.again
+arrive t h = held h.number (own_step t.goal Arrive h.cpu) Once
 
 -- the cancel came first
 abbrev pub late : Held → Held
-late h = held h.number h.cpu true h.again
+late h = held h.number h.cpu Once
 
 abbrev pub arrive_again : Start → Held → Held
-arrive_again t h = held h.number (own_step t.goal ArriveAgain h.cpu) h.added true
+arrive_again t h = held h.number (own_step t.goal ArriveAgain h.cpu) Twice
 
 -- the event that is due for a processor between the barriers, which looks at nothing else
 abbrev pub own_event : Start → Processor → Event
@@ -115,13 +126,13 @@ sum_word st found = (found + st.first) % 2 ^ 64
 abbrev pub Turned : Sat → Sat → (Held → Held) → Type 0
 Turned me new f = new.0 ≡ with_held me.0 (map f me.0.held)
 
--- the step is this event of the view's one processor, which becomes what f makes of it; the word that was found becomes this
-abbrev pub IsEvent : Step (Unit {0}) → Sat → ℕ → ℕ → Event → (Held → Held) → Type 0
-IsEvent st me found word e f = Of me.0 (λ h. PassSteps me.0.start st.word found word (Some (Steps h.number e)) h (f h))
+-- the step is this event of the view's one processor, which becomes what f makes of it
+abbrev pub IsEvent : View → WordStep → Event → (Held → Held) → Type 0
+IsEvent v change e f = Of v (λ h. PassSteps v.start change (Some (Steps h.number e)) h (f h))
 
 -- or none
-abbrev pub IsNoEvent : Step (Unit {0}) → Sat → ℕ → ℕ → (Held → Held) → Type 0
-IsNoEvent st me found word f = Of me.0 (λ h. PassSteps me.0.start st.word found word None h (f h))
+abbrev pub IsNoEvent : View → WordStep → (Held → Held) → Type 0
+IsNoEvent v change f = Of v (λ h. PassSteps v.start change None h (f h))
 
 -- an addition of a pass to word 0: Arrive, or no event where the word held the cancel before. It tells besides that the processor is as it was gathered
 abbrev pub Arrives : Step (Unit {0}) → Sat → ℕ → Sat → Type 0
@@ -129,8 +140,8 @@ Arrives st me found new =
     (new.1 ≡ me.1)
     × Begins me.0.start
     × Of me.0 (λ h. slice_get me.0.start.cpus h.number ≡ Some h.cpu)
-    × (found < 4294967296 → Turned me new (arrive me.0.start) × IsEvent st me found (sum_word st found) Arrive (arrive me.0.start))
-    × (4294967296 ≤ found → Turned me new late × IsNoEvent st me found (sum_word st found) late)
+    × (found < 4294967296 → Turned me new (arrive me.0.start) × IsEvent me.0 (word_step st.word found (sum_word st found)) Arrive (arrive me.0.start))
+    × (4294967296 ≤ found → Turned me new late × IsNoEvent me.0 (word_step st.word found (sum_word st found)) late)
 
 -- it has arrived, and stands then with the go given
 abbrev pub MayPass : Start → Held → Type 0
@@ -140,16 +151,16 @@ MayPass t h = (h.cpu.phase ≡ Arrived) × Stands t Given h.number (does t Pass 
 abbrev pub Passes : Step (Unit {0}) → Sat → ℕ → Sat → Type 0
 Passes st me found new =
     (new.1 ≡ me.1)
-    × (found ≡ length me.0.start.cpus + 1 → Turned me new (does me.0.start Pass) × IsEvent st me found found Pass (does me.0.start Pass) × Of me.0 (MayPass me.0.start))
-    × (4294967296 ≤ found → Turned me new (does me.0.start Leave) × IsEvent st me found found Leave (does me.0.start Leave) × Of me.0 (λ h. Stands me.0.start Cancelled h.number h.cpu))
-    × (found < 4294967296 → found ≢ length me.0.start.cpus + 1 → (new.0 ≡ me.0) × IsNoEvent st me found found (λ h. h))
+    × (found ≡ length me.0.start.cpus + 1 → Turned me new (does me.0.start Pass) × IsEvent me.0 (word_step st.word found found) Pass (does me.0.start Pass) × Of me.0 (MayPass me.0.start))
+    × (4294967296 ≤ found → Turned me new (does me.0.start Leave) × IsEvent me.0 (word_step st.word found found) Leave (does me.0.start Leave) × Of me.0 (λ h. Stands me.0.start Cancelled h.number h.cpu))
+    × (found < 4294967296 → found ≢ length me.0.start.cpus + 1 → (new.0 ≡ me.0) × IsNoEvent me.0 (word_step st.word found found) (λ h. h))
 
 -- a store of the own phase word, or of a word of memory: the event that is due
 abbrev pub Works : Step (Unit {0}) → Sat → ℕ → Sat → Type 0
 Works st me found new =
     (new.1 ≡ me.1)
     × Turned me new (work me.0.start)
-    × Of me.0 (λ h. (was : ℕ) × PassSteps me.0.start st.word was st.first (Some (Steps h.number (own_event me.0.start h.cpu))) h (work me.0.start h))
+    × Of me.0 (λ h. (was : ℕ) × PassSteps me.0.start (word_step st.word was st.first) (Some (Steps h.number (own_event me.0.start h.cpu))) h (work me.0.start h))
     × Of me.0 (λ h. Stands me.0.start Given h.number (work me.0.start h).cpu)
 
 -- an addition to word 1: ArriveAgain
@@ -157,7 +168,7 @@ abbrev pub ArrivesAgain : Step (Unit {0}) → Sat → ℕ → Sat → Type 0
 ArrivesAgain st me found new =
     (new.1 ≡ me.1)
     × Turned me new (arrive_again me.0.start)
-    × IsEvent st me found (sum_word st found) ArriveAgain (arrive_again me.0.start)
+    × IsEvent me.0 (word_step st.word found (sum_word st found)) ArriveAgain (arrive_again me.0.start)
 
 abbrev pub with_shown : View → ℕ → View
 with_shown v n = view v.root v.held v.go (Some n) v
@@ -175,18 +186,18 @@ abbrev pub Releases : Step (Unit {0}) → Sat → ℕ → Sat → Type 0
 Releases st me found new =
     (new.1 ≡ me.1)
     × (found < 65536)
-    × (found ≡ length me.0.start.cpus → TurnedShown me new (does me.0.start Release) found × IsEvent st me found found Release (does me.0.start Release) × Of me.0 (HasFirstEra me.0.start))
-    × (found ≢ length me.0.start.cpus → (new.0 ≡ with_shown me.0 found) × IsNoEvent st me found found (λ h. h))
+    × (found ≡ length me.0.start.cpus → TurnedShown me new (does me.0.start Release) found × IsEvent me.0 (word_step st.word found found) Release (does me.0.start Release) × Of me.0 (HasFirstEra me.0.start))
+    × (found ≢ length me.0.start.cpus → (new.0 ≡ with_shown me.0 found) × IsNoEvent me.0 (word_step st.word found found) (λ h. h))
 
 abbrev pub with_go : View → Go → View
 with_go v go = view v.root v.held go v.shown v
 
 -- the root's additions to word 0: Go and Cancel
 abbrev pub Gives : Step (Unit {0}) → Sat → ℕ → Sat → Type 0
-Gives st me found new = (new.1 ≡ me.1) × (new.0 ≡ with_go me.0 Given) × Decided me.0.start st.word found (sum_word st found) Goes Given
+Gives st me found new = (new.1 ≡ me.1) × (new.0 ≡ with_go me.0 Given) × Decided me.0.start (word_step st.word found (sum_word st found)) Goes Given
 
 abbrev pub Cancels : Step (Unit {0}) → Sat → ℕ → Sat → Type 0
-Cancels st me found new = (new.1 ≡ me.1) × (new.0 ≡ with_go me.0 Cancelled) × Decided me.0.start st.word found (sum_word st found) CancelsUpdate Cancelled
+Cancels st me found new = (new.1 ≡ me.1) × (new.0 ≡ with_go me.0 Cancelled) × Decided me.0.start (word_step st.word found (sum_word st found)) CancelsUpdate Cancelled
 
 -- the word of memory that an event writes
 abbrev pub written : Event → Option (ℕ × ℕ)
@@ -194,9 +205,9 @@ written (WriteBack address value) = Some (address, value)
 written other = None
 
 -- the word that a store goes to, and its value: of the word of memory that the event writes back, or else of the own phase
-abbrev pub GoesTo : Start → ℕ → Processor → Option (ℕ × ℕ) → ℕ → ℕ → Type 0
-GoesTo t k c None i n = (i ≡ k + 2) × (n ≡ code (work t (held k c true false)).cpu.phase)
-GoesTo t k c (Some back) i n = (n ≡ back.1) × (j : ℕ) × (place t.ram back.0 ≡ Some j) × (i ≡ first_memory_word t + j)
+abbrev pub GoesTo : Start → Held → Option (ℕ × ℕ) → Step (Unit {0}) → Type 0
+GoesTo t h None st = (st.word ≡ h.number + 2) × (st.first ≡ code (work t h).cpu.phase)
+GoesTo t h (Some back) st = (st.first ≡ back.1) × (j : ℕ) × (place t.ram back.0 ≡ Some j) × (st.word ≡ first_memory_word t + j)
 
 -- ---- every step
 
@@ -208,25 +219,25 @@ abbrev pub IsUndecided : Sat → Type 0
 IsUndecided me = (me.0.root ≡ true) × (me.0.go ≡ Pending)
 
 -- the seat of a pass, which has added so to the two counts, and whose processor is in such a phase
-pub record IsPass (me : Sat) (added again : Bool) (P : Phase → Type 0) : Type 0 where
+pub record IsPass (me : Sat) (added : Added) (P : Phase → Type 0) : Type 0 where
   pub number : ℕ
   pub cpu : Processor
-  pub holds : me.0.held ≡ held number cpu added again ∷ []
+  pub holds : me.0.held ≡ held number cpu added ∷ []
   pub phase : P cpu.phase
 
 -- The one play of all steps, by word and operand: a load of a count has 0 there, an addition what it adds, and a store of another word what it stores.
 -- The seat has to be one whose turn it is. What stands in no line is no step of this crate.
 abbrev pub TellsAt : ℕ → ℕ → Step (Unit {0}) → Sat → ℕ → Sat → Type 0
-TellsAt zero zero st me found new = IsPass me true false IsWaiting × Passes st me found new
+TellsAt zero zero st me found new = IsPass me Once IsWaiting × Passes st me found new
 TellsAt zero (suc zero) st me found new =
     (me.0.root ≡ true → IsUndecided me × Gives st me found new)
-    × (me.0.root ≡ false → IsPass me false false (λ p. p ≡ Taken) × Arrives st me found new)
+    × (me.0.root ≡ false → IsPass me Never (λ p. p ≡ Taken) × Arrives st me found new)
 TellsAt zero (suc (suc more)) st me found new = (st.first ≡ 4294967296) × IsUndecided me × Cancels st me found new
-TellsAt (suc zero) zero st me found new = IsPass me true true (λ p. p ≡ Arrived2) × Releases st me found new
-TellsAt (suc zero) (suc zero) st me found new = IsPass me true false (λ p. p ≡ Restored) × ArrivesAgain st me found new
+TellsAt (suc zero) zero st me found new = IsPass me Twice (λ p. p ≡ Arrived2) × Releases st me found new
+TellsAt (suc zero) (suc zero) st me found new = IsPass me Once (λ p. p ≡ Restored) × ArrivesAgain st me found new
 TellsAt (suc zero) (suc (suc more)) st me found new = ⊥
 TellsAt (suc (suc i)) n st me found new =
-    (p : IsPass me true false (λ p. IsTrue (is_local p))) × GoesTo me.0.start p.number p.cpu (written (own_event me.0.start p.cpu)) st.word st.first × Works st me found new
+    (p : IsPass me Once (λ p. IsTrue (is_local p))) × GoesTo me.0.start (held p.number p.cpu Once) (written (own_event me.0.start p.cpu)) st × Works st me found new
 
 abbrev pub Tells : Step (Unit {0}) → Sat → ℕ → Sat → Type 0
 Tells st = TellsAt st.word st.first st

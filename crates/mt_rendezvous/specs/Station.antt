@@ -13,6 +13,8 @@ use Rattle.mt_machine.specs.System.{Processor, System}
 use Rattle.mt_machine.specs.Machine.{Machine, Order, common_era, stepped}
 use Rattle.mt_machine.specs.Update.{Led}
 use Rattle.mt_machine.specs.Start.{IsBroadcast}
+use Rattle.mt_rendezvous.specs.declared.view.Added.{Added}
+use Rattle.mt_rendezvous.specs.declared.view.Added.TheVariants.{Never, Once, Twice}
 use Rattle.mt_rendezvous.specs.declared.view.Held.{Held}
 use Rattle.mt_rendezvous.specs.declared.view.Start.{Start}
 use Rattle.mt_rendezvous.specs.declared.view.View.{View}
@@ -52,13 +54,13 @@ joined t all go words = stepped (order_of t go) (system_of t all words)
 
 -- ---- views
 
-abbrev pub held : ℕ → Processor → Bool → Bool → Held
-held k c added again = record { number = k; cpu = c; added = added; again = again }
+abbrev pub held : ℕ → Processor → Added → Held
+held k c added = record { number = k; cpu = c; added = added }
 
 -- the processors by their numbers
 abbrev pub numbered : ℕ → List Processor → List Held
 numbered k [] = []
-numbered k (c ∷ cs) = held k c false false ∷ numbered (k + 1) cs
+numbered k (c ∷ cs) = held k c Never ∷ numbered (k + 1) cs
 
 abbrev pub start_of : Key → Start
 start_of key = record { cpus = key.cpus.value.items; ram = key.ram.value; goal = key.goal.value }
@@ -110,11 +112,22 @@ abbrev pub total : (Held → ℕ) → List Held → ℕ
 total f [] = 0
 total f (h ∷ hs) = f h + total f hs
 
+-- whether a pass has added to the first count, and to the second
+abbrev pub in_first : Added → Bool
+in_first Never = false
+in_first Once = true
+in_first Twice = true
+
+abbrev pub in_second : Added → Bool
+in_second Never = false
+in_second Once = false
+in_second Twice = true
+
 abbrev pub added_of : Held → ℕ
-added_of h = weight h.added
+added_of h = weight (in_first h.added)
 
 abbrev pub again_of : Held → ℕ
-again_of h = weight h.again
+again_of h = weight (in_second h.added)
 
 -- what the coordinator has added to word 0
 abbrev pub go_weight : Go → ℕ
@@ -149,17 +162,17 @@ phase_word true Running = 8
 phase_word again other = code other
 
 abbrev pub phase_word_of : Held → ℕ
-phase_word_of h = phase_word h.again h.cpu.phase
+phase_word_of h = phase_word (in_second h.added) h.cpu.phase
 
 -- ---- the rule
 
 -- how a processor's phase and what its pass has added go together
-abbrev pub Fits : Go → Bool → Bool → Phase → Type 0
-Fits go added again Taken = (again ≡ false) × (added ≡ true → go ≡ Cancelled)
-Fits go added again Arrived = (again ≡ false) × (added ≡ true)
-Fits go added again Arrived2 = (again ≡ true) × (added ≡ true) × (go ≡ Given)
-Fits go added again Running = (added ≡ true) × (((again ≡ false) × (go ≡ Cancelled)) ⊎ ((again ≡ true) × (go ≡ Given)))
-Fits go added again other = (again ≡ false) × (added ≡ true) × (go ≡ Given)
+abbrev pub Fits : Go → Added → Phase → Type 0
+Fits go added Taken = (added ≡ Never) ⊎ ((added ≡ Once) × (go ≡ Cancelled))
+Fits go added Arrived = added ≡ Once
+Fits go added Arrived2 = (added ≡ Twice) × (go ≡ Given)
+Fits go added Running = ((added ≡ Once) × (go ≡ Cancelled)) ⊎ ((added ≡ Twice) × (go ≡ Given))
+Fits go added other = (added ≡ Once) × (go ≡ Given)
 
 -- whether its era has risen
 abbrev pub rise : Bool → Phase → ℕ
@@ -175,8 +188,8 @@ Waits other = ⊥
 -- as long as it waits it is as it was gathered, but for its phase
 pub record FitsHeld (t : Start) (go : Go) (h : Held) : Type 0 where
   pub first : Waits h.cpu.phase → slice_get t.cpus h.number ≡ Some (record h.cpu { phase = Taken })
-  pub fits : Fits go h.added h.again h.cpu.phase
-  pub era : h.cpu.era ≡ common_era t.cpus + rise h.again h.cpu.phase
+  pub fits : Fits go h.added h.cpu.phase
+  pub era : h.cpu.era ≡ common_era t.cpus + rise (in_second h.added) h.cpu.phase
 
 abbrev pub NotIn : ℕ → List Held → Type 0
 NotIn k hs = (i : ℕ) (h : Held) → get_elem? hs i ≡ some h → h.number ≢ k
@@ -186,11 +199,20 @@ abbrev pub Apart : List Held → Type 0
 Apart [] = Unit {0}
 Apart (h ∷ hs) = NotIn h.number hs × Apart hs
 
+-- all processors, what the coordinator said, and which seat has each processor
+pub record Seating : Type 0 where
+  pub all : List Held
+  pub go : Go
+  pub owner : ℕ → ℕ
+
+abbrev pub seating : List Held → Go → (ℕ → ℕ) → Seating
+seating all go owner = record { all = all; go = go; owner = owner }
+
 -- what one seat knows
-pub record Sits (t : Start) (all : List Held) (go : Go) (owner : ℕ → ℕ) (j : ℕ) (v : View) : Type 0 where
-  pub root : v.root ≡ true → (j ≡ 0) × (v.go ≡ go)
+pub record Sits (t : Start) (seats : Seating) (j : ℕ) (v : View) : Type 0 where
+  pub root : v.root ≡ true → (j ≡ 0) × (v.go ≡ seats.go)
   pub told : ((v.held ≡ []) × (v.root ≡ false)) ⊎ (v.start ≡ t)
-  pub holds : (i : ℕ) (h : Held) → get_elem? v.held i ≡ some h → (get_elem? all h.number ≡ some h) × (owner h.number ≡ j)
+  pub holds : (i : ℕ) (h : Held) → get_elem? v.held i ≡ some h → (get_elem? seats.all h.number ≡ some h) × (seats.owner h.number ≡ j)
   pub apart : Apart v.held
 
 -- some view has the processor k
@@ -213,4 +235,4 @@ pub record Meets (key : Key) (s : State (Unit {0}) View) : Type 0 where
   pub fits : (k : ℕ) (h : Held) → get_elem? all k ≡ some h → FitsHeld (start_of key) go h × (h.number ≡ k)
   pub codes : (k : ℕ) (h : Held) → get_elem? all k ≡ some h → slice_index s.words (k + 2) ≡ phase_word_of h
   pub present : (k : ℕ) → k < length all → IsHeld s.views k
-  pub seats : (j : ℕ) (v : View) → get_elem? s.views j ≡ some v → Sits (start_of key) all go owner j v
+  pub seats : (j : ℕ) (v : View) → get_elem? s.views j ≡ some v → Sits (start_of key) (seating all go owner) j v

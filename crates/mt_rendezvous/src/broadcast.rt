@@ -16,13 +16,13 @@ use mt_regs::RegFile;
 /// # Errors
 ///
 /// Those of `Core::call`; nothing then changes.
-pub fn call_and_take(core: &mut Core, goal: RegFile) -> Result<(), CallFault>
+pub fn call_and_take(core: &mut Core, goal: &RegFile) -> Result<(), CallFault>
     requires some { 0 < length core.old.system.processors }
-    requires fits { All (FitsGoal goal) core.old.system.processors }
+    requires fits { All (FitsGoal goal.now) core.old.system.processors }
     requires room { HasEraRoom core.old }
     ensures under_way { (result ≡ Err CallFault.UnderWay) ↔ IsSome core.old.order }
-    ensures refused { (fault : Fault) → result ≡ Err (CallFault.Refused fault) → (core.old.order ≡ None) × IsFirstFault goal (Some fault) }
-    ensures taken { OnOk result (HasTaken core.old goal core.new) }
+    ensures refused { (fault : Fault) → result ≡ Err (CallFault.Refused fault) → (core.old.order ≡ None) × IsFirstFault goal.now (Some fault) }
+    ensures taken { OnOk result (HasTaken core.old goal.now core.new) }
     ensures kept { OnErr result (core.new ≡ core.old) }
 {
     goal.is_register_file(); // a fact for the proof

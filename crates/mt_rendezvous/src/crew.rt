@@ -1,7 +1,13 @@
 // Threads that a gate lets start, and what stands in their place if one isn't started.
-ghost use Rattle.std.specs.Prelude.{◌≡◌, ℕ, IfErr, IfOk};
+ghost use Rattle.std.specs.Prelude.{◌≡◌, ◌<◌, ℕ, IfErr, IfOk, length};
+ghost use Rattle.mt_machine.specs.Machine.{Calls, IsEnabled};
+ghost use Rattle.mt_machine.specs.Start.{HasEraRoom, IsQuiet};
+ghost use Rattle.mt_machine.specs.Update.{updated};
+ghost use Rattle.mt_core.specs.Rounds.{in_order};
 
+use mt_core::Core;
 use mt_ports::Gate;
+use mt_regs::RegFile;
 use std::marker::PhantomData;
 use std::snapshot::Snapshot;
 use std::thread::{Promise, PromisedHandle, Scope, Threads};
@@ -34,15 +40,31 @@ impl<'a, G: Gate> Gate for Lent<'a, G> {
 }
 
 /// That a gate, the system or the allocator has refused a start or memory. Only this module and `crew/memory.rt` can make one
-/// or take one apart. It has no bytes, and is neither `Clone` nor `Drop`. No clause says that they make one only then.
+/// or take one apart. It has no bytes, and is neither `Clone` nor `Drop`: another crate gets rid of one by `update_alone`
+/// only. No clause says that they make one only then.
 pub struct Refusal {
     made: (),
 }
 
 impl Refusal {
-    /// Spends the refusal, before the update is done without threads.
-    pub fn spend(self) {
+    // Spends the refusal of memory for a station that stands outside an update.
+    pub(crate) fn spend(self) {
         let Refusal { made: _ } = self;
+    }
+
+    /// Spends the refusal by the whole update on this thread, by the calls of a core.
+    pub fn update_alone(self, core: &mut Core, goal: &RegFile)
+        requires quiet { IsQuiet core.old }
+        requires callable { IsEnabled core.old (Calls goal.now) }
+        requires some { 0 < length core.old.system.processors }
+        requires room { HasEraRoom core.old }
+        ensures { core.new ≡ updated core.old.system (in_order core.old) goal.now }
+    {
+        let Refusal { made: _ } = self;
+        let Ok(()) = core.call(goal) else {
+            unreachable!()
+        };
+        core.round();
     }
 }
 

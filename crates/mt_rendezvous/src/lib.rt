@@ -17,4 +17,4 @@ pub use crew::{Coordinator, Crew, Heard, Lent, OfProcessor, Refusal, Started, Un
 pub use gather::disband;
 pub use station::{Attendee, Outcome, Pass, Root, Station};
 pub use threads::{update, update_with};
-pub use view::{Held, Key, Start, View};
+pub use view::{Added, Held, Key, Start, View};

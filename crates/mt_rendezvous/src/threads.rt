@@ -134,12 +134,8 @@ fn update_alone(refusal: Refusal, system: System, goal: &RegFile) -> Core
     requires { CanUpdate system goal.now }
     ensures { result ≡ updated system [] goal.now }
 {
-    refusal.spend();
     let mut core = Core::new(system);
-    let Ok(()) = core.call(goal.same()) else {
-        unreachable!()
-    };
-    core.round();
+    refusal.update_alone(&mut core, goal);
     core
 }
 
@@ -252,19 +248,18 @@ pub fn update_with<R: Threads + Wait + Sync, G: Gate>(
     caller: &Caller<R, G>,
     alloc: Global,
     core: &mut Core,
-    goal: RegFile,
+    goal: &RegFile,
 ) -> Result<(), CallFault>
     requires some { 0 < length core.old.system.processors }
-    requires fits { All (FitsGoal goal) core.old.system.processors }
+    requires fits { All (FitsGoal goal.now) core.old.system.processors }
     requires room { HasEraRoom core.old }
     ensures under_way { (result ≡ Err CallFault.UnderWay) ↔ IsSome core.old.order }
-    ensures refused { (fault : Fault) → result ≡ Err (CallFault.Refused fault) → (core.old.order ≡ None) × IsFirstFault goal (Some fault) }
-    ensures updated { OnOk result ((core.old.order ≡ None) × IsAccepted goal × (core.new ≡ updated core.old.system (in_order core.old) goal)) }
+    ensures refused { (fault : Fault) → result ≡ Err (CallFault.Refused fault) → (core.old.order ≡ None) × IsFirstFault goal.now (Some fault) }
+    ensures updated { OnOk result ((core.old.order ≡ None) × IsAccepted goal.now × (core.new ≡ updated core.old.system (in_order core.old) goal.now)) }
     ensures kept { OnErr result (core.new ≡ core.old) }
 {
-    let aim = goal.same();
     call_and_take(core, goal)?;
-    carry_out(caller, alloc, core, &aim);
+    carry_out(caller, alloc, core, goal);
     Ok(())
 }
 
@@ -278,15 +273,15 @@ pub fn update<R: Threads + Wait + Sync, G: Gate>(
     rt: &R,
     alloc: Global,
     core: &mut Core,
-    goal: RegFile,
+    goal: &RegFile,
     gate: &G,
 ) -> Result<(), CallFault>
     requires some { 0 < length core.old.system.processors }
-    requires fits { All (FitsGoal goal) core.old.system.processors }
+    requires fits { All (FitsGoal goal.now) core.old.system.processors }
     requires room { HasEraRoom core.old }
     ensures under_way { (result ≡ Err CallFault.UnderWay) ↔ IsSome core.old.order }
-    ensures refused { (fault : Fault) → result ≡ Err (CallFault.Refused fault) → (core.old.order ≡ None) × IsFirstFault goal (Some fault) }
-    ensures updated { OnOk result ((core.old.order ≡ None) × IsAccepted goal × (core.new ≡ updated core.old.system (in_order core.old) goal)) }
+    ensures refused { (fault : Fault) → result ≡ Err (CallFault.Refused fault) → (core.old.order ≡ None) × IsFirstFault goal.now (Some fault) }
+    ensures updated { OnOk result ((core.old.order ≡ None) × IsAccepted goal.now × (core.new ≡ updated core.old.system (in_order core.old) goal.now)) }
     ensures kept { OnErr result (core.new ≡ core.old) }
 {
     update_with(&Caller::of(rt, gate), alloc, core, goal)

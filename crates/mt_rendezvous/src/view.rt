@@ -7,12 +7,18 @@ use mt_regs::RegFile;
 use std::collections::LinkedList;
 use std::snapshot::Snapshot;
 
-/// A processor in a view: its number, its state, and whether its pass has added to the two counts.
+/// To how many of the two counts a pass has added: to none, to the first, or to both.
+pub enum Added {
+    Never,
+    Once,
+    Twice,
+}
+
+/// A processor in a view: its number, its state, and what its pass has added.
 pub struct Held {
     pub number: u64,
     pub cpu: Cpu,
-    pub added: bool,
-    pub again: bool,
+    pub added: Added,
 }
 
 /// What was gathered: all processors by number, the memory, and the registers that all are to have.

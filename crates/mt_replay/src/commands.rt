@@ -126,7 +126,7 @@ fn call_update(core: &mut Core, goal: &RegFile) -> Option<CallFault>
 {
     a_core_arises(core); // a fact for the proof
     goal.is_register_file(); // a fact for the proof
-    match core.call(goal.same()) {
+    match core.call(goal) {
         Ok(()) => None,
         Err(fault) => Some(fault),
     }
@@ -147,7 +147,7 @@ fn run_update<R: Threads + Wait + Sync, G: Gate>(
     ensures short { (own : Fault) → result ≡ Some (CallFault.Refused own) → HasThreeDigits own.msr }
 {
     goal.is_register_file(); // a fact for the proof
-    match update_with(caller, alloc, core, goal.same()) {
+    match update_with(caller, alloc, core, goal) {
         Ok(()) => None,
         Err(fault) => Some(fault),
     }

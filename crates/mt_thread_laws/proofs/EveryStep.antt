@@ -13,13 +13,14 @@ use Rattle.mt_machine.specs.Machine.{Cancels as CancelsUpdate, Goes, MachineEven
 use Rattle.mt_machine.proofs.Rows.{due_row, is_row}
 use Rattle.mt_cpu.specs.Steps.{is_local}
 use Rattle.mt_rendezvous.specs.declared.view.Key.{Key}
-use Rattle.mt_rendezvous.specs.Station.{Meets, added_of, again_of, held, order_of}
+use Rattle.mt_rendezvous.specs.Station.{Meets, added_of, again_of, held, order_of, in_first, in_second}
 use Rattle.mt_rendezvous.specs.Plays.{Arrives, Cancels, IsPass, IsUndecided, IsWaiting, Passes, Releases, Sat, TellsAt, own_event}
 use Rattle.mt_rendezvous.specs.Laws.{ComesOf, EachStepFollows, Follows, HasPass, IsOneStep, OfStep, ShownIsFound, Station, loaded}
 use Rattle.mt_rendezvous.proofs.Keeps.{total_small, weight_small}
 use Rattle.mt_rendezvous.proofs.Local.{due_alone}
 use Rattle.mt_rendezvous.proofs.Steps.{Arrival, Passing, Releasing, arrival, go_small, passing, releasing}
 use Rattle.mt_rendezvous.proofs.Told.{loaded_again, unshown}
+use Rattle.mt_rendezvous.specs.declared.view.Added.TheVariants.{Never, Once, Twice}
 use Rattle.mt_thread_laws.proofs.EachStep.{arrive_again_follows, arrive_follows, cancel_follows, go_follows, pass_follows, release_follows, work_follows}
 
 -- ---- what is stored is no event of a barrier
@@ -59,7 +60,7 @@ module _ (key : Key) (s : Station) (m : Meets key s) (id : ℕ) (me new : Sat) (
   first_stays =
       let e = m.first in
       let few = m.few in
-      let small = total_small added_of (λ g. weight_small g.added) m.all in
+      let small = total_small added_of (λ g. weight_small (in_first g.added)) m.all in
       let go = go_small m.go in
       omega arith
 
@@ -67,7 +68,7 @@ module _ (key : Key) (s : Station) (m : Meets key s) (id : ℕ) (me new : Sat) (
   second_stays =
       let e = m.second in
       let few = m.few in
-      let small = total_small again_of (λ g. weight_small g.again) m.all in
+      let small = total_small again_of (λ g. weight_small (in_second g.added)) m.all in
       omega arith
 
   of_load : (e : Option MachineEvent) → Follows key s (loaded s id new 0) m e → ComesOf 0 0 e → IsOneStep key s m id 0 0 new
@@ -76,24 +77,24 @@ module _ (key : Key) (s : Station) (m : Meets key s) (id : ℕ) (me new : Sat) (
   of_second_load : (e : Option MachineEvent) → Follows key s (loaded s id new 1) m e → ComesOf 1 0 e → IsOneStep key s m id 1 0 new
   of_second_load e f comes = record { event = e; follows = subst (λ (n : ℕ). Follows key s (stepped s 1 n id new.1 new.0 keeps) m e) second_stays f; comes = comes }
 
-  by_load : IsPass me true false IsWaiting → Passes (step 0 0 0 0 none) me (slice_index s.words 0) new → IsOneStep key s m id 0 0 new
-  by_load p t = by_case (passing key s m id me.0 (held p.number p.cpu true false) at p.holds refl refl p.phase)
+  by_load : IsPass me Once IsWaiting → Passes (step 0 0 0 0 none) me (slice_index s.words 0) new → IsOneStep key s m id 0 0 new
+  by_load p t = by_case (passing key s m id me.0 (held p.number p.cpu Once) at p.holds refl p.phase)
     where
-      its : HasPass s id me (held p.number p.cpu true false)
+      its : HasPass s id me (held p.number p.cpu Once)
       its = record { at = at; holds = p.holds }
 
-      by_case : Passing key s m id me.0 (held p.number p.cpu true false) → IsOneStep key s m id 0 0 new
+      by_case : Passing key s m id me.0 (held p.number p.cpu Once) → IsOneStep key s m id 0 0 new
       by_case (inl x) = of_load (Some (Steps p.number Leave)) ((pass_follows key s m id p.number p.cpu me new its p.phase t).1 x.0) (refl, refl)
       by_case (inr (inl x)) = of_load (Some (Steps p.number Pass)) ((pass_follows key s m id p.number p.cpu me new its p.phase t).0 x.0) (refl, refl)
       by_case (inr (inr x)) = of_load None ((pass_follows key s m id p.number p.cpu me new its p.phase t).2 x.0 x.1) tt
 
-  by_arrival : IsPass me false false (λ p. p ≡ Taken) → Arrives (step 0 0 1 0 none) me (slice_index s.words 0) new → IsOneStep key s m id 0 1 new
-  by_arrival p t = by_case (arrival key s m id me.0 (held p.number p.cpu false false) at p.holds refl refl p.phase)
+  by_arrival : IsPass me Never (λ p. p ≡ Taken) → Arrives (step 0 0 1 0 none) me (slice_index s.words 0) new → IsOneStep key s m id 0 1 new
+  by_arrival p t = by_case (arrival key s m id me.0 (held p.number p.cpu Never) at p.holds refl p.phase)
     where
-      its : HasPass s id me (held p.number p.cpu false false)
+      its : HasPass s id me (held p.number p.cpu Never)
       its = record { at = at; holds = p.holds }
 
-      by_case : Arrival key s m id me.0 (held p.number p.cpu false false) → IsOneStep key s m id 0 1 new
+      by_case : Arrival key s m id me.0 (held p.number p.cpu Never) → IsOneStep key s m id 0 1 new
       by_case (inl x) = record { event = None; follows = (arrive_follows key s m id p.number p.cpu me new its p.phase t).1 x.0; comes = tt }
       by_case (inr x) = record { event = Some (Steps p.number Arrive); follows = (arrive_follows key s m id p.number p.cpu me new its p.phase t).0 x.0; comes = (refl, refl) }
 
@@ -110,13 +111,13 @@ module _ (key : Key) (s : Station) (m : Meets key s) (id : ℕ) (me new : Sat) (
     comes = (refl, refl);
   })
 
-  by_second_load : IsPass me true true (λ p. p ≡ Arrived2) → Releases (step 0 1 0 0 none) me (slice_index s.words 1) new → IsOneStep key s m id 1 0 new
-  by_second_load p t = by_case (releasing key s m id me.0 (held p.number p.cpu true true) at p.holds refl refl p.phase)
+  by_second_load : IsPass me Twice (λ p. p ≡ Arrived2) → Releases (step 0 1 0 0 none) me (slice_index s.words 1) new → IsOneStep key s m id 1 0 new
+  by_second_load p t = by_case (releasing key s m id me.0 (held p.number p.cpu Twice) at p.holds refl p.phase)
     where
-      its : HasPass s id me (held p.number p.cpu true true)
+      its : HasPass s id me (held p.number p.cpu Twice)
       its = record { at = at; holds = p.holds }
 
-      by_case : Releasing key s m id me.0 (held p.number p.cpu true true) → IsOneStep key s m id 1 0 new
+      by_case : Releasing key s m id me.0 (held p.number p.cpu Twice) → IsOneStep key s m id 1 0 new
       by_case (inl x) = of_second_load (Some (Steps p.number Release)) ((release_follows key s m id p.number p.cpu me new its p.phase t).0 x.0) (refl, refl)
       by_case (inr x) = of_second_load None ((release_follows key s m id p.number p.cpu me new its p.phase t).1 x.0) tt
 

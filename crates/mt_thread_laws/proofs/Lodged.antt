@@ -17,17 +17,18 @@ use Rattle.mt_rendezvous.specs.declared.view.Held.{Held}
 use Rattle.mt_rendezvous.specs.declared.view.Key.{Key}
 use Rattle.mt_rendezvous.specs.declared.view.Start.{Start}
 use Rattle.mt_rendezvous.specs.declared.view.View.{View}
-use Rattle.mt_rendezvous.specs.Station.{IsHeld, added_of, cpu_of, go_weight, held, start_of, total, weight}
+use Rattle.mt_rendezvous.specs.Station.{IsHeld, added_of, cpu_of, go_weight, held, start_of, total, weight, in_first}
 use Rattle.mt_private.specs.declared.view.Resident.{Resident}
 use Rattle.mt_private.specs.OneByOne.{at_rest}
 use Rattle.mt_private.specs.Own.{own_memory}
 use Rattle.mt_private.specs.Pages.{IsPrivate, names, naming}
-use Rattle.mt_private.specs.Residents.{Opens, Yard, held_of, pages_at, system_of}
+use Rattle.mt_private.specs.Residents.{Opens, Yard, held_of, pages_at, system_of, scene}
 use Rattle.mt_thread_laws.specs.WorkedYard.{at_start, both_lodged, first_lodged, lodged, lodger, lodging}
 use Rattle.mt_private.specs.YardLaws.{Has, IsOneEvent, YardState}
 use Rattle.mt_private.specs.YardRule.{AreAt, MeetsYard, as_view, first_yard_view, its_machine, residents, rest_of, with_decision, yard_left}
 use Rattle.mt_thread_laws.proofs.JobOnWorked.{is_memory}
 use Rattle.mt_private.proofs.Residents.Opened.{opened, resides}
+use Rattle.mt_rendezvous.specs.declared.view.Added.TheVariants.{Never}
 use Rattle.mt_thread_laws.proofs.Residents.Unique.{one_machine}
 
 page_of_lodger : (n page : ℕ) → names page (lodger n) ≡ true → page ≡ n
@@ -72,14 +73,11 @@ not_same a b low e = omega arith
 
 -- ---- its residents
 
-pub yard_lodged : Yard lodging both_lodged Pending 0 0 lodged
+pub yard_lodged : Yard lodging (scene both_lodged Pending lodged) 0 0
 yard_lodged = record { resides = resides lodging opens_lodging; first_count = refl; second_count = refl }
 
-pub has_first : Has lodging both_lodged Pending 0 0 lodged 0 first_lodged false false
-has_first = record { yard = yard_lodged; at = refl; has_added = refl; has_added_again = refl }
-
 abbrev pub second_lodged : Resident
-second_lodged = record { held = held 1 (lodger 0x200) false false; ram = own_memory (pages_at lodging 1) lodging.ram; done = []; stored = 0 }
+second_lodged = record { held = held 1 (lodger 0x200) Never; ram = own_memory (pages_at lodging 1) lodging.ram; done = []; stored = 0 }
 
 -- ---- no event
 
@@ -127,14 +125,14 @@ module _ (key : Key) (is : start_of key ≡ lodging) where
   pub not_short : MeetsYard key (at_start key (0 ∷ 0 ∷ 0 ∷ [])) → ⊥
   not_short m = let two = two_residents (at_start key (0 ∷ 0 ∷ 0 ∷ [])) m in let e : 3 ≡ length m.all + 2 = m.wide in omega arith
 
-  none_added : (all : List Resident) → length all ≡ 2 → (x y : Resident) → get_elem? all 0 ≡ some x → get_elem? all 1 ≡ some y → x.held.added ≡ false → y.held.added ≡ false → total added_of (map held_of all) ≡ 0
+  none_added : (all : List Resident) → length all ≡ 2 → (x y : Resident) → get_elem? all 0 ≡ some x → get_elem? all 1 ≡ some y → x.held.added ≡ Never → y.held.added ≡ Never → total added_of (map held_of all) ≡ 0
   none_added [] n x y e f p q = absurd (omega arith)
   none_added (a ∷ []) n x y e f p q = absurd (omega arith)
   none_added (a ∷ b ∷ c ∷ all) n x y e f p q = absurd (omega arith)
   none_added (a ∷ b ∷ []) n x y e f p q =
-      let first : a.held.added ≡ false = ap (λ (z : Resident). z.held.added) (some-injective a x e) ∙ p in
-      let second : b.held.added ≡ false = ap (λ (z : Resident). z.held.added) (some-injective b y f) ∙ q in
-      λ i. weight (first i) + (weight (second i) + 0)
+      let first : a.held.added ≡ Never = ap (λ (z : Resident). z.held.added) (some-injective a x e) ∙ p in
+      let second : b.held.added ≡ Never = ap (λ (z : Resident). z.held.added) (some-injective b y f) ∙ q in
+      λ i. weight (in_first (first i)) + (weight (in_first (second i)) + 0)
 
   pub not_counted : MeetsYard key (at_start key (1 ∷ 0 ∷ 0 ∷ 0 ∷ [])) → ⊥
   not_counted m =
@@ -152,7 +150,7 @@ module _ (key : Key) (is : start_of key ≡ lodging) where
   pub not_missing : MeetsYard key (opening (0 ∷ 0 ∷ 0 ∷ 0 ∷ []) [] (yard_left (first_yard_view key))) → ⊥
   not_missing m = nowhere (m.present 0 (let two = two_residents (opening (0 ∷ 0 ∷ 0 ∷ 0 ∷ []) [] (yard_left (first_yard_view key))) m in omega arith))
     where
-      only : (hs : List Held) (i : ℕ) (h : Held) → hs ≡ held 1 (lodger 0x200) false false ∷ [] → get_elem? hs i ≡ some h → h.number ≡ 0 → ⊥
+      only : (hs : List Held) (i : ℕ) (h : Held) → hs ≡ held 1 (lodger 0x200) Never ∷ [] → get_elem? hs i ≡ some h → h.number ≡ 0 → ⊥
       only hs zero h same e n = let x = some-injective _ h (ap (λ (l : List Held). get_elem? l 0) (sym same) ∙ e) in let y : 1 ≡ h.number = ap (λ (g : Held). g.number) x in omega arith
       only hs (suc i) h same e n = absurd (some-ne-none h (sym (ap (λ (l : List Held). get_elem? l (suc i)) (sym same) ∙ e)))
 

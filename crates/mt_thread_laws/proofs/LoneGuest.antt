@@ -13,13 +13,14 @@ use Rattle.mt_laws.proofs.Steps.StepCounts.{count_more}
 use Rattle.mt_private.specs.declared.view.Resident.{Resident}
 use Rattle.mt_private.specs.OneByOne.{at_rest}
 use Rattle.mt_private.specs.Pages.{IsPrivate, names, naming}
-use Rattle.mt_private.specs.Residents.{Follows, Opens, Yard, stepped_by, system_of, with_stored}
+use Rattle.mt_private.specs.Residents.{Follows, Opens, Yard, stepped_by, system_of, with_stored, scene, move_of}
 use Rattle.mt_thread_laws.specs.WorkedWay.{changed, guest, released}
 use Rattle.mt_thread_laws.specs.WorkedYard.{alone, lodger}
 use Rattle.mt_thread_laws.proofs.JobOnWorked.{is_memory}
 use Rattle.mt_private.proofs.Residents.Barriers.{arrives, arrives_again, leaves, passes, releases}
 use Rattle.mt_private.proofs.Residents.Decisions.{cancels, gives}
 use Rattle.mt_private.proofs.Residents.Opened.{resides}
+use Rattle.mt_rendezvous.specs.declared.view.Added.TheVariants.{Never, Once, Twice}
 use Rattle.mt_private.proofs.Residents.Work.{takes, works}
 
 unshared : IsPrivate (system_of alone)
@@ -46,45 +47,45 @@ opens = record { quiet = quiet; enabled = callable; unshared = unshared; some = 
 
 -- some system makes a yard of this resident with these counts
 abbrev pub IsYard : Go → ℕ → ℕ → Resident → Type 0
-IsYard go first second y = (s : System) × Yard alone (y ∷ []) go first second s
+IsYard go first second y = (s : System) × Yard alone (scene (y ∷ []) go s) first second
 
-followed : (go : Go) (s : System) (y w : Resident) (e : Option MachineEvent) (first second : ℕ) → Follows alone (y ∷ []) go s 0 w e first second → IsYard go first second w
+followed : (go : Go) (s : System) (y w : Resident) (e : Option MachineEvent) (first second : ℕ) → Follows alone (scene (y ∷ []) go s) (move_of 0 w e) first second → IsYard go first second w
 followed go s y w e first second f = (f.moves.system, record { resides = f.moves.kept; first_count = f.first_count; second_count = f.second_count })
 
-pub at_rest_yard : IsYard Pending 0 0 (guest Running false)
+pub at_rest_yard : IsYard Pending 0 0 (guest Running Never)
 at_rest_yard = (system_of alone, record { resides = resides alone opens; first_count = refl; second_count = refl })
 
-pub taken_yard : IsYard Pending 0 0 (guest Taken false)
+pub taken_yard : IsYard Pending 0 0 (guest Taken Never)
 taken_yard =
     let y = at_rest_yard in
-    followed Pending y.0 (guest Running false) (guest Taken false) (Some (Steps 0 Take)) 0 0
-    (takes alone (guest Running false ∷ []) Pending 0 0 y.0 y.1 0 (guest Running false) refl refl refl refl (omega arith))
+    followed Pending y.0 (guest Running Never) (guest Taken Never) (Some (Steps 0 Take)) 0 0
+    (takes alone (guest Running Never ∷ []) Pending 0 0 y.0 y.1 0 (guest Running Never) refl refl refl (omega arith))
 
-pub arrived_yard : IsYard Pending 1 0 (guest Arrived true)
+pub arrived_yard : IsYard Pending 1 0 (guest Arrived Once)
 arrived_yard =
     let y = taken_yard in
-    followed Pending y.0 (guest Taken false) (guest Arrived true) (Some (Steps 0 Arrive)) 1 0
-    ((arrives alone (guest Taken false ∷ []) Pending 0 0 y.0 y.1 0 (guest Taken false) refl refl refl refl).0 (omega arith))
+    followed Pending y.0 (guest Taken Never) (guest Arrived Once) (Some (Steps 0 Arrive)) 1 0
+    ((arrives alone (guest Taken Never ∷ []) Pending 0 0 y.0 y.1 0 (guest Taken Never) refl refl refl).0 (omega arith))
 
-pub given_yard : IsYard Given 2 0 (guest Arrived true)
-given_yard = let y = arrived_yard in (y.0, (gives alone (guest Arrived true ∷ []) 1 0 y.0 y.1).kept)
+pub given_yard : IsYard Given 2 0 (guest Arrived Once)
+given_yard = let y = arrived_yard in (y.0, (gives alone (guest Arrived Once ∷ []) 1 0 y.0 y.1).kept)
 
-pub passed_yard : IsYard Given 2 0 (guest Passed true)
+pub passed_yard : IsYard Given 2 0 (guest Passed Once)
 passed_yard =
     let y = given_yard in
-    followed Given y.0 (guest Arrived true) (guest Passed true) (Some (Steps 0 Pass)) 2 0 (passes alone (guest Arrived true ∷ []) Given 2 0 y.0 y.1 0 (guest Arrived true) refl refl refl refl refl)
+    followed Given y.0 (guest Arrived Once) (guest Passed Once) (Some (Steps 0 Pass)) 2 0 (passes alone (guest Arrived Once ∷ []) Given 2 0 y.0 y.1 0 (guest Arrived Once) refl refl refl refl)
 
 -- ---- its change
 
 abbrev step_by : Event → Resident → Resident
 step_by e y = with_stored (stepped_by alone e y) 0
 
-work_on : (y : Resident) (e : Event) → y.held.added ≡ true → y.held.again ≡ false → is_local y.held.cpu.phase ≡ true
+work_on : (y : Resident) (e : Event) → y.held.added ≡ Once → is_local y.held.cpu.phase ≡ true
     → ((o : Order) (ps : List Processor) → due o ps y.held.cpu y.held.cpu.phase ≡ Some e) → y.held.number ≡ 0 → IsYard Given 2 0 y → IsYard Given 2 0 (step_by e y)
-work_on y e added again here is number at = followed Given at.0 y (step_by e y) (Some (Steps 0 e)) 2 0 (works alone (y ∷ []) Given 2 0 at.0 at.1 0 y refl added again here e is 0)
+work_on y e added here is number at = followed Given at.0 y (step_by e y) (Some (Steps 0 e)) 2 0 (works alone (y ∷ []) Given 2 0 at.0 at.1 0 y refl added here e is 0)
 
 abbrev unfilled : Resident
-unfilled = step_by SetNoFill (guest Passed true)
+unfilled = step_by SetNoFill (guest Passed Once)
 
 abbrev dropped : Resident
 dropped = step_by DropLines unfilled
@@ -112,42 +113,42 @@ normal = step_by SetNormal flushed_again
 
 half : IsYard Given 2 0 written
 half =
-    work_on disabled (Write 0) refl refl refl (λ o ps. refl) refl
-    (work_on flushed Disable refl refl refl (λ o ps. refl) refl
-    (work_on dropped FlushTlb refl refl refl (λ o ps. refl) refl
-    (work_on unfilled DropLines refl refl refl (λ o ps. refl) refl
-    (work_on (guest Passed true) SetNoFill refl refl refl (λ o ps. refl) refl passed_yard))))
+    work_on disabled (Write 0) refl refl (λ o ps. refl) refl
+    (work_on flushed Disable refl refl (λ o ps. refl) refl
+    (work_on dropped FlushTlb refl refl (λ o ps. refl) refl
+    (work_on unfilled DropLines refl refl (λ o ps. refl) refl
+    (work_on (guest Passed Once) SetNoFill refl refl (λ o ps. refl) refl passed_yard))))
 
-pub restored_yard : IsYard Given 2 0 (changed Restored false)
+pub restored_yard : IsYard Given 2 0 (changed Restored Once)
 restored_yard =
-    work_on normal RestorePge refl refl refl (λ o ps. refl) refl
-    (work_on flushed_again SetNormal refl refl refl (λ o ps. refl) refl
-    (work_on dropped_again FlushTlb refl refl refl (λ o ps. refl) refl
-    (work_on enabled DropLines refl refl refl (λ o ps. refl) refl
-    (work_on written Enable refl refl refl (λ o ps. refl) refl half))))
+    work_on normal RestorePge refl refl (λ o ps. refl) refl
+    (work_on flushed_again SetNormal refl refl (λ o ps. refl) refl
+    (work_on dropped_again FlushTlb refl refl (λ o ps. refl) refl
+    (work_on enabled DropLines refl refl (λ o ps. refl) refl
+    (work_on written Enable refl refl (λ o ps. refl) refl half))))
 
-pub again_yard : IsYard Given 2 1 (changed Arrived2 true)
+pub again_yard : IsYard Given 2 1 (changed Arrived2 Twice)
 again_yard =
     let y = restored_yard in
-    followed Given y.0 (changed Restored false) (changed Arrived2 true) _ 2 1 (arrives_again alone (changed Restored false ∷ []) Given 2 0 y.0 y.1 0 (changed Restored false) refl refl refl refl)
+    followed Given y.0 (changed Restored Once) (changed Arrived2 Twice) _ 2 1 (arrives_again alone (changed Restored Once ∷ []) Given 2 0 y.0 y.1 0 (changed Restored Once) refl refl refl)
 
 pub released_yard : IsYard Given 2 1 released
 released_yard =
     let y = again_yard in
-    followed Given y.0 (changed Arrived2 true) released _ 2 1 (releases alone (changed Arrived2 true ∷ []) Given 2 1 y.0 y.1 0 (changed Arrived2 true) refl refl refl refl refl)
+    followed Given y.0 (changed Arrived2 Twice) released _ 2 1 (releases alone (changed Arrived2 Twice ∷ []) Given 2 1 y.0 y.1 0 (changed Arrived2 Twice) refl refl refl refl)
 
 -- ---- its way out
 
-pub cancelled_yard : IsYard Cancelled 0x100000000 0 (guest Taken false)
-cancelled_yard = let y = taken_yard in (y.0, (cancels alone (guest Taken false ∷ []) 0 0 y.0 y.1).kept)
+pub cancelled_yard : IsYard Cancelled 0x100000000 0 (guest Taken Never)
+cancelled_yard = let y = taken_yard in (y.0, (cancels alone (guest Taken Never ∷ []) 0 0 y.0 y.1).kept)
 
-pub late_yard : IsYard Cancelled 0x100000001 0 (guest Taken true)
+pub late_yard : IsYard Cancelled 0x100000001 0 (guest Taken Once)
 late_yard =
     let y = cancelled_yard in
-    followed Cancelled y.0 (guest Taken false) (guest Taken true) _ 0x100000001 0
-    ((arrives alone (guest Taken false ∷ []) Cancelled 0x100000000 0 y.0 y.1 0 (guest Taken false) refl refl refl refl).1 (omega arith))
+    followed Cancelled y.0 (guest Taken Never) (guest Taken Once) _ 0x100000001 0
+    ((arrives alone (guest Taken Never ∷ []) Cancelled 0x100000000 0 y.0 y.1 0 (guest Taken Never) refl refl refl).1 (omega arith))
 
-pub left_yard : IsYard Cancelled 0x100000001 0 (guest Running true)
+pub left_yard : IsYard Cancelled 0x100000001 0 (guest Running Once)
 left_yard =
     let y = late_yard in
-    followed Cancelled y.0 (guest Taken true) (guest Running true) _ 0x100000001 0 (leaves alone (guest Taken true ∷ []) Cancelled 0x100000001 0 y.0 y.1 0 (guest Taken true) refl refl refl (inl refl) (omega arith))
+    followed Cancelled y.0 (guest Taken Once) (guest Running Once) _ 0x100000001 0 (leaves alone (guest Taken Once ∷ []) Cancelled 0x100000001 0 y.0 y.1 0 (guest Taken Once) refl refl (inl refl) (omega arith))

@@ -9,13 +9,14 @@ use Rattle.mt_rendezvous.specs.declared.view.Held.{Held}
 use Rattle.mt_rendezvous.specs.declared.view.Key.{Key}
 use Rattle.mt_rendezvous.specs.declared.view.Start.{Start}
 use Rattle.mt_rendezvous.specs.declared.view.View.{View}
-use Rattle.mt_rendezvous.specs.Station.{IsHeld, Sits, start_of}
+use Rattle.mt_rendezvous.specs.Station.{IsHeld, Sits, start_of, seating}
 use Rattle.mt_private.specs.declared.view.Resident.{Resident}
 use Rattle.mt_private.specs.declared.view.YardView.{YardView}
-use Rattle.mt_private.specs.Residents.{Yard}
+use Rattle.mt_private.specs.Residents.{Yard, scene}
 use Rattle.mt_thread_laws.specs.WorkedWay.{guest, left, lone_pass, lone_root, lone_yard, released, settled}
 use Rattle.mt_thread_laws.specs.WorkedYard.{alone}
 use Rattle.mt_private.specs.YardRule.{AreAt, HoldsStored, MeetsYard, as_view}
+use Rattle.mt_rendezvous.specs.declared.view.Added.TheVariants.{Once}
 use Rattle.mt_thread_laws.proofs.LoneGuest.{IsYard, left_yard, released_yard}
 
 abbrev owner : ℕ → ℕ
@@ -55,15 +56,15 @@ module _ (y : Resident) (number : y.held.number ≡ 0) (unstored : y.stored ≡ 
     is_first zero h at = subst (λ (x : Held). (get_elem? (y.held ∷ []) x.number ≡ some x) × (owner x.number ≡ 1)) (some-injective y.held h at) (held_there, refl)
     is_first (suc i) h at = absurd (some-ne-none h (sym at))
 
-    root_sits : Sits (start_of key) (y.held ∷ []) go owner 0 (as_view its_root)
+    root_sits : Sits (start_of key) (seating (y.held ∷ []) go owner) 0 (as_view its_root)
     root_sits = record { root = λ e. (refl, refl); told = inr refl; holds = λ i h at. absurd (some-ne-none h (sym at)); apart = tt }
 
-    pass_sits : Sits (start_of key) (y.held ∷ []) go owner 1 (as_view its_pass)
+    pass_sits : Sits (start_of key) (seating (y.held ∷ []) go owner) 1 (as_view its_pass)
     pass_sits = record { root = λ e. absurd (cc e); told = inr refl; holds = is_first; apart = ((λ i h at. absurd (some-ne-none h (sym at))), tt) }
 
-    sits : (j : ℕ) (v : View) → get_elem? (as_view its_root ∷ as_view its_pass ∷ []) j ≡ some v → Sits (start_of key) (y.held ∷ []) go owner j v
-    sits zero v at = subst (Sits (start_of key) (y.held ∷ []) go owner 0) (some-injective (as_view its_root) v at) root_sits
-    sits (suc zero) v at = subst (Sits (start_of key) (y.held ∷ []) go owner 1) (some-injective (as_view its_pass) v at) pass_sits
+    sits : (j : ℕ) (v : View) → get_elem? (as_view its_root ∷ as_view its_pass ∷ []) j ≡ some v → Sits (start_of key) (seating (y.held ∷ []) go owner) j v
+    sits zero v at = subst (Sits (start_of key) (seating (y.held ∷ []) go owner) 0) (some-injective (as_view its_root) v at) root_sits
+    sits (suc zero) v at = subst (Sits (start_of key) (seating (y.held ∷ []) go owner) 1) (some-injective (as_view its_pass) v at) pass_sits
     sits (suc (suc j)) v at = absurd (some-ne-none v (sym at))
 
     same : (j : ℕ) (v : YardView) → get_elem? (its_root ∷ its_pass ∷ []) j ≡ some v → AreAt (y ∷ []) v.held
@@ -82,7 +83,7 @@ module _ (y : Resident) (number : y.held.number ≡ 0) (unstored : y.stored ≡ 
       go = go;
       owner = owner;
       system = made.0;
-      yard = subst (λ (t : Start). Yard t (y ∷ []) go first second made.0) (sym is) made.1;
+      yard = subst (λ (t : Start). Yard t (scene (y ∷ []) go made.0) first second) (sym is) made.1;
       wide = refl;
       stored = stores first second;
       present = present;
@@ -95,4 +96,4 @@ pub settled_meets : (key : Key) → start_of key ≡ alone → MeetsYard key (se
 settled_meets key is = meets released refl refl key is Given (Some 1) false (λ e. absurd (true≢false (sym e))) 2 1 released_yard
 
 pub left_meets : (key : Key) → start_of key ≡ alone → MeetsYard key (left key)
-left_meets key is = meets (guest Running true) refl refl key is Cancelled None true (λ e. refl) 0x100000001 0 left_yard
+left_meets key is = meets (guest Running Once) refl refl key is Cancelled None true (λ e. refl) 0x100000001 0 left_yard

@@ -16,9 +16,10 @@ use Rattle.mt_rendezvous.specs.declared.view.Held.{Held}
 use Rattle.mt_rendezvous.specs.declared.view.Start.{Start}
 use Rattle.mt_rendezvous.specs.declared.view.View.{View}
 use Rattle.mt_rendezvous.specs.declared.view.Key.{Key}
-use Rattle.mt_rendezvous.specs.Station.{Begins, FitsHeld, IsHeld, Meets, Sits, added_of, again_of, broadcast, first_memory_word, go_weight, held, joined, phase_word_of, start_of, total}
+use Rattle.mt_rendezvous.specs.Station.{Begins, FitsHeld, IsHeld, Meets, Sits, added_of, again_of, broadcast, first_memory_word, go_weight, held, joined, phase_word_of, start_of, total, seating}
 use Rattle.mt_thread_laws.specs.WorkedLone.{arrived, arrived_again, both_written, cancelled, changed, ended, left, lone}
 use Rattle.mt_thread_laws.specs.WorkedLone.{lone_events, lone_station, passed, pass_of, released, restored, root_of, taken}
+use Rattle.mt_rendezvous.specs.declared.view.Added.TheVariants.{Never, Once, Twice}
 use Rattle.mt_thread_laws.specs.WorkedStations.{first, zeros}
 
 pub begins_lone : Begins lone
@@ -71,15 +72,15 @@ module _ (key : Key) (is : start_of key ≡ lone) (go : Go) (shown : Option ℕ)
       is_first zero g at = subst (λ (x : Held). (get_elem? (h ∷ []) x.number ≡ some x) × (owner x.number ≡ 1)) (some-injective h g at) (ap (get_elem? (h ∷ [])) number, refl)
       is_first (suc i) g at = absurd (some-ne-none g (sym at))
 
-      root_sits : Sits (start_of key) (h ∷ []) go owner 0 its_root
+      root_sits : Sits (start_of key) (seating (h ∷ []) go owner) 0 its_root
       root_sits = record { root = λ e. (refl, refl); told = inr refl; holds = λ i g at. absurd (some-ne-none g (sym at)); apart = tt }
 
-      pass_sits : Sits (start_of key) (h ∷ []) go owner 1 its_pass
+      pass_sits : Sits (start_of key) (seating (h ∷ []) go owner) 1 its_pass
       pass_sits = record { root = λ e. absurd (cc e); told = inr refl; holds = is_first; apart = ((λ i g at. absurd (some-ne-none g (sym at))), tt) }
 
-      each_sits : (j : ℕ) (v : View) → get_elem? (its_root ∷ its_pass ∷ []) j ≡ some v → Sits (start_of key) (h ∷ []) go owner j v
-      each_sits zero v at = subst (Sits (start_of key) (h ∷ []) go owner 0) (some-injective its_root v at) root_sits
-      each_sits (suc zero) v at = subst (Sits (start_of key) (h ∷ []) go owner 1) (some-injective its_pass v at) pass_sits
+      each_sits : (j : ℕ) (v : View) → get_elem? (its_root ∷ its_pass ∷ []) j ≡ some v → Sits (start_of key) (seating (h ∷ []) go owner) j v
+      each_sits zero v at = subst (Sits (start_of key) (seating (h ∷ []) go owner) 0) (some-injective its_root v at) root_sits
+      each_sits (suc zero) v at = subst (Sits (start_of key) (seating (h ∷ []) go owner) 1) (some-injective its_pass v at) pass_sits
       each_sits (suc (suc j)) v at = absurd (some-ne-none v (sym at))
 
 -- ---- the way of the update, and of one that is cancelled
@@ -102,29 +103,29 @@ front_led (suc n) (e ∷ es) is =
 pub led_by : (n : ℕ) → Led (broadcast lone) (run (broadcast lone) (take n lone_events))
 led_by n = led_run (take n lone_events) (broadcast lone) (broadcast lone) led_start (front_enabled n (broadcast lone) lone_events enabled) (front_led n lone_events refl)
 
-fits_taken : FitsHeld lone Pending (held 0 (first Taken) false false)
-fits_taken = record { first = λ w. refl; fits = (refl, λ e. absurd (cc e)); era = refl }
+fits_taken : FitsHeld lone Pending (held 0 (first Taken) Never)
+fits_taken = record { first = λ w. refl; fits = inl refl; era = refl }
 
-fits_arrived : (go : Go) → FitsHeld lone go (held 0 (first Arrived) true false)
-fits_arrived go = record { first = λ w. refl; fits = (refl, refl); era = refl }
+fits_arrived : (go : Go) → FitsHeld lone go (held 0 (first Arrived) Once)
+fits_arrived go = record { first = λ w. refl; fits = refl; era = refl }
 
-fits_left : FitsHeld lone Cancelled (held 0 (first Running) true false)
-fits_left = record { first = λ w. absurd w; fits = (refl, inl (refl, refl)); era = refl }
+fits_left : FitsHeld lone Cancelled (held 0 (first Running) Once)
+fits_left = record { first = λ w. absurd w; fits = inl (refl, refl); era = refl }
 
-fits_passed : FitsHeld lone Given (held 0 (first Passed) true false)
-fits_passed = record { first = λ w. absurd w; fits = (refl, refl, refl); era = refl }
+fits_passed : FitsHeld lone Given (held 0 (first Passed) Once)
+fits_passed = record { first = λ w. absurd w; fits = (refl, refl); era = refl }
 
-fits_restored : FitsHeld lone Given (held 0 (changed Restored) true false)
-fits_restored = record { first = λ w. absurd w; fits = (refl, refl, refl); era = refl }
+fits_restored : FitsHeld lone Given (held 0 (changed Restored) Once)
+fits_restored = record { first = λ w. absurd w; fits = (refl, refl); era = refl }
 
-fits_again : FitsHeld lone Given (held 0 (changed Arrived2) true true)
-fits_again = record { first = λ w. absurd w; fits = (refl, refl, refl); era = refl }
+fits_again : FitsHeld lone Given (held 0 (changed Arrived2) Twice)
+fits_again = record { first = λ w. absurd w; fits = (refl, refl); era = refl }
 
-fits_released : FitsHeld lone Given (held 0 released true true)
-fits_released = record { first = λ w. absurd w; fits = (refl, inr (refl, refl)); era = refl }
+fits_released : FitsHeld lone Given (held 0 released Twice)
+fits_released = record { first = λ w. absurd w; fits = inr (refl, refl); era = refl }
 
-fits_cancelled : FitsHeld lone Cancelled (held 0 (first Taken) false false)
-fits_cancelled = record { first = λ w. refl; fits = (refl, λ e. absurd (cc e)); era = refl }
+fits_cancelled : FitsHeld lone Cancelled (held 0 (first Taken) Never)
+fits_cancelled = record { first = λ w. refl; fits = inl refl; era = refl }
 
 led_cancelled : Led (broadcast lone) (run (broadcast lone) (Cancels ∷ []))
 led_cancelled = led_run (Cancels ∷ []) (broadcast lone) (broadcast lone) led_start (refl, tt) refl
@@ -134,28 +135,28 @@ led_left = led_run (Cancels ∷ Steps 0 Leave ∷ []) (broadcast lone) (broadcas
 
 module _ (key : Key) (is : start_of key ≡ lone) where
   pub taken_meets : Meets key (taken key)
-  taken_meets = meets key is Pending None (held 0 (first Taken) false false) (0 ∷ 0 ∷ 0 ∷ zeros) led_start refl refl refl fits_taken refl refl
+  taken_meets = meets key is Pending None (held 0 (first Taken) Never) (0 ∷ 0 ∷ 0 ∷ zeros) led_start refl refl refl fits_taken refl refl
 
   pub arrived_meets : Meets key (arrived key)
-  arrived_meets = meets key is Given None (held 0 (first Arrived) true false) (2 ∷ 0 ∷ 0 ∷ zeros) (led_by 2) refl refl refl (fits_arrived Given) refl refl
+  arrived_meets = meets key is Given None (held 0 (first Arrived) Once) (2 ∷ 0 ∷ 0 ∷ zeros) (led_by 2) refl refl refl (fits_arrived Given) refl refl
 
   pub passed_meets : Meets key (passed key)
-  passed_meets = meets key is Given None (held 0 (first Passed) true false) (2 ∷ 0 ∷ 0 ∷ zeros) (led_by 3) refl refl refl fits_passed refl refl
+  passed_meets = meets key is Given None (held 0 (first Passed) Once) (2 ∷ 0 ∷ 0 ∷ zeros) (led_by 3) refl refl refl fits_passed refl refl
 
   pub restored_meets : Meets key (restored key)
-  restored_meets = meets key is Given None (held 0 (changed Restored) true false) (2 ∷ 0 ∷ 8 ∷ both_written) (led_by 15) refl refl refl fits_restored refl refl
+  restored_meets = meets key is Given None (held 0 (changed Restored) Once) (2 ∷ 0 ∷ 8 ∷ both_written) (led_by 15) refl refl refl fits_restored refl refl
 
   pub again_meets : Meets key (arrived_again key)
-  again_meets = meets key is Given None (held 0 (changed Arrived2) true true) (2 ∷ 1 ∷ 8 ∷ both_written) (led_by 16) refl refl refl fits_again refl refl
+  again_meets = meets key is Given None (held 0 (changed Arrived2) Twice) (2 ∷ 1 ∷ 8 ∷ both_written) (led_by 16) refl refl refl fits_again refl refl
 
   pub ended_meets : Meets key (ended key)
-  ended_meets = meets key is Given (Some 1) (held 0 released true true) (2 ∷ 1 ∷ 8 ∷ both_written) (led_by 17) refl refl refl fits_released refl refl
+  ended_meets = meets key is Given (Some 1) (held 0 released Twice) (2 ∷ 1 ∷ 8 ∷ both_written) (led_by 17) refl refl refl fits_released refl refl
 
   pub cancelled_meets : Meets key (cancelled key)
-  cancelled_meets = meets key is Cancelled None (held 0 (first Taken) false false) (0x100000000 ∷ 0 ∷ 0 ∷ zeros) led_cancelled refl refl refl fits_cancelled refl refl
+  cancelled_meets = meets key is Cancelled None (held 0 (first Taken) Never) (0x100000000 ∷ 0 ∷ 0 ∷ zeros) led_cancelled refl refl refl fits_cancelled refl refl
 
   pub left_meets : Meets key (left key)
-  left_meets = meets key is Cancelled None (held 0 (first Running) true false) (0x100000001 ∷ 0 ∷ 0 ∷ zeros) led_left refl refl refl fits_left refl refl
+  left_meets = meets key is Cancelled None (held 0 (first Running) Once) (0x100000001 ∷ 0 ∷ 0 ∷ zeros) led_left refl refl refl fits_left refl refl
 
 -- ---- steps
 

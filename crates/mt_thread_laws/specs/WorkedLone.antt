@@ -16,6 +16,7 @@ use Rattle.mt_rendezvous.specs.Station.{Meets, both, held, spent, start_of}
 use Rattle.mt_rendezvous.specs.Laws.{Follows, Station}
 use Rattle.mt_rendezvous.specs.Plays.{Sat}
 use Rattle.mt_rendezvous.specs.Calls.{gathered}
+use Rattle.mt_rendezvous.specs.declared.view.Added.TheVariants.{Never, Once, Twice}
 use Rattle.mt_thread_laws.specs.WorkedStations.{bare, first, one_line, zeros}
 
 abbrev pub lone : Start
@@ -53,16 +54,16 @@ pass_of t shown h = record { root = false; held = h ∷ []; go = Pending; shown 
 
 -- the processor before it arrives, when it has arrived, when it has passed, and when it has left
 abbrev pub new : Held
-new = held 0 (first Taken) false false
+new = held 0 (first Taken) Never
 
 abbrev pub come : Held
-come = held 0 (first Arrived) true false
+come = held 0 (first Arrived) Once
 
 abbrev pub gone : Held
-gone = held 0 (first Passed) true false
+gone = held 0 (first Passed) Once
 
 abbrev pub out : Held
-out = held 0 (first Running) true false
+out = held 0 (first Running) Once
 
 -- the seat of its pass
 abbrev pub sits : Start → Held → Sat
@@ -70,16 +71,16 @@ sits t h = bare (pass_of t None h)
 
 -- the processor in its change, and at the second barrier
 abbrev pub fills : Held
-fills = held 0 unfilled true false
+fills = held 0 unfilled Once
 
 abbrev pub back : Held
-back = held 0 (changed Restored) true false
+back = held 0 (changed Restored) Once
 
 abbrev pub again : Held
-again = held 0 (changed Arrived2) true true
+again = held 0 (changed Arrived2) Twice
 
 abbrev pub free : Held
-free = held 0 released true true
+free = held 0 released Twice
 
 -- ---- its station
 

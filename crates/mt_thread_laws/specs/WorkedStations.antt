@@ -12,6 +12,8 @@ use Rattle.mt_rendezvous.specs.declared.view.View.{View}
 use Rattle.mt_rendezvous.specs.declared.view.Key.{Key}
 use Rattle.mt_rendezvous.specs.Station.{first_view, held, pass_right, root_left}
 use Rattle.mt_rendezvous.specs.Plays.{Sat}
+use Rattle.mt_rendezvous.specs.declared.view.Added.TheVariants.{Never}
+use Rattle.mt_rendezvous.specs.declared.view.Added.{Added}
 use Rattle.mt_rendezvous.specs.Calls.{gathered, opening_words}
 
 -- lines of the first have words 1 and 2 dirty
@@ -31,8 +33,8 @@ abbrev pub start : Start
 start = gathered (first Taken ∷ second Taken ∷ []) (one_line zeros) (bare_file 0x800)
 
 -- both processors, with what their passes have added
-abbrev pub pair_of : Processor → Bool → Bool → Processor → Bool → Bool → List Held
-pair_of p first_added first_again q second_added second_again = held 0 p first_added first_again ∷ held 1 q second_added second_again ∷ []
+abbrev pub pair_of : Processor → Added → Processor → Added → List Held
+pair_of p first_added q second_added = held 0 p first_added ∷ held 1 q second_added ∷ []
 
 -- the words with these two counts, before any event between the barriers
 abbrev pub words_of : ℕ → ℕ → List ℕ
@@ -40,7 +42,7 @@ words_of first second = slice_set (slice_set (opening_words 2 zeros) 0 first) 1 
 
 -- both, before any event
 abbrev pub both_taken : List Held
-both_taken = pair_of (first Taken) false false (second Taken) false false
+both_taken = pair_of (first Taken) Never (second Taken) Never
 
 -- the station's words and views at the start, but for one word
 abbrev pub but_word : Key → ℕ → ℕ → State (Unit {0}) View

@@ -1,6 +1,7 @@
 -- The way of a worked resident, which is alone in its yard, through an update; and a worked yard of two whose first resident was given away.
 use Rattle.std.specs.Prelude.{◌≡◌, ℕ, Bool, true, false, List, [], ◌∷◌, None, Option, Some}
 use mathlib.Core.Option.{none}
+use Rattle.atomic_table.specs.Seated.{TableId}
 use Rattle.atomic_table.specs.Table.{step}
 use Rattle.mt_machine.specs.declared.phase.Phase.{Phase}
 use Rattle.mt_machine.specs.declared.phase.Phase.TheVariants.{NoFill, Running}
@@ -13,41 +14,44 @@ use Rattle.mt_machine.specs.Machine.{MachineEvent}
 use Rattle.mt_machine_laws.specs.MachineWorkedRuns.{bare_file}
 use Rattle.mt_rendezvous.specs.declared.view.Key.{Key}
 use Rattle.mt_rendezvous.specs.declared.view.Start.{Start}
+use Rattle.mt_rendezvous.specs.Calls.{SeatOf}
 use Rattle.mt_rendezvous.specs.Station.{held, start_of}
 use Rattle.mt_private.specs.declared.job.Job.{Job}
 use Rattle.mt_private.specs.declared.job.Told.{Told}
 use Rattle.mt_private.specs.declared.view.Resident.{Resident}
 use Rattle.mt_private.specs.declared.view.YardView.{YardView}
 use Rattle.mt_private.specs.Own.{own_memory}
-use Rattle.mt_private.specs.Residents.{Follows, Yard, pages_at}
+use Rattle.mt_private.specs.Residents.{Follows, Yard, pages_at, scene, move_of}
 use Rattle.mt_thread_laws.specs.WorkedYard.{alone, first_taken, lodger, lodging, no_counts}
 use Rattle.mt_private.specs.YardLaws.{IsOneEvent, IsOneStep, YardState}
 use Rattle.mt_private.specs.YardPlays.{Tells, YardSat}
+use Rattle.mt_rendezvous.specs.declared.view.Added.TheVariants.{Once, Twice}
+use Rattle.mt_rendezvous.specs.declared.view.Added.{Added}
 use Rattle.mt_private.specs.YardRule.{MeetsYard, first_yard_view, with_one, with_decision, yard_both, yard_left, yard_right, yard_spent}
 
 abbrev pub first_words : Memory
 first_words = own_memory (pages_at lodging 0) lodging.ram
 
 -- the resident with this processor and these words, and what its pass has added and it has done
-abbrev pub come : Processor → Memory → Bool → Bool → List Op → Resident
-come p m added again done = record { held = held 0 p added again; ram = m; done = done; stored = 0 }
+abbrev pub come : Processor → Memory → Added → List Op → Resident
+come p m added done = record { held = held 0 p added; ram = m; done = done; stored = 0 }
 
 -- before its change, in no-fill mode, and behind its change
-abbrev pub guest : Phase → Bool → Resident
-guest phase added = come (record (lodger 0x100) { phase = phase }) first_words added false []
+abbrev pub guest : Phase → Added → Resident
+guest phase added = come (record (lodger 0x100) { phase = phase }) first_words added []
 
 abbrev pub fills_not : Resident
-fills_not = come (record (lodger 0x100) { phase = NoFill; cache_disabled = true }) first_words true false []
+fills_not = come (record (lodger 0x100) { phase = NoFill; cache_disabled = true }) first_words Once []
 
-abbrev pub changed : Phase → Bool → Resident
-changed phase again = come (record (lodger 0x100) { file = bare_file 0x800; phase = phase }) first_words true again []
+abbrev pub changed : Phase → Added → Resident
+changed phase added = come (record (lodger 0x100) { file = bare_file 0x800; phase = phase }) first_words added []
 
 abbrev pub released : Resident
-released = come (record (lodger 0x100) { file = bare_file 0x800; era = 1 }) first_words true true []
+released = come (record (lodger 0x100) { file = bare_file 0x800; era = 1 }) first_words Twice []
 
 -- some system makes a yard of it with these counts, and on that the next follows by this event, with the next counts
 abbrev pub GoesOn : Go → ℕ → ℕ → Resident → Resident → Option MachineEvent → ℕ → ℕ → Type 0
-GoesOn go first second y w e first_then second_then = (s : System) × Yard alone (y ∷ []) go first second s × Follows alone (y ∷ []) go s 0 w e first_then second_then
+GoesOn go first second y w e first_then second_then = (s : System) × Yard alone (scene (y ∷ []) go s) first second × Follows alone (scene (y ∷ []) go s) (move_of 0 w e) first_then second_then
 
 -- the seat of its pass, which was shown this count and whether there is a cancel
 abbrev pub seat_shown : Option ℕ → Bool → Resident → YardSat
@@ -81,7 +85,7 @@ abbrev pub settled : Key → YardState
 settled key = lone_yard key Given (Some 1) false released 2 1
 
 abbrev pub left : Key → YardState
-left key = lone_yard key Cancelled None true (guest Running true) 0x100000001 0
+left key = lone_yard key Cancelled None true (guest Running Once) 0x100000001 0
 
 -- one state meets the rule, and the next follows on it by this event
 abbrev pub Becomes : Key → YardState → YardState → Option MachineEvent → Type 0
@@ -100,6 +104,9 @@ TakesUnshown key = (new : YardSat) × Tells (step 0 0 0 0 none) (yard_right (fir
 -- the seat of its host, which has it back
 abbrev pub last_seat : YardSat
 last_seat = (record { root = true; held = released ∷ []; go = Given; shown = None; cancel = false; start = alone }, [])
+
+abbrev pub lone_host : TableId → SeatOf YardSat
+lone_host table = record { table = table; start = alone; its = table; me = last_seat }
 
 -- a job without accesses, and its answers
 abbrev pub IsEmptyJob : Job → Type 0

@@ -13,6 +13,7 @@ use Rattle.mt_thread_laws.specs.Worked.{marked}
 use Rattle.mt_private.specs.Own.{own_memory}
 use Rattle.mt_private.specs.Residents.{pages_at, stepped_by, system_of}
 use Rattle.mt_private.specs.YardRule.{first_yard_view, residents, yard_left, yard_right}
+use Rattle.mt_rendezvous.specs.declared.view.Added.TheVariants.{Never}
 use Rattle.mt_private.specs.YardLaws.{YardState}
 
 -- page 1 is mapped to this physical page
@@ -32,7 +33,7 @@ abbrev pub lodged : System
 lodged = system_of lodging
 
 abbrev pub first_lodged : Resident
-first_lodged = record { held = held 0 (lodger 0x100) false false; ram = own_memory (pages_at lodging 0) lodging.ram; done = []; stored = 0 }
+first_lodged = record { held = held 0 (lodger 0x100) Never; ram = own_memory (pages_at lodging 0) lodging.ram; done = []; stored = 0 }
 
 -- the first once it has taken
 abbrev pub first_taken : Resident

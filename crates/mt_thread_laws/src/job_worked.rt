@@ -1,17 +1,18 @@
 // Worked relations that laws cite: one that meets each, and for each part one that fails in that part.
-ghost use Rattle.std.specs.Prelude.{◌≡◌, ◌∷◌, [], None, Some, false, true};
+ghost use Rattle.std.specs.Prelude.{◌≡◌, ◌∷◌, [], None, Some, true};
 ghost use mathlib.Core.Option.{none, some};
 ghost use Rattle.atomic_table.specs.Table.{opening, step};
 ghost use Rattle.mt_machine.specs.declared.event.Event.TheVariants.{Arrive, Release, SetNoFill, WriteBack};
 ghost use Rattle.mt_machine.specs.declared.go.Go.TheVariants.{Given, Pending};
 ghost use Rattle.mt_machine.specs.declared.op.Op.TheVariants.{Fence, Load, Store};
 ghost use Rattle.mt_machine.specs.Machine.{Accesses, Cancels, Goes, Steps};
+ghost use Rattle.mt_rendezvous.specs.declared.view.Added.TheVariants.{Never, Once, Twice};
 ghost use Rattle.mt_rendezvous.specs.declared.view.Key.{Key};
 ghost use Rattle.mt_rendezvous.specs.Station.{start_of};
 ghost use Rattle.mt_private.specs.OneByOne.{at_rest};
 ghost use Rattle.mt_private.specs.Own.{AreApart, Becomes, Commute, IsOwner, RunsAlone, WritesOn, own_system, with_own};
 ghost use Rattle.mt_private.specs.Pages.{IsPrivate};
-ghost use Rattle.mt_private.specs.Residents.{with_stored};
+ghost use Rattle.mt_private.specs.Residents.{Yard, scene, with_stored};
 ghost use Rattle.mt_thread_laws.specs.Worked.{first_page, marked, pair, second_page, shared, sharing, uncached};
 ghost use Rattle.mt_thread_laws.specs.WorkedYard.{at_start, both_lodged, first_lodged, first_state, lodged, lodging};
 ghost use Rattle.mt_private.specs.YardLaws.{ComesOf, Has, IsOneEvent, Settles, Stores};
@@ -83,11 +84,12 @@ pub fn worked_steps_of_yard_events()
 
 /// A yard and its first resident.
 pub fn worked_yards()
-    ensures has { Has lodging both_lodged Pending 0 0 lodged 0 first_lodged false false }
-    ensures has_no_yard { ¬ Has lodging both_lodged Pending 1 0 lodged 0 first_lodged false false }
-    ensures has_elsewhere { ¬ Has lodging both_lodged Pending 0 0 lodged 1 first_lodged false false }
-    ensures has_not_added { ¬ Has lodging both_lodged Pending 0 0 lodged 0 first_lodged true false }
-    ensures has_not_added_again { ¬ Has lodging both_lodged Pending 0 0 lodged 0 first_lodged false true }
+    ensures yard { Yard lodging (scene both_lodged Pending lodged) 0 0 }
+    ensures no_yard { ¬ Yard lodging (scene both_lodged Pending lodged) 1 0 }
+    ensures has { Has both_lodged 0 first_lodged Never }
+    ensures has_elsewhere { ¬ Has both_lodged 1 first_lodged Never }
+    ensures has_not_added { ¬ Has both_lodged 0 first_lodged Once }
+    ensures has_not_added_again { ¬ Has both_lodged 0 first_lodged Twice }
 {}
 
 /// Words and views that don't meet the rule for one thing, and what isn't one event.

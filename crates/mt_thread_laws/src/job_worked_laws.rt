@@ -1,6 +1,6 @@
 // Each law on the steps of a yard, at one step of a worked resident that is alone; the laws on a yard's table, at its start
 // and once a resident was given away; its end; and the laws on own systems.
-ghost use Rattle.std.specs.Prelude.{◌≡◌, ◌≤◌, ◌∷◌, [], None, Some, false, slice_index, true};
+ghost use Rattle.std.specs.Prelude.{◌≡◌, ◌≤◌, ◌∷◌, [], None, Some, slice_index};
 ghost use Rattle.atomic_table.specs.Seated.{TableId};
 ghost use Rattle.mt_kinds.specs.declared.mem_type.MemType.TheVariants.{WB};
 ghost use Rattle.mt_machine.specs.declared.done.Done.TheVariants.{Stored};
@@ -11,6 +11,7 @@ ghost use Rattle.mt_machine.specs.declared.phase.Phase.TheVariants.{Arrived, Arr
 ghost use Rattle.mt_machine.specs.Access.{access};
 ghost use Rattle.mt_machine.specs.Machine.{Accesses, Cancels, Goes, Reached, Steps};
 ghost use Rattle.mt_machine.specs.System.{System as MachineSystem};
+ghost use Rattle.mt_rendezvous.specs.declared.view.Added.TheVariants.{Never, Once, Twice};
 ghost use Rattle.mt_rendezvous.specs.declared.view.Key.{Key};
 ghost use Rattle.mt_rendezvous.specs.Station.{broadcast, start_of};
 ghost use Rattle.mt_private.specs.declared.job.Job.{Job as YardJob};
@@ -18,9 +19,9 @@ ghost use Rattle.mt_private.specs.declared.job.Told.{Told as YardTold};
 ghost use Rattle.mt_private.specs.Alone.{JobsAlone, JobsRunAlone, UpdatesAlone, UpdatesRunAlone};
 ghost use Rattle.mt_private.specs.Left.{Leaves};
 ghost use Rattle.mt_private.specs.OneByOne.{jobs_one_by_one};
-ghost use Rattle.mt_private.specs.Residents.{Decides, Follows, Yard, accessed_by, own_of, system_of, with_stored};
+ghost use Rattle.mt_private.specs.Residents.{Decides, Follows, Yard, accessed_by, move_of, own_of, scene, system_of, with_stored};
 ghost use Rattle.mt_private.specs.Visitors.{EndsOneByOne, Returned};
-ghost use Rattle.mt_thread_laws.specs.WorkedWay.{Becomes, GoesOn, HasNoAnswers, IsEmptyJob, LoadsFirst, TakesUnshown, changed, fills_not, given, guest, joined, last_seat, left, released, settled, split_taken};
+ghost use Rattle.mt_thread_laws.specs.WorkedWay.{Becomes, GoesOn, HasNoAnswers, IsEmptyJob, LoadsFirst, TakesUnshown, changed, fills_not, given, guest, joined, last_seat, left, lone_host, released, settled, split_taken};
 ghost use Rattle.mt_thread_laws.specs.WorkedYard.{alone, first_state, lodged, lodging, split_state};
 ghost use Rattle.mt_private.specs.YardLaws.{AdditionArrives, AdditionArrivesAgain, AdditionDecides, LoadLeaves, LoadPasses, LoadReleases, LoadStays, LoadTakes, StoreAccesses, StoreWorks};
 ghost use Rattle.mt_private.specs.YardLaws.{EachStepFollows, IsOneMachine, IsReached, JoinIsNone, LeftWhereCancelled, MoveIsOneEvent, ReleasedWhereFull, DecisionIsOneEvent, Settles, ShownIsFound, SplitIsNone, StartMeetsRule, YardsSettle};
@@ -28,27 +29,27 @@ ghost use Rattle.mt_private.specs.YardRule.{MeetsYard, its_machine};
 
 /// Loads of the counts.
 pub fn worked_laws_of_loads()
-    ensures takes { LoadTakes → GoesOn Pending 0 0 (guest Running false) (guest Taken false) (Some (Steps 0 Take)) 0 0 }
-    ensures stays { LoadStays → GoesOn Pending 1 0 (guest Arrived true) (guest Arrived true) None 1 0 }
-    ensures passes { LoadPasses → GoesOn Given 2 0 (guest Arrived true) (guest Passed true) (Some (Steps 0 Pass)) 2 0 }
-    ensures leaves { LoadLeaves → GoesOn Cancelled 0x100000001 0 (guest Taken true) (guest Running true) (Some (Steps 0 Leave)) 0x100000001 0 }
-    ensures releases { LoadReleases → GoesOn Given 2 1 (changed Arrived2 true) released (Some (Steps 0 Release)) 2 1 }
+    ensures takes { LoadTakes → GoesOn Pending 0 0 (guest Running Never) (guest Taken Never) (Some (Steps 0 Take)) 0 0 }
+    ensures stays { LoadStays → GoesOn Pending 1 0 (guest Arrived Once) (guest Arrived Once) None 1 0 }
+    ensures passes { LoadPasses → GoesOn Given 2 0 (guest Arrived Once) (guest Passed Once) (Some (Steps 0 Pass)) 2 0 }
+    ensures leaves { LoadLeaves → GoesOn Cancelled 0x100000001 0 (guest Taken Once) (guest Running Once) (Some (Steps 0 Leave)) 0x100000001 0 }
+    ensures releases { LoadReleases → GoesOn Given 2 1 (changed Arrived2 Twice) released (Some (Steps 0 Release)) 2 1 }
 {}
 
 /// Additions to the counts, by the pass and by the coordinator.
 pub fn worked_laws_of_additions()
-    ensures arrives { AdditionArrives → GoesOn Pending 0 0 (guest Taken false) (guest Arrived true) (Some (Steps 0 Arrive)) 1 0 }
-    ensures decides { AdditionDecides → (s : MachineSystem) × Yard alone (guest Arrived true ∷ []) Pending 1 0 s
-        × Decides alone (guest Arrived true ∷ []) Given 2 0 s Goes × Decides alone (guest Arrived true ∷ []) Cancelled 0x100000001 0 s Cancels }
-    ensures arrives_again { AdditionArrivesAgain → GoesOn Given 2 0 (changed Restored false) (changed Arrived2 true) (Some (Steps 0 ArriveAgain)) 2 1 }
+    ensures arrives { AdditionArrives → GoesOn Pending 0 0 (guest Taken Never) (guest Arrived Once) (Some (Steps 0 Arrive)) 1 0 }
+    ensures decides { AdditionDecides → (s : MachineSystem) × Yard alone (scene (guest Arrived Once ∷ []) Pending s) 1 0
+        × Decides alone (scene (guest Arrived Once ∷ []) Given s) 2 0 Goes × Decides alone (scene (guest Arrived Once ∷ []) Cancelled s) 0x100000001 0 Cancels }
+    ensures arrives_again { AdditionArrivesAgain → GoesOn Given 2 0 (changed Restored Once) (changed Arrived2 Twice) (Some (Steps 0 ArriveAgain)) 2 1 }
 {}
 
 /// Stores of the own event word: an access before the update, and the event that is due behind the first barrier.
 pub fn worked_laws_of_own_words()
-    ensures accesses { StoreAccesses → (s : MachineSystem) × Yard alone (guest Running false ∷ []) Pending 0 0 s
-        × Follows alone (guest Running false ∷ []) Pending s 0 (with_stored (accessed_by (Store 0x1000 7) (guest Running false)) 1) (Some (Accesses 0 (Store 0x1000 7))) 0 0
+    ensures accesses { StoreAccesses → (s : MachineSystem) × Yard alone (scene (guest Running Never ∷ []) Pending s) 0 0
+        × Follows alone (scene (guest Running Never ∷ []) Pending s) (move_of 0 (with_stored (accessed_by (Store 0x1000 7) (guest Running Never)) 1) (Some (Accesses 0 (Store 0x1000 7)))) 0 0
         × ((access s 0 (Store 0x1000 7)).answer ≡ Stored WB) }
-    ensures works { StoreWorks → GoesOn Given 2 0 (guest Passed true) (with_stored fills_not 1) (Some (Steps 0 SetNoFill)) 2 0 }
+    ensures works { StoreWorks → GoesOn Given 2 0 (guest Passed Once) (with_stored fills_not 1) (Some (Steps 0 SetNoFill)) 2 0 }
 {}
 
 /// A yard of two at its start, and steps of its seats; and a yard of one, whose resident left or is released.
@@ -70,7 +71,7 @@ pub fn worked_laws_of_tables()
 /// A yard whose one guest came back, with a job without accesses: it leaves what the update leaves.
 pub fn worked_laws_of_ends()
     ensures { EndsOneByOne → (table : TableId) (job : YardJob) (told : YardTold) → IsEmptyJob job → HasNoAnswers told → (s : MachineSystem) × Leaves alone last_seat.0 s
-        × Returned table alone (job ∷ []) table last_seat (Some (own_of released) ∷ []) (told ∷ [])
+        × Returned (lone_host table) (job ∷ []) (Some (own_of released) ∷ []) (told ∷ [])
         × (s ≡ (jobs_one_by_one (system_of alone) alone.goal (job ∷ [])).left.system) }
 {}
 

@@ -6,8 +6,9 @@ ghost use Rattle.atomic_table.specs.Table.{opening, step};
 ghost use Rattle.mt_machine.specs.declared.event.Event.TheVariants.{Arrive, Leave, Pass, Release, SetNoFill};
 ghost use Rattle.mt_machine.specs.declared.phase.Phase.TheVariants.{Passed};
 ghost use Rattle.mt_machine.specs.Machine.{Cancels as CancelsUpdate, Goes, Steps};
+ghost use Rattle.mt_rendezvous.specs.declared.view.Added.TheVariants.{Once};
 ghost use Rattle.mt_rendezvous.specs.declared.view.Key.{Key};
-ghost use Rattle.mt_rendezvous.specs.Station.{Meets, first_view, root_left, start_of};
+ghost use Rattle.mt_rendezvous.specs.Station.{Meets, first_view, held, root_left, start_of};
 ghost use Rattle.mt_rendezvous.specs.Plays.{GoesTo, Sat, Tells};
 ghost use Rattle.mt_rendezvous.specs.Laws.{ComesOf, Follows};
 ghost use Rattle.mt_rendezvous.specs.Calls.{opening_words};
@@ -25,12 +26,12 @@ pub fn worked_rule()
 
 /// Where a store goes to, and where it doesn't.
 pub fn worked_places()
-    ensures own_phase { GoesTo start 0 (first Passed) None 2 1 }
-    ensures other_word { GoesTo start 0 (first Passed) None 3 1 → ⊥ }
-    ensures other_code { GoesTo start 0 (first Passed) None 2 2 → ⊥ }
-    ensures word_back { GoesTo start 0 (first Passed) (Some (0x100008, 6)) 5 6 }
-    ensures other_value { GoesTo start 0 (first Passed) (Some (0x100008, 6)) 5 7 → ⊥ }
-    ensures other_place { GoesTo start 0 (first Passed) (Some (0x100008, 6)) 6 6 → ⊥ }
+    ensures own_phase { GoesTo start (held 0 (first Passed) Once) None (step 0 2 1 0 none) }
+    ensures other_word { GoesTo start (held 0 (first Passed) Once) None (step 0 3 1 0 none) → ⊥ }
+    ensures other_code { GoesTo start (held 0 (first Passed) Once) None (step 0 2 2 0 none) → ⊥ }
+    ensures word_back { GoesTo start (held 0 (first Passed) Once) (Some (0x100008, 6)) (step 0 5 6 0 none) }
+    ensures other_value { GoesTo start (held 0 (first Passed) Once) (Some (0x100008, 6)) (step 0 5 7 0 none) → ⊥ }
+    ensures other_place { GoesTo start (held 0 (first Passed) Once) (Some (0x100008, 6)) (step 0 6 6 0 none) → ⊥ }
 {}
 
 /// What doesn't follow on the words and views at the start.

@@ -48,7 +48,7 @@ fn take(core: &mut Core, goal: &RegFile) -> bool
     ensures few { IsTrue result → length core.new.system.processors ≤ 16 }
 {
     a_core_arises(core); // a fact for the proof
-    may_call(core, goal) && call_and_take(core, goal.same()).is_ok()
+    may_call(core, goal) && call_and_take(core, goal).is_ok()
 }
 
 /// What comes of an attendee.

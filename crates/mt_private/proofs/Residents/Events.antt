@@ -17,7 +17,7 @@ use Rattle.mt_rendezvous.specs.declared.view.Start.{Start}
 use Rattle.mt_rendezvous.specs.Station.{broadcast, order_of}
 use Rattle.mt_private.specs.declared.view.Resident.{Resident}
 use Rattle.mt_private.specs.Own.{Becomes, RunsAlone, WritesOn, own_system}
-use Rattle.mt_private.specs.Residents.{FitsResident, Moves, Resides, Uncalled, own_of, pages_at, uncalled_on, yard_machine}
+use Rattle.mt_private.specs.Residents.{FitsResident, Moves, Resides, Uncalled, own_of, pages_at, uncalled_on, yard_machine, scene, move_of}
 use Rattle.mt_private.proofs.Own.Owners.{runs_alone, steps_alone}
 use Rattle.mt_private.proofs.Residents.Moves.{moves, order_by_stages, processor_at}
 
@@ -31,13 +31,13 @@ step_enabled o s k e p order at is =
 step_next : (o : Order) (s : System) (k : ℕ) (e : Event) → (stepped o s).order ≡ Some o → next (stepped o s) (Steps k e) ≡ stepped o (step o.goal e k s)
 step_next o s k e order = ap (λ (x : Option Order). option_map_or (λ u. stepped u (step u.goal e k s)) x (stepped o s)) order
 
-module _ (t : Start) (all : List Resident) (go : Go) (s : System) (r : Resides t all go s) (k : ℕ) (y : Resident) (at : get_elem? all k ≡ some y) where
+module _ (t : Start) (all : List Resident) (go : Go) (s : System) (r : Resides t (scene all go s)) (k : ℕ) (y : Resident) (at : get_elem? all k ≡ some y) where
   abbrev o : Order
   o = order_of t go
 
   -- a step of the update
   pub steps : (e : Event) (w : Resident) → (yard_machine t go s).order ≡ Some (order_of t go) → due (order_of t go) s.processors y.held.cpu y.held.cpu.phase ≡ Some e → WritesOn (pages_at t k) e
-      → own_of w ≡ step t.goal e 0 (own_of y) → w.held.number ≡ k → FitsResident t go w.held → Moves t all go s k w (Some (Steps k e))
+      → own_of w ≡ step t.goal e 0 (own_of y) → w.held.number ≡ k → FitsResident t go w.held → Moves t (scene all go s) (move_of k w (Some (Steps k e)))
   steps e w order is on own number fits = record {
     system = step t.goal e k s;
     enabled = enabled;
@@ -54,7 +54,7 @@ module _ (t : Start) (all : List Resident) (go : Go) (s : System) (r : Resides t
 
   -- an access
   pub accesses : (op : Op) (w : Resident) → y.held.cpu.phase ≡ Running → FitsOp op → own_of w ≡ (access (own_of y) 0 op).after → w.held.number ≡ k → FitsResident t go w.held
-      → Moves t all go s k w (Some (Accesses k op)) × ((access s k op).answer ≡ (access (own_of y) 0 op).answer)
+      → Moves t (scene all go s) (move_of k w (Some (Accesses k op))) × ((access s k op).answer ≡ (access (own_of y) 0 op).answer)
   accesses op w runs fits_op own number fits = (
     record {
       system = (access s k op).after;
@@ -79,7 +79,7 @@ module _ (t : Start) (all : List Resident) (go : Go) (s : System) (r : Resides t
       next_is = ap (λ (x : Option Order). record { system = (access s k op).after; order = x }) (order_by_stages o s.processors (access s k op).after.processors (sym (access_stages s k op)))
 
   -- nothing happens to the machine
-  pub stays : (w : Resident) → own_of w ≡ own_of y → w.held.number ≡ k → FitsResident t go w.held → Moves t all go s k w None
+  pub stays : (w : Resident) → own_of w ≡ own_of y → w.held.number ≡ k → FitsResident t go w.held → Moves t (scene all go s) (move_of k w None)
   stays w own number fits = record {
     system = s;
     enabled = tt;

@@ -18,7 +18,7 @@ use Rattle.mt_rendezvous.proofs.Keeps.{at_cpu, set_cpus}
 use Rattle.mt_private.specs.declared.view.Resident.{Resident}
 use Rattle.mt_private.specs.Own.{AreApart, Becomes, IsOwner, own_memory, own_system, put_first}
 use Rattle.mt_private.specs.Pages.{IsPrivate, names}
-use Rattle.mt_private.specs.Residents.{FitsResident, Resides, Uncalled, held_of, own_of, pages_at, pages_left, yard_machine}
+use Rattle.mt_private.specs.Residents.{FitsResident, Resides, Uncalled, held_of, own_of, pages_at, pages_left, yard_machine, scene}
 use Rattle.mt_private.proofs.Own.Owners.{memory_after, same_system, stays_owner, two_named, words_left}
 
 -- ---- lists
@@ -86,11 +86,11 @@ module _ (o : Order) where
 
 -- ---- one resident moves
 
-module _ (t : Start) (all : List Resident) (go : Go) (s : System) (r : Resides t all go s) (k : ℕ) (y : Resident) (at : get_elem? all k ≡ some y) where
+module _ (t : Start) (all : List Resident) (go : Go) (s : System) (r : Resides t (scene all go s)) (k : ℕ) (y : Resident) (at : get_elem? all k ≡ some y) where
   pub processor_at : slice_get s.processors k ≡ Some y.held.cpu
   processor_at = ap (λ ps. slice_get ps k) r.stands.processors ∙ at_cpu (map held_of all) k y.held (held_at all k y at)
 
-  pub moves : (u o : System) (w : Resident) → Becomes (pages_at t k) k s u o → own_of w ≡ o → w.held.number ≡ k → FitsResident t go w.held → Uncalled (broadcast t) (yard_machine t go u) → Resides t (set all k w) go u
+  pub moves : (u o : System) (w : Resident) → Becomes (pages_at t k) k s u o → own_of w ≡ o → w.held.number ≡ k → FitsResident t go w.held → Uncalled (broadcast t) (yard_machine t go u) → Resides t (scene (set all k w) go u)
   moves u o w b own number fits reached = record {
     opens = r.opens;
     reached = reached;

@@ -19,25 +19,26 @@ use Rattle.mt_rendezvous.specs.declared.view.Held.{Held}
 use Rattle.mt_rendezvous.specs.declared.view.Key.{Key}
 use Rattle.mt_rendezvous.specs.declared.view.Start.{Start}
 use Rattle.mt_rendezvous.specs.declared.view.View.{View}
-use Rattle.mt_rendezvous.specs.Station.{Apart, Sits, added_of, again_of, broadcast, cpu_of, held, numbered, order_of, rise, start_of, total}
+use Rattle.mt_rendezvous.specs.Station.{Apart, Sits, added_of, again_of, broadcast, cpu_of, held, numbered, order_of, rise, start_of, total, seating}
 use Rattle.mt_rendezvous.proofs.RootSteps.{numbered_apart, numbered_at, numbered_cpus, numbered_length, numbered_none, numbered_some}
 use Rattle.mt_private.specs.declared.view.Resident.{Resident}
 use Rattle.mt_private.specs.declared.view.YardView.{YardView}
 use Rattle.mt_private.specs.Own.{IsOwner, own_memory, own_system}
 use Rattle.mt_private.specs.Pages.{names}
-use Rattle.mt_private.specs.Residents.{FitsResident, FitsYard, Opens, Resides, Uncalled, held_of, own_of, pages_at, system_of, uncalled_start, yard_machine}
+use Rattle.mt_private.specs.Residents.{FitsResident, FitsYard, Opens, Resides, Uncalled, held_of, own_of, pages_at, system_of, uncalled_start, yard_machine, scene}
 use Rattle.mt_private.specs.YardRule.{AreAt, MeetsYard, as_view, first_yard_view, residents}
+use Rattle.mt_rendezvous.specs.declared.view.Added.TheVariants.{Never}
 use Rattle.mt_private.proofs.Own.Owners.{private_owner}
 
 residents_held : (t : Start) (k : ℕ) (cs : List Processor) → map held_of (residents t k cs) ≡ numbered k cs
 residents_held t k [] = refl
-residents_held t k (c ∷ cs) = ap (λ hs. held k c false false ∷ hs) (residents_held t (k + 1) cs)
+residents_held t k (c ∷ cs) = ap (λ hs. held k c Never ∷ hs) (residents_held t (k + 1) cs)
 
 -- a resident at its place
 record IsLodged (t : Start) (cs : List Processor) (k j : ℕ) (y : Resident) : Type 0 where
   pub cpu : Processor
   pub at : slice_get cs j ≡ Some cpu
-  pub is : y ≡ record { held = held (k + j) cpu false false; ram = own_memory (pages_at t (k + j)) t.ram; done = []; stored = 0 }
+  pub is : y ≡ record { held = held (k + j) cpu Never; ram = own_memory (pages_at t (k + j)) t.ram; done = []; stored = 0 }
 
 lodged : (t : Start) (k : ℕ) (cs : List Processor) (j : ℕ) (y : Resident) → get_elem? (residents t k cs) j ≡ some y → IsLodged t cs k j y
 lodged t k [] j y e = absurd (some-ne-none y (sym e))
@@ -45,14 +46,14 @@ lodged t k (c ∷ cs) zero y e =
     let n : k ≡ k + 0 = omega arith in record {
       cpu = c;
       at = refl;
-      is = sym (some-injective _ y e) ∙ ap (λ (i : ℕ). record { held = held i c false false; ram = own_memory (pages_at t i) t.ram; done = []; stored = 0 }) n;
+      is = sym (some-injective _ y e) ∙ ap (λ (i : ℕ). record { held = held i c Never; ram = own_memory (pages_at t i) t.ram; done = []; stored = 0 }) n;
     }
 lodged t k (c ∷ cs) (suc j) y e =
     let r = lodged t (k + 1) cs j y e in
     let n : k + 1 + j ≡ k + suc j = omega arith in record {
       cpu = r.cpu;
       at = r.at;
-      is = r.is ∙ ap (λ (i : ℕ). record { held = held i r.cpu false false; ram = own_memory (pages_at t i) t.ram; done = []; stored = 0 }) n;
+      is = r.is ∙ ap (λ (i : ℕ). record { held = held i r.cpu Never; ram = own_memory (pages_at t i) t.ram; done = []; stored = 0 }) n;
     }
 
 running_is : (p : Phase) → is_running p ≡ true → p ≡ Running
@@ -73,8 +74,8 @@ module _ (t : Start) (opens : Opens t) where
   place : (k : ℕ) → 0 + k ≡ k
   place k = omega arith
 
-  its : (k : ℕ) (y : Resident) (l : Lodged k y) → y ≡ record { held = held k l.cpu false false; ram = own_memory (pages_at t k) t.ram; done = []; stored = 0 }
-  its k y l = l.is ∙ ap (λ (i : ℕ). record { held = held i l.cpu false false; ram = own_memory (pages_at t i) t.ram; done = []; stored = 0 }) (place k)
+  its : (k : ℕ) (y : Resident) (l : Lodged k y) → y ≡ record { held = held k l.cpu Never; ram = own_memory (pages_at t k) t.ram; done = []; stored = 0 }
+  its k y l = l.is ∙ ap (λ (i : ℕ). record { held = held i l.cpu Never; ram = own_memory (pages_at t i) t.ram; done = []; stored = 0 }) (place k)
 
   fits : (k : ℕ) (y : Resident) → get_elem? all k ≡ some y → FitsResident t Pending y.held × (y.held.number ≡ k)
   fits k y at =
@@ -82,7 +83,7 @@ module _ (t : Start) (opens : Opens t) where
       let runs : l.cpu.phase ≡ Running = running_is l.cpu.phase (all_get (λ p. is_running p.phase ≡ true) t.cpus opens.quiet.running k l.cpu l.at) in
       let era : l.cpu.era ≡ common_era t.cpus = all_get (λ p. p.era ≡ common_era t.cpus) t.cpus opens.quiet.one_era k l.cpu l.at in
       let up : rise false l.cpu.phase ≡ 0 = ap (rise false) runs in
-      let f : FitsResident t Pending (held k l.cpu false false) = record { fits = subst (FitsYard Pending false false) (sym runs) (inl (refl, refl)); era = omega arith } in
+      let f : FitsResident t Pending (held k l.cpu Never) = record { fits = subst (FitsYard Pending Never) (sym runs) (inl refl); era = omega arith } in
       (subst (λ (z : Resident). FitsResident t Pending z.held) (sym (its k y l)) f, ap (λ (z : Resident). z.held.number) (its k y l))
 
   owns : (k : ℕ) (y : Resident) → get_elem? all k ≡ some y → IsOwner (pages_at t k) k (system_of t)
@@ -101,7 +102,7 @@ module _ (t : Start) (opens : Opens t) where
   size : length all ≡ length t.cpus
   size = sym (length-map all held_of) ∙ ap (λ (hs : List Held). length hs) (residents_held t 0 t.cpus) ∙ numbered_length 0 t.cpus
 
-  pub resides : Resides t (residents t 0 t.cpus) Pending (system_of t)
+  pub resides : Resides t (scene (residents t 0 t.cpus) Pending (system_of t))
   resides = record {
     opens = opens;
     reached = subst (Uncalled (broadcast t)) (sym order) uncalled_start;
@@ -117,7 +118,7 @@ module _ (t : Start) (opens : Opens t) where
     fits = fits;
   }
 
-  none_counted : (f : Held → ℕ) → ((k : ℕ) (c : Processor) → f (held k c false false) ≡ 0) → total f (map held_of all) ≡ 0
+  none_counted : (f : Held → ℕ) → ((k : ℕ) (c : Processor) → f (held k c Never) ≡ 0) → total f (map held_of all) ≡ 0
   none_counted f z = ap (total f) (residents_held t 0 t.cpus) ∙ numbered_none f z 0 t.cpus
 
   numbers : (i : ℕ) (h : Held) → get_elem? (map held_of all) i ≡ some h → h.number ≡ i
@@ -125,7 +126,7 @@ module _ (t : Start) (opens : Opens t) where
       let r = numbered_at 0 t.cpus i h (subst (λ (hs : List Held). get_elem? hs i ≡ some h) (residents_held t 0 t.cpus) e) in
       ap (λ (g : Held). g.number) r.2 ∙ place i
 
-  sits_first : Sits t (map held_of all) Pending (λ _. 0) 0 (record { root = true; held = map held_of all; go = Pending; shown = None; start = t })
+  sits_first : Sits t (seating (map held_of all) Pending (λ _. 0)) 0 (record { root = true; held = map held_of all; go = Pending; shown = None; start = t })
   sits_first = record {
     root = λ _. (refl, refl);
     told = inr refl;
@@ -158,8 +159,8 @@ opened key words opens long zeros = record {
   cancels = cancels;
 }
   where
-    sits : (j : ℕ) (v : View) → get_elem? (as_view (first_yard_view key) ∷ []) j ≡ some v → Sits (start_of key) (map held_of (all (start_of key) opens)) Pending (λ _. 0) j v
-    sits zero v e = subst (Sits (start_of key) (map held_of (all (start_of key) opens)) Pending (λ _. 0) 0) (some-injective _ v e) (sits_first (start_of key) opens)
+    sits : (j : ℕ) (v : View) → get_elem? (as_view (first_yard_view key) ∷ []) j ≡ some v → Sits (start_of key) (seating (map held_of (all (start_of key) opens)) Pending (λ _. 0)) j v
+    sits zero v e = subst (Sits (start_of key) (seating (map held_of (all (start_of key) opens)) Pending (λ _. 0)) 0) (some-injective _ v e) (sits_first (start_of key) opens)
     sits (suc j) v e = absurd (some-ne-none v (sym e))
 
     same : (j : ℕ) (v : YardView) → get_elem? (first_yard_view key ∷ []) j ≡ some v → AreAt (all (start_of key) opens) v.held

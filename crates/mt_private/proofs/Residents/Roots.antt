@@ -11,10 +11,10 @@ use Rattle.mt_machine.specs.declared.op.Op.{Op}
 use Rattle.mt_machine.specs.Machine.{Cancels, Goes, MachineEvent}
 use Rattle.mt_rendezvous.specs.declared.view.Key.{Key}
 use Rattle.mt_rendezvous.specs.declared.view.Start.{Start}
-use Rattle.mt_rendezvous.specs.Station.{added_of, start_of}
+use Rattle.mt_rendezvous.specs.Station.{added_of, start_of, in_first}
 use Rattle.mt_rendezvous.proofs.Keeps.{total_small, weight_small}
 use Rattle.mt_private.specs.declared.view.YardView.{YardView}
-use Rattle.mt_private.specs.Residents.{Decides, Yard, held_of}
+use Rattle.mt_private.specs.Residents.{Decides, Yard, held_of, scene}
 use Rattle.mt_private.specs.YardRule.{MeetsYard, as_view, with_decision}
 use Rattle.mt_private.specs.YardLaws.{IsOneEvent}
 use Rattle.mt_private.specs.YardPlays.{CancelsYard, GivesYard, Made, OfSeat, IsDecided, Tells, YardSat, has_added}
@@ -32,13 +32,13 @@ module _ (key : Key) where
     was : m.go ≡ Pending
     was = sym ((m.sits id (as_view v) (mapped_at as_view s.views id v at)).root root).1 ∙ unsaid
 
-    yard : Yard t m.all Pending (slice_index s.words 0) (slice_index s.words 1) m.system
-    yard = subst (λ (g : Go). Yard t m.all g (slice_index s.words 0) (slice_index s.words 1) m.system) was m.yard
+    yard : Yard t (scene m.all Pending m.system) (slice_index s.words 0) (slice_index s.words 1)
+    yard = subst (λ (g : Go). Yard t (scene m.all g m.system) (slice_index s.words 0) (slice_index s.words 1)) was m.yard
 
     low : get_or s.words 0 0 < 65536
     low =
         let a = yard.first_count in
-        let b = total_small added_of (λ g. weight_small g.added) (map held_of m.all) in
+        let b = total_small added_of (λ g. weight_small (in_first g.added)) (map held_of m.all) in
         let c = length-map m.all held_of in
         let d = m.yard.resides.size in
         let e = m.yard.resides.opens.few in
@@ -58,24 +58,24 @@ module _ (key : Key) where
         told (inr x) = x
 
     -- a decision, and what it tells
-    pub said : (n : ℕ) (go : Go) (e : MachineEvent) → Decides t m.all go n (slice_index s.words 1) m.system e
+    pub said : (n : ℕ) (go : Go) (e : MachineEvent) → Decides t (scene m.all go m.system) n (slice_index s.words 1) e
         → IsOneEvent key s (record { words = set s.words 0 n; homes = s.homes; views = set s.views id (with_decision v go) }) m (Some e) × IsDecided v.start n e go
     said n go e d = (
       says key s m id n v go e at root some_word (second_stays n) was d,
       subst (λ (x : Start). IsDecided x n e go) (sym started) (record { all = m.all; second = slice_index s.words 1; system = m.system; decides = d }),
     )
 
-    pub giving : Decides t m.all Given ((get_or s.words 0 0 + 1) % 18446744073709551616) (slice_index s.words 1) m.system Goes
+    pub giving : Decides t (scene m.all Given m.system) ((get_or s.words 0 0 + 1) % 18446744073709551616) (slice_index s.words 1) Goes
     giving =
         let l = low in
         let same : get_or s.words 0 0 + 1 ≡ (get_or s.words 0 0 + 1) % 18446744073709551616 = omega arith in
-        subst (λ (n : ℕ). Decides t m.all Given n (slice_index s.words 1) m.system Goes) same (gives t m.all (slice_index s.words 0) (slice_index s.words 1) m.system yard)
+        subst (λ (n : ℕ). Decides t (scene m.all Given m.system) n (slice_index s.words 1) Goes) same (gives t m.all (slice_index s.words 0) (slice_index s.words 1) m.system yard)
 
-    pub cancelling : Decides t m.all Cancelled ((get_or s.words 0 0 + 4294967296) % 18446744073709551616) (slice_index s.words 1) m.system Cancels
+    pub cancelling : Decides t (scene m.all Cancelled m.system) ((get_or s.words 0 0 + 4294967296) % 18446744073709551616) (slice_index s.words 1) Cancels
     cancelling =
         let l = low in
         let same : get_or s.words 0 0 + 4294967296 ≡ (get_or s.words 0 0 + 4294967296) % 18446744073709551616 = omega arith in
-        subst (λ (n : ℕ). Decides t m.all Cancelled n (slice_index s.words 1) m.system Cancels) same (cancels t m.all (slice_index s.words 0) (slice_index s.words 1) m.system yard)
+        subst (λ (n : ℕ). Decides t (scene m.all Cancelled m.system) n (slice_index s.words 1) Cancels) same (cancels t m.all (slice_index s.words 0) (slice_index s.words 1) m.system yard)
 
   -- what is so of the host's seat
   of_host : (me : Me Op YardView) → me.0.root ≡ true → (P : Bool → Type 0) → P true → P me.0.root

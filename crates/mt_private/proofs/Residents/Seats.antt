@@ -20,7 +20,7 @@ use Rattle.mt_rendezvous.proofs.Keeps.{AllSit, kept_present, moves_present, seat
 use Rattle.mt_rendezvous.proofs.RootSteps.{join_present, owned, seats_decided, seats_joined, seats_split, split_present}
 use Rattle.mt_private.specs.declared.view.Resident.{Resident}
 use Rattle.mt_private.specs.declared.view.YardView.{YardView}
-use Rattle.mt_private.specs.Residents.{Decides, Follows, Yard, held_of, yard_machine}
+use Rattle.mt_private.specs.Residents.{Decides, Follows, Yard, held_of, yard_machine, scene, move_of}
 use Rattle.mt_private.specs.YardLaws.{IsOneEvent, Stores}
 use Rattle.mt_private.specs.YardRule.{AreAt, HoldsStored, MeetsYard, as_view, one_of, rest_of, with_one, with_decision, yard_both, yard_left, yard_right, yard_spent}
 
@@ -106,7 +106,7 @@ module _ (key : Key) (s : State Op YardView) (m : MeetsYard key s) where
     mine = ((m.sits id (as_view v) at_view).holds 0 y.held (subst (λ (l : List Held). get_elem? l 0 ≡ some y.held) (sym held_is) refl)).1
 
     pub placed : (i n : ℕ) (w : Resident) (shown : Option ℕ) (cancel : Bool) (e : Option MachineEvent) → w.held.number ≡ y.held.number → Stores y i n w → (cancel ≡ true → m.go ≡ Cancelled)
-        → Follows t m.all m.go m.system y.held.number w e (slice_index (set s.words i n) 0) (slice_index (set s.words i n) 1)
+        → Follows t (scene m.all m.go m.system) (move_of y.held.number w e) (slice_index (set s.words i n) 0) (slice_index (set s.words i n) 1)
         → IsOneEvent key s (record { words = set s.words i n; homes = s.homes; views = set s.views id (with_one v w shown cancel) }) m e
     placed i n w shown cancel e number stores told f = record {
       kept = record {
@@ -154,14 +154,14 @@ module _ (key : Key) (s : State Op YardView) (m : MeetsYard key s) where
 
   -- it says so: the first count is n then
   pub says : (id n : ℕ) (v : YardView) (go : Go) (e : MachineEvent) → get_elem? s.views id ≡ some v → v.root ≡ true → 0 < length s.words → slice_index (set s.words 0 n) 1 ≡ slice_index s.words 1
-      → m.go ≡ Pending → Decides t m.all go n (slice_index s.words 1) m.system e → IsOneEvent key s (record { words = set s.words 0 n; homes = s.homes; views = set s.views id (with_decision v go) }) m (Some e)
+      → m.go ≡ Pending → Decides t (scene m.all go m.system) n (slice_index s.words 1) e → IsOneEvent key s (record { words = set s.words 0 n; homes = s.homes; views = set s.views id (with_decision v go) }) m (Some e)
   says id n v go e at root some_word stays was d = record {
     kept = record {
       all = m.all;
       go = go;
       owner = m.owner;
       system = m.system;
-      yard = subst (λ (x : ℕ × ℕ). Yard t m.all go x.0 x.1 m.system) (λ i. (sym (get_or-set_same s.words 0 n 0 some_word) i, sym stays i)) d.kept;
+      yard = subst (λ (x : ℕ × ℕ). Yard t (scene m.all go m.system) x.0 x.1) (λ i. (sym (get_or-set_same s.words 0 n 0 some_word) i, sym stays i)) d.kept;
       wide = length-set s.words 0 n ∙ m.wide;
       stored = λ k y e. get_or-set_other s.words 0 (k + 2) n 0 (λ (q : k + 2 ≡ 0). omega arith) ∙ m.stored k y e;
       present = λ k b. subst (λ (vs : List View). IsHeld vs k) (sym views_are) (kept_present views id (as_view v) (with_go (as_view v) go) at_view (λ i h e. (i, h, e, refl)) k (m.present k b));

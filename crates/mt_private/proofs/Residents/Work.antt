@@ -28,18 +28,19 @@ use Rattle.mt_laws.proofs.Words.LineLists.{Apart, found_passes}
 use Rattle.mt_laws.proofs.Words.StepLaws.{back_drains, due_drains, is_drain}
 use Rattle.mt_rendezvous.specs.declared.view.Held.{Held}
 use Rattle.mt_rendezvous.specs.declared.view.Start.{Start}
-use Rattle.mt_rendezvous.specs.Station.{added_of, held, order_of, rise, total, weight}
+use Rattle.mt_rendezvous.specs.Station.{added_of, held, order_of, rise, total, weight, in_first, in_second}
 use Rattle.mt_rendezvous.proofs.Local.{changing_fits, changing_under_way, fits_changing, local_changing, takes_not, works_in}
 use Rattle.mt_rendezvous.proofs.Steps.{shows}
 use Rattle.mt_private.specs.declared.view.Resident.{Resident}
 use Rattle.mt_private.specs.Own.{Becomes, WritesOn, own_memory}
 use Rattle.mt_private.specs.OneByOne.{at_rest}
-use Rattle.mt_private.specs.Residents.{FitsResident, FitsYard, Follows, Yard, accessed_by, held_of, in_system, own_of, pages_at, stepped_by, system_of, with_stored, yard_machine}
+use Rattle.mt_private.specs.Residents.{FitsResident, FitsYard, Follows, Yard, accessed_by, held_of, in_system, own_of, pages_at, stepped_by, system_of, with_stored, yard_machine, scene, move_of}
 use Rattle.mt_private.proofs.Own.Buses.{in_pages}
 use Rattle.mt_private.proofs.Own.Owners.{runs_alone, steps_alone, within_of}
 use Rattle.mt_private.proofs.Residents.Events.{accesses, steps}
 use Rattle.mt_private.proofs.Residents.Moves.{processor_at}
 use Rattle.mt_private.proofs.Residents.Paths.{uncalled_reached}
+use Rattle.mt_rendezvous.specs.declared.view.Added.TheVariants.{Never, Once}
 use Rattle.mt_private.proofs.Residents.Barriers.{counted, few, few_added, not_taken, number, on_its_way, on_way, own_fits, same_era, under_way}
 
 -- ---- a resident with what its own system became
@@ -54,7 +55,7 @@ module _ (y : Resident) (pages : ℕ → Bool) (k : ℕ) (s u o : System) (b : B
   pub cpu_in : (in_system y o).held.cpu ≡ b.owner.processor
   cpu_in = ap (λ (v : System). (in_system y v).held.cpu) own_is
 
-  pub held_in : (in_system y o).held ≡ held y.held.number b.owner.processor y.held.added y.held.again
+  pub held_in : (in_system y o).held ≡ held y.held.number b.owner.processor y.held.added
   held_in = ap (λ (v : System). (in_system y v).held) own_is
 
 -- the processor at a place where phases and eras are the same
@@ -83,7 +84,7 @@ on_pages pages p o ps (WriteBack a v) apart all is =
     ap pages same ∙ found_passes (in_pages pages) d.line.number p.lines d.line all d.found
 on_pages pages p o ps e apart all is = tt
 
-module _ (t : Start) (all : List Resident) (go : Go) (first second : ℕ) (s : System) (r : Yard t all go first second s) (k : ℕ) (y : Resident) (at : get_elem? all k ≡ some y) where
+module _ (t : Start) (all : List Resident) (go : Go) (first second : ℕ) (s : System) (r : Yard t (scene all go s) first second) (k : ℕ) (y : Resident) (at : get_elem? all k ≡ some y) where
   -- what an event does alone, by the resident's own system
   alone : (e : Event) → WritesOn (pages_at t k) e → Becomes (pages_at t k) k s (step t.goal e k s) (step t.goal e 0 (own_of y))
   alone e on =
@@ -91,21 +92,22 @@ module _ (t : Start) (all : List Resident) (go : Go) (first second : ℕ) (s : S
       (steps_alone (pages_at t k) k s r.resides.stands.memory (r.resides.stands.owns k y at) t.goal e on)
 
   -- a load of the first count that shows no cancel, by a processor that hasn't taken
-  pub takes : y.held.added ≡ false → y.held.again ≡ false → y.held.cpu.phase ≡ Running → first < 4294967296 → Follows t all go s k (stepped_by t Take y) (Some (Steps k Take)) first second
-  takes out out_again runs low =
+  pub takes : y.held.added ≡ Never → y.held.cpu.phase ≡ Running → first < 4294967296 → Follows t (scene all go s) (move_of k (stepped_by t Take y) (Some (Steps k Take))) first second
+  takes out runs low =
+      let out_again : in_second y.held.added ≡ false = ap in_second out in
       let n = few t all go first second s r in
       let z = few_added t all go first second s r in
       let f = own_fits t all go first second s r k y at in
-      let up : rise y.held.again y.held.cpu.phase ≡ 0 = (λ i. rise (out_again i) (runs i)) in
+      let up : rise (in_second y.held.added) y.held.cpu.phase ≡ 0 = (λ i. rise (out_again i) (runs i)) in
       let old = f.era in
       let era : y.held.cpu.era ≡ common_era t.cpus = omega arith in
       let b = alone Take tt in
       let d = stage_there s (drain k s) k y.held.cpu (drain_stages k s) (processor_at t all go s r.resides k y at) in
       let q : b.owner.processor ≡ own_step t.goal Take d.0 = same_some b.owner.processor (own_step t.goal Take d.0) (sym b.owner.at ∙ changed_at (own_step t.goal Take) k (drain k s) d.0 d.1) in
-      let same : (in_system y (step t.goal Take 0 (own_of y))).held ≡ held y.held.number (own_step t.goal Take d.0) y.held.added y.held.again = held_in y (pages_at t k) k s _ _ b ∙ ap (λ (p : Processor). held y.held.number p y.held.added y.held.again) q in
+      let same : (in_system y (step t.goal Take 0 (own_of y))).held ≡ held y.held.number (own_step t.goal Take d.0) y.held.added = held_in y (pages_at t k) k s _ _ b ∙ ap (λ (p : Processor). held y.held.number p y.held.added) q in
       let later : d.0.era ≡ common_era t.cpus = ap (λ (x : Stage). x.1) d.2 ∙ era in
-      let fits : FitsResident t go (held y.held.number (own_step t.goal Take d.0) y.held.added y.held.again) =
-      on_its_way t go (held y.held.number (own_step t.goal Take d.0) y.held.added y.held.again) later tt (out_again, λ on. absurd (cc)) in
+      let fits : FitsResident t go (held y.held.number (own_step t.goal Take d.0) y.held.added) =
+      on_its_way t go (held y.held.number (own_step t.goal Take d.0) y.held.added) later tt (inl out) in
       ⊎_elim
       (λ (c : (go ≡ Cancelled) × (4294967296 ≤ first)). absurd (let high = c.1 in omega arith))
       (λ (c : (go ≢ Cancelled) × (first < 4294967296)).
@@ -113,7 +115,7 @@ module _ (t : Start) (all : List Resident) (go : Go) (first second : ℕ) (s : S
       (steps t all go s r.resides k y at Take (stepped_by t Take y) (not_taken t all go first second s r k y at c.0 era)
       (ap (due (order_of t go) s.processors y.held.cpu) runs ∙ due_take c.0 era) tt (own_in y (pages_at t k) k s _ _ b)
       (ap (λ (h : Held). h.number) same ∙ number t all go first second s r k y at) (subst (FitsResident t go) (sym same) fits))
-      (ap (λ (h : Held). first + weight h.added) (sym same)) (ap (λ (h : Held). second + weight h.again) (sym same)))
+      (ap (λ (h : Held). first + weight (in_first h.added)) (sym same)) (ap (λ (h : Held). second + weight (in_second h.added)) (sym same)))
       (shows go (total added_of (map held_of all)) first r.first_count (omega arith))
     where
       due_take : go ≢ Cancelled → y.held.cpu.era ≡ common_era t.cpus → due (order_of t go) s.processors y.held.cpu Running ≡ Some Take
@@ -134,47 +136,47 @@ module _ (t : Start) (all : List Resident) (go : Go) (first second : ℕ) (s : S
   lines_apart = apart_of_pairs y.held.cpu.lines (all_get IsProcessor s.processors sound.each k y.held.cpu (processor_at t all go s r.resides k y at)).distinct_lines
 
   -- a store of the own event word that is the event due between the barriers
-  pub works : y.held.added ≡ true → y.held.again ≡ false → is_local y.held.cpu.phase ≡ true → (e : Event) → ((o : Order) (ps : List Processor) → due o ps y.held.cpu y.held.cpu.phase ≡ Some e) → (n : ℕ)
-      → Follows t all go s k (with_stored (stepped_by t e y) n) (Some (Steps k e)) first second
-  works on out_again here e is n =
+  pub works : y.held.added ≡ Once → is_local y.held.cpu.phase ≡ true → (e : Event) → ((o : Order) (ps : List Processor) → due o ps y.held.cpu y.held.cpu.phase ≡ Some e) → (n : ℕ)
+      → Follows t (scene all go s) (move_of k (with_stored (stepped_by t e y) n) (Some (Steps k e))) first second
+  works on here e is n =
       let apart = lines_apart in
       let o : Order = order_of t go in
       let changing = local_changing y.held.cpu.phase here in
       let u = changing_under_way y.held.cpu.phase changing in
       let f = own_fits t all go first second s r k y at in
-      let old = changing_fits go y.held.added y.held.again y.held.cpu.phase changing (on_way go y.held.added y.held.again y.held.cpu.phase u f.fits) in
+      let old = changing_fits go y.held.added y.held.cpu.phase changing (on_way go y.held.added y.held.cpu.phase u f.fits) in
       let w = works_in t.goal y.held.cpu e y.held.cpu.phase refl here is o in
       let not_take = takes_not y.held.cpu e y.held.cpu.phase here is o in
       let owner = r.resides.stands.owns k y at in
       let mine : owner.processor ≡ y.held.cpu = same_some owner.processor y.held.cpu (sym owner.at ∙ processor_at t all go s r.resides k y at) in
       let writes = on_pages (pages_at t k) y.held.cpu o s.processors e apart (subst (λ (p : Processor). list_all (in_pages (pages_at t k)) p.lines ≡ true) mine (within_of (pages_at t k) owner.processor owner.own).cached) (is o s.processors) in
       let b = alone e writes in
-      let same : (in_system y (step t.goal e 0 (own_of y))).held ≡ held y.held.number (own_step t.goal e y.held.cpu) y.held.added y.held.again = stepped_held e not_take in
-      let fits : FitsResident t go (held y.held.number (own_step t.goal e y.held.cpu) y.held.added y.held.again) =
-      on_its_way t go (held y.held.number (own_step t.goal e y.held.cpu) y.held.added y.held.again) (w.1 ∙ same_era t go y.held f u)
-      (changing_under_way (own_step t.goal e y.held.cpu).phase w.0) (fits_changing go y.held.added y.held.again (own_step t.goal e y.held.cpu).phase w.0 old.0 old.1 old.2) in
+      let same : (in_system y (step t.goal e 0 (own_of y))).held ≡ held y.held.number (own_step t.goal e y.held.cpu) y.held.added = stepped_held e not_take in
+      let fits : FitsResident t go (held y.held.number (own_step t.goal e y.held.cpu) y.held.added) =
+      on_its_way t go (held y.held.number (own_step t.goal e y.held.cpu) y.held.added) (w.1 ∙ same_era t go y.held f u)
+      (changing_under_way (own_step t.goal e y.held.cpu).phase w.0) (fits_changing go y.held.added (own_step t.goal e y.held.cpu).phase w.0 old.0 old.1) in
       counted t all go first second s r k y at (with_stored (stepped_by t e y) n) (Some (Steps k e)) first second
       (steps t all go s r.resides k y at e (with_stored (stepped_by t e y) n) (under_way t all go first second s r k y at u) (is o s.processors) writes (own_in y (pages_at t k) k s _ _ b)
       (ap (λ (h : Held). h.number) same ∙ number t all go first second s r k y at) (subst (FitsResident t go) (sym same) fits))
-      (ap (λ (h : Held). first + weight h.added) (sym same)) (ap (λ (h : Held). second + weight h.again) (sym same))
+      (ap (λ (h : Held). first + weight (in_first h.added)) (sym same)) (ap (λ (h : Held). second + weight (in_second h.added)) (sym same))
     where
-      stepped_held : (e : Event) → e ≢ Take → (in_system y (step t.goal e 0 (own_of y))).held ≡ held y.held.number (own_step t.goal e y.held.cpu) y.held.added y.held.again
+      stepped_held : (e : Event) → e ≢ Take → (in_system y (step t.goal e 0 (own_of y))).held ≡ held y.held.number (own_step t.goal e y.held.cpu) y.held.added
       stepped_held Take other = absurd (other refl)
       stepped_held (WriteBack a v) other = refl
       stepped_held e other = refl
 
   -- a store of the own event word that is an access
-  pub accessed : (op : Op) → y.held.cpu.phase ≡ Running → FitsOp op → (n : ℕ) → Follows t all go s k (with_stored (accessed_by op y) n) (Some (Accesses k op)) first second × ((access s k op).answer ≡ (access (own_of y) 0 op).answer)
+  pub accessed : (op : Op) → y.held.cpu.phase ≡ Running → FitsOp op → (n : ℕ) → Follows t (scene all go s) (move_of k (with_stored (accessed_by op y) n) (Some (Accesses k op))) first second × ((access s k op).answer ≡ (access (own_of y) 0 op).answer)
   accessed op runs fits_op n =
       let b : Becomes (pages_at t k) k s (access s k op).after (access (own_of y) 0 op).after =
       subst (λ (v : System). Becomes (pages_at t k) k s (access s k op).after (access v 0 op).after) (r.resides.stands.own k y at) (runs_alone (pages_at t k) k s r.resides.stands.memory (r.resides.stands.owns k y at) (op ∷ [])).after in
       let d = stage_there s (access s k op).after k y.held.cpu (access_stages s k op) (processor_at t all go s r.resides k y at) in
       let q : b.owner.processor ≡ d.0 = same_some b.owner.processor d.0 (sym b.owner.at ∙ d.1) in
-      let same : (in_system y (access (own_of y) 0 op).after).held ≡ held y.held.number d.0 y.held.added y.held.again = held_in y (pages_at t k) k s _ _ b ∙ ap (λ (p : Processor). held y.held.number p y.held.added y.held.again) q in
+      let same : (in_system y (access (own_of y) 0 op).after).held ≡ held y.held.number d.0 y.held.added = held_in y (pages_at t k) k s _ _ b ∙ ap (λ (p : Processor). held y.held.number p y.held.added) q in
       let f = own_fits t all go first second s r k y at in
-      let fits : FitsResident t go (held y.held.number d.0 y.held.added y.held.again) = record {
-        fits = subst (λ (ph : Phase). FitsYard go y.held.added y.held.again ph) (sym (ap (λ (x : Stage). x.0) d.2)) f.fits;
-        era = ap (λ (x : Stage). x.1) d.2 ∙ f.era ∙ ap (λ (x : Stage). common_era t.cpus + rise y.held.again x.0) (sym d.2);
+      let fits : FitsResident t go (held y.held.number d.0 y.held.added) = record {
+        fits = subst (λ (ph : Phase). FitsYard go y.held.added ph) (sym (ap (λ (x : Stage). x.0) d.2)) f.fits;
+        era = ap (λ (x : Stage). x.1) d.2 ∙ f.era ∙ ap (λ (x : Stage). common_era t.cpus + rise (in_second y.held.added) x.0) (sym d.2);
       } in
       let a = accesses t all go s r.resides k y at op (with_stored (accessed_by op y) n) runs fits_op (own_in y (pages_at t k) k s _ _ b) (ap (λ (h : Held). h.number) same ∙ number t all go first second s r k y at) (subst (FitsResident t go) (sym same) fits) in
-      (counted t all go first second s r k y at (with_stored (accessed_by op y) n) (Some (Accesses k op)) first second a.0 (ap (λ (h : Held). first + weight h.added) (sym same)) (ap (λ (h : Held). second + weight h.again) (sym same)), a.1)
+      (counted t all go first second s r k y at (with_stored (accessed_by op y) n) (Some (Accesses k op)) first second a.0 (ap (λ (h : Held). first + weight (in_first h.added)) (sym same)) (ap (λ (h : Held). second + weight (in_second h.added)) (sym same)), a.1)

@@ -6,8 +6,8 @@ ghost use Rattle.mt_private.specs.InYard.{HasCancelledIn, HasComeIn, HoldsAsBefo
 
 use super::visits::visit_with;
 use crate::caller::Caller;
+use crate::gathering::{Gathering, job_of};
 use crate::host::Host;
-use crate::session::{Session, job_of};
 use crate::visitor::Visitor;
 use mt_ports::Gate;
 use mt_rendezvous::{OfProcessor, Refusal, Started};
@@ -18,14 +18,14 @@ use std::thread::{Promise, Scope};
 // What the thread of a visitor promises: it comes back, and its visit has ended. Only this file can make one.
 #[derive(Drop)]
 pub(crate) struct ComesBack {
-    session: Snapshot<Session>,
+    gathering: Snapshot<Gathering>,
     number: u64,
 }
 
 impl Promise<Visitor> for ComesBack {
     ghost use Rattle.mt_private.specs.InYard.{HasComeIn};
 
-    ghost kept_by = { λ p v. HasComeIn p.session.value p.number v };
+    ghost kept_by = { λ p v. HasComeIn p.gathering.value p.number v };
 }
 
 impl OfProcessor for ComesBack {
@@ -37,29 +37,29 @@ impl OfProcessor for ComesBack {
 pub(crate) fn come_here<R: Wait, G: Gate>(
     _refusal: &Refusal,
     caller: &Caller<R, G>,
-    session: &Session,
+    gathering: &Gathering,
     _host: &Host,
     visitor: &mut Visitor,
 )
-    requires cancelled { HasCancelledIn session.now.yard _host.now }
-    requires new { IsNewIn session.now visitor.old.pass.number visitor.old }
-    ensures { HasComeIn session.now visitor.old.pass.number visitor.new }
+    requires cancelled { HasCancelledIn gathering.now.yard _host.now }
+    requires new { IsNewIn gathering.now visitor.old.pass.number visitor.old }
+    ensures { HasComeIn gathering.now visitor.old.pass.number visitor.new }
 {
-    come(caller, session, visitor);
+    come(caller, gathering, visitor);
 }
 
 // The whole visit, on the thread that calls it.
-fn come<R: Wait, G: Gate>(caller: &Caller<R, G>, session: &Session, visitor: &mut Visitor)
-    requires new { IsNewIn session.now visitor.old.pass.number visitor.old }
-    ensures { HasComeIn session.now visitor.old.pass.number visitor.new }
+fn come<R: Wait, G: Gate>(caller: &Caller<R, G>, gathering: &Gathering, visitor: &mut Visitor)
+    requires new { IsNewIn gathering.now visitor.old.pass.number visitor.old }
+    ensures { HasComeIn gathering.now visitor.old.pass.number visitor.new }
 {
-    let job = job_of(session, visitor.pass.number as usize);
+    let job = job_of(gathering, visitor.pass.number as usize);
     visitor.visited = visit_with(
         caller,
-        &session.yard,
+        &gathering.yard,
         &mut visitor.pass,
         &mut visitor.core,
-        &session.goal,
+        &gathering.goal,
         job,
         &mut visitor.told,
     );
@@ -70,20 +70,20 @@ fn come<R: Wait, G: Gate>(caller: &Caller<R, G>, session: &Session, visitor: &mu
 pub(crate) fn start<'s, E, R: Wait + Sync, G: Gate>(
     caller: &'s Caller<R, G>,
     scope: &Scope<'s, E>,
-    session: &'s Session,
+    gathering: &'s Gathering,
     host: &mut Host,
     visitor: Visitor,
 ) -> Result<Started<Visitor, ComesBack, G>, (Visitor, Refusal)>
-    requires hosts { HostsIn session.now.yard host.old Pending }
-    requires new { IsNewIn session.now visitor.pass.number visitor }
+    requires hosts { HostsIn gathering.now.yard host.old Pending }
+    requires new { IsNewIn gathering.now visitor.pass.number visitor }
     ensures same { HoldsAsBefore host.old host.new }
-    ensures pending { IfOk result (λ s. HostsIn session.now.yard host.new Pending) }
-    ensures child { IfOk result (λ s. (s.promise.value.session.value ≡ session.now) × (s.promise.value.number ≡ visitor.pass.number)) }
-    ensures cancelled { IfErr result (λ e. HostsIn session.now.yard host.new Cancelled) }
-    ensures come { IfErr result (λ e. HasComeIn session.now visitor.pass.number e.0) }
+    ensures pending { IfOk result (λ s. HostsIn gathering.now.yard host.new Pending) }
+    ensures child { IfOk result (λ s. (s.promise.value.gathering.value ≡ gathering.now) × (s.promise.value.number ≡ visitor.pass.number)) }
+    ensures cancelled { IfErr result (λ e. HostsIn gathering.now.yard host.new Cancelled) }
+    ensures come { IfErr result (λ e. HasComeIn gathering.now visitor.pass.number e.0) }
 {
     let promise = ComesBack {
-        session: Snapshot::of(session),
+        gathering: Snapshot::of(gathering),
         number: visitor.pass.number,
     };
     match caller.crew.start(
@@ -92,18 +92,18 @@ pub(crate) fn start<'s, E, R: Wait + Sync, G: Gate>(
         promise,
         move || -> Visitor
             requires shared { IsSync R.row }
-            requires new { IsNewIn session.now visitor.pass.number visitor }
-            ensures { HasComeIn session.entry.now visitor.pass.number result }
+            requires new { IsNewIn gathering.now visitor.pass.number visitor }
+            ensures { HasComeIn gathering.entry.now visitor.pass.number result }
         {
             let mut visitor = visitor;
-            come(caller, session, &mut visitor);
+            come(caller, gathering, &mut visitor);
             visitor
         },
     ) {
         Ok(child) => Ok(child),
         Err(unstarted) => {
-            host.cancel(&session.yard);
-            Err(unstarted.done_here(&session.yard, host))
+            host.cancel(&gathering.yard);
+            Err(unstarted.done_here(&gathering.yard, host))
         }
     }
 }

@@ -1,26 +1,73 @@
 // The whole visit of a guest: its accesses, and the update between them. Its calls wait, and only `caller.rt` and the
 // files below it can call the two waits.
-ghost use Rattle.std.specs.Prelude.{◌≡◌, [], ◌∷◌, false};
+ghost use Rattle.std.specs.Prelude.{◌≡◌, ◌≤◌, ◌++◌, [], ◌∷◌, length, vec_capacity};
+ghost use Rattle.std.specs.List.{All};
+ghost use Rattle.mt_machine.specs.Access.{access};
+ghost use Rattle.mt_machine.specs.Machine.{FitsOp};
 ghost use Rattle.mt_machine.specs.declared.phase.Phase.TheVariants.{Running};
 ghost use Rattle.mt_machine.specs.Update.{updated};
+ghost use Rattle.mt_rendezvous.specs.declared.view.Added.TheVariants.{Never};
 ghost use Rattle.mt_private.specs.declared.job.Part.{Part as JobPart};
 ghost use Rattle.mt_private.specs.declared.job.Part.TheVariants.{After};
 ghost use Rattle.mt_private.specs.InYard.{HasLeft, HasNotTaken, IsReleased, LodgesIn, VisitEndsIn, done_of, goal_at};
 ghost use Rattle.mt_private.specs.Jobs.{FitsJob, IsOpen};
-ghost use Rattle.mt_private.specs.OneByOne.{at_rest};
+ghost use Rattle.mt_private.specs.OneByOne.{at_rest, ran};
 ghost use Rattle.mt_private.specs.YardCalls.{AreIn};
 
 use crate::caller::Caller;
 use crate::host::Yard;
-use crate::job::{Job, Told};
+use crate::job::{Job, Told, op_at};
+use crate::view::YardTurn;
 use crate::visiting::{Guest, Visited, YardPass};
 use mt_bus::System;
 use mt_core::Core;
+use mt_machine::{Done, Op};
 use mt_ports::Gate;
 use mt_regs::RegFile;
 use std::sync::Wait;
 
 impl YardPass {
+    ghost use Rattle.mt_private.specs.InYard.{IsOutside};
+
+    // Exchanges the own event word, which holds what was stored last. That announces the access and is that event. Does
+    // the access.
+    fn access(&mut self, yard: &Yard, core: &mut Core, op: Op) -> Done
+        requires outside { IsOutside yard.now self.old core.old }
+        requires fits { FitsOp op }
+        ensures not_taken { HasNotTaken yard.now self.old core.old → HasNotTaken yard.now self.new core.new }
+        ensures released { IsReleased yard.now self.old core.old → IsReleased yard.now self.new core.new }
+        ensures done { done_of self.new ≡ done_of self.old ++ op ∷ [] }
+        ensures number { self.new.number ≡ self.old.number }
+        ensures answer { result ≡ (access core.old.system 0 op).answer }
+        ensures after { core.new ≡ record core.old { system = (access core.old.system 0 op).after } }
+    {
+        let word = self.number as usize + 2;
+        let next = self.stored.wrapping_add(1);
+        yard.table
+            .shared
+            .compare_exchange_with::<YardTurn>(&mut self.seat, word, self.stored, next, &op);
+        self.stored = next;
+        core.access(0, op)
+    }
+
+    // Does these accesses, in order. Only this file can call it, so a processor of a yard accesses memory in a whole visit alone.
+    fn access_all(&mut self, yard: &Yard, core: &mut Core, ops: &[Op], told: &mut Vec<Done>)
+        requires outside { IsOutside yard.now self.old core.old }
+        requires fits { All FitsOp ops.now }
+        requires empty { told.old.items ≡ [] }
+        requires room { length ops.now ≤ vec_capacity told.old }
+        ensures not_taken { HasNotTaken yard.now self.old core.old → HasNotTaken yard.now self.new core.new }
+        ensures released { IsReleased yard.now self.old core.old → IsReleased yard.now self.new core.new }
+        ensures done { done_of self.new ≡ done_of self.old ++ ops.now }
+        ensures number { self.new.number ≡ self.old.number }
+        ensures after { core.new ≡ record core.old { system = (ran 0 ops.now core.old.system).after } }
+        ensures answers { told.new.items ≡ (ran 0 ops.now core.old.system).answers }
+    {
+        for i in 0..ops.len() {
+            told.push_reserved(self.access(yard, core, op_at(ops, i)));
+        }
+    }
+
     // Takes the processor through the update, once its accesses before it are done.
     fn go_through<R: Wait, G: Gate>(
         &mut self,
@@ -73,7 +120,7 @@ pub(super) fn visit_with<R: Wait, G: Gate>(
     requires goal { goal.now ≡ goal_at yard.now }
     requires addresses { FitsJob job.now }
     requires open { (part : JobPart) → IsOpen part job.now told.old }
-    ensures ends { VisitEndsIn result yard.now goal.now job.now pass.old core.old.system pass.new core.new.system told.new }
+    ensures ends { VisitEndsIn result yard.now pass.new (record { job = job.now; first = core.old.system; last = core.new.system; told = told.new }) }
     ensures runs { AreIn Running core.new.system }
     ensures has_room { result ≡ Visited.Cancelled → IsOpen After job.now told.new }
     ensures number { pass.new.number ≡ pass.old.number }
@@ -103,13 +150,13 @@ pub fn visit<R: Wait, G: Gate>(
     told: &mut Told,
     gate: &G,
 ) -> (Guest, Visited)
-    requires lodges { LodgesIn yard.now guest.pass guest.own false false }
+    requires lodges { LodgesIn yard.now guest.pass guest.own Never }
     requires runs { AreIn Running guest.own }
     requires new { done_of guest.pass ≡ [] }
     requires goal { goal.now ≡ goal_at yard.now }
     requires addresses { FitsJob job.now }
     requires open { (part : JobPart) → IsOpen part job.now told.old }
-    ensures ends { VisitEndsIn result.1 yard.now goal.now job.now guest.pass guest.own result.0.pass result.0.own told.new }
+    ensures ends { VisitEndsIn result.1 yard.now result.0.pass (record { job = job.now; first = guest.own; last = result.0.own; told = told.new }) }
     ensures number { result.0.pass.number ≡ guest.pass.number }
 {
     let Guest { own, mut pass } = guest;

@@ -23,7 +23,7 @@ impl Pass {
         requires taken { IsTaken station.now self.old cpu.old }
         requires goal { goal.now ≡ goal_at station.now }
         requires windows { ram.now.windows ≡ windows_at station.now }
-        ensures attended { AttendedIn result station.now self.old cpu.old self.new cpu.new }
+        ensures attended { AttendedIn result station.now self.new cpu.old cpu.new }
         ensures number { self.new.number ≡ self.old.number }
         ensures unshown { result ≡ Outcome.Cancelled → self.new.shown ≡ self.old.shown }
         ensures shown { result ≡ Outcome.Complete → self.new.shown ≡ Some (length (start_at station.now).cpus) }
@@ -51,7 +51,7 @@ pub fn attend<R: Wait, G: Gate>(
     requires taken { IsTaken station.now a.pass a.cpu }
     requires goal { goal.now ≡ goal_at station.now }
     requires windows { ram.now.windows ≡ windows_at station.now }
-    ensures attended { AttendedIn result.1 station.now a.pass a.cpu result.0.pass result.0.cpu }
+    ensures attended { AttendedIn result.1 station.now result.0.pass a.cpu result.0.cpu }
     ensures number { result.0.pass.number ≡ a.pass.number }
     ensures unshown { result.1 ≡ Outcome.Cancelled → result.0.pass.shown ≡ a.pass.shown }
     ensures shown { result.1 ≡ Outcome.Complete → result.0.pass.shown ≡ Some (length (start_at station.now).cpus) }

@@ -18,7 +18,7 @@ use Rattle.mt_laws.proofs.Barrier.Claims.{barriers_hold_of}
 use Rattle.mt_rendezvous.specs.declared.view.Held.{Held}
 use Rattle.mt_rendezvous.specs.declared.view.Key.{Key}
 use Rattle.mt_rendezvous.specs.declared.view.Start.{Start}
-use Rattle.mt_rendezvous.specs.Station.{added_of, again_of, go_weight, order_of, rise, start_of, total}
+use Rattle.mt_rendezvous.specs.Station.{added_of, again_of, go_weight, order_of, rise, start_of, total, in_second}
 use Rattle.mt_rendezvous.proofs.Keeps.{all_false}
 use Rattle.mt_private.specs.declared.view.Resident.{Resident}
 use Rattle.mt_private.specs.declared.view.YardView.{YardView}
@@ -30,28 +30,30 @@ use Rattle.mt_private.specs.YardPlays.{OfSeat, YardSat, has_added}
 use Rattle.mt_private.proofs.Residents.Moves.{held_at, processor_at}
 use Rattle.mt_private.proofs.Residents.Seats.{there}
 use Rattle.mt_thread_laws.proofs.Residents.Unique.{mapped_from}
+use Rattle.mt_rendezvous.specs.declared.view.Added.TheVariants.{Never, Once, Twice}
+use Rattle.mt_rendezvous.specs.declared.view.Added.{Added}
 use Rattle.mt_thread_laws.proofs.Seats.{again_released, all_count}
 
 -- ---- one that runs again
 
-once : (go : Go) (added again : Bool) → FitsYard go added again Running → added ≡ true → again ≡ false → go ≡ Cancelled
-once go added again f on out =
+once : (go : Go) (added : Added) → FitsYard go added Running → added ≡ Once → go ≡ Cancelled
+once go added f on =
     ⊎_elim
-    (λ x. absurd (let e : true ≡ false = sym on ∙ x.0 in cc))
-    (λ x. ⊎_elim (λ z. z.1) (λ z. absurd (let e : false ≡ true = sym out ∙ z.0 in cc)) x.1)
+    (λ (x : added ≡ Never). absurd (cc))
+    (λ x. ⊎_elim (λ z. z.1) (λ (z : (added ≡ Twice) × (go ≡ Given)). absurd (let e = z.0 in cc)) x)
     f
 
-twice : (go : Go) (added again : Bool) → FitsYard go added again Running → again ≡ true → go ≡ Given
-twice go added again f on =
+twice : (go : Go) (added : Added) → FitsYard go added Running → added ≡ Twice → go ≡ Given
+twice go added f on =
     ⊎_elim
-    (λ x. absurd (let e : true ≡ false = sym on ∙ x.1 in cc))
-    (λ x. ⊎_elim (λ z. absurd (let e : true ≡ false = sym on ∙ z.0 in cc)) (λ z. z.1) x.1)
+    (λ (x : added ≡ Never). absurd (cc))
+    (λ x. ⊎_elim (λ (z : (added ≡ Once) × (go ≡ Cancelled)). absurd (let e = z.0 in cc)) (λ z. z.1) x)
     f
 
 -- and so has one in Arrived2
-again_arrived : (go : Go) (added again released : Bool) (p : Phase) → FitsYard go added again p → (released ≡ true → again ≡ true) → (is_arrived_again p || released) ≡ true → again ≡ true
-again_arrived go added again released Arrived2 f by is = f.0
-again_arrived go added again released other f by is = by is
+again_arrived : (go : Go) (added : Added) (released : Bool) (p : Phase) → FitsYard go added p → (released ≡ true → in_second added ≡ true) → (is_arrived_again p || released) ≡ true → in_second added ≡ true
+again_arrived go added released Arrived2 f by is = ap in_second f.0
+again_arrived go added released other f by is = by is
 
 reached_more : {r s m : Machine} → Reached r s → Uncalled s m → Reached r m
 reached_more r uncalled_start = r
@@ -67,23 +69,23 @@ module _ (key : Key) (s : YardState) (m : MeetsYard key s) (j : ℕ) (v : YardVi
   fits : FitsResident t m.go y.held
   fits = (m.yard.resides.fits y.held.number y here).0
 
-  fits_running : y.held.cpu.phase ≡ Running → FitsYard m.go y.held.added y.held.again Running
-  fits_running runs = subst (FitsYard m.go y.held.added y.held.again) runs fits.fits
+  fits_running : y.held.cpu.phase ≡ Running → FitsYard m.go y.held.added Running
+  fits_running runs = subst (FitsYard m.go y.held.added) runs fits.fits
 
   reached : Reached (at_rest (system_of t)) (yard_machine t m.go m.system)
   reached = reached_more (after (Calls t.goal) at_start m.yard.resides.opens.enabled) m.yard.resides.reached
 
   -- each has added to the second count where this one has released
-  each : m.go ≡ Given → has_released (order_of t m.go) y.held.cpu ≡ true → (i : ℕ) (z : Resident) → get_elem? m.all i ≡ some z → z.held.again ≡ true
+  each : m.go ≡ Given → has_released (order_of t m.go) y.held.cpu ≡ true → (i : ℕ) (z : Resident) → get_elem? m.all i ≡ some z → in_second z.held.added ≡ true
   each given released i z there_z = by (is_over (order_of t m.go) m.system.processors) refl
     where
       f : FitsResident t m.go z.held
       f = (m.yard.resides.fits i z there_z).0
 
-      by_era : has_released (order_of t m.go) z.held.cpu ≡ true → z.held.again ≡ true
-      by_era = again_released (common_era t.cpus) z.held.cpu.era z.held.again z.held.cpu.phase f.era
+      by_era : has_released (order_of t m.go) z.held.cpu ≡ true → in_second z.held.added ≡ true
+      by_era = again_released (common_era t.cpus) z.held.cpu.era (in_second z.held.added) z.held.cpu.phase f.era
 
-      none_left : (b : Bool) → has_released (order_of t m.go) z.held.cpu ≡ b → is_over (order_of t m.go) m.system.processors ≡ true → z.held.again ≡ true
+      none_left : (b : Bool) → has_released (order_of t m.go) z.held.cpu ≡ b → is_over (order_of t m.go) m.system.processors ≡ true → in_second z.held.added ≡ true
       none_left true e over = by_era e
       none_left false e over =
           let some_left : list_all (has_released (order_of t m.go)) m.system.processors ≡ false =
@@ -91,26 +93,26 @@ module _ (key : Key) (s : YardState) (m : MeetsYard key s) (j : ℕ) (v : YardVi
           let on : is_over (order_of t m.go) m.system.processors ≡ false = (λ n. some_left n || (is_cancelled (given n) && not (list_any (λ (p : Processor). is_waiting_to_pass p.phase) m.system.processors))) in
           absurd (cc)
 
-      by : (b : Bool) → is_over (order_of t m.go) m.system.processors ≡ b → z.held.again ≡ true
+      by : (b : Bool) → is_over (order_of t m.go) m.system.processors ≡ b → in_second z.held.added ≡ true
       by true over = none_left (has_released (order_of t m.go) z.held.cpu) refl over
-      by false on = again_arrived m.go z.held.added z.held.again (has_released (order_of t m.go) z.held.cpu) z.held.cpu.phase f.fits by_era (
+      by false on = again_arrived m.go z.held.added (has_released (order_of t m.go) z.held.cpu) z.held.cpu.phase f.fits by_era (
           (barriers_hold_of (at_rest (system_of t)) (yard_machine t m.go m.system) (inl m.yard.resides.opens.quiet) reached).second
           (order_of t m.go) y.held.number i y.held.cpu z.held.cpu (ap (λ (b : Bool). if b then None else Some (order_of t m.go)) on)
           (processor_at t m.all m.go m.system m.yard.resides y.held.number y here) (processor_at t m.all m.go m.system m.yard.resides i z there_z) released)
 
-  all_again : m.go ≡ Given → has_released (order_of t m.go) y.held.cpu ≡ true → (i : ℕ) (h : Held) → get_elem? (map held_of m.all) i ≡ some h → h.again ≡ true
-  all_again given released i h there_h = let z = mapped_from held_of m.all i h there_h in subst (λ (g : Held). g.again ≡ true) z.2 (each given released i z.0 z.1)
+  all_again : m.go ≡ Given → has_released (order_of t m.go) y.held.cpu ≡ true → (i : ℕ) (h : Held) → get_elem? (map held_of m.all) i ≡ some h → in_second h.added ≡ true
+  all_again given released i h there_h = let z = mapped_from held_of m.all i h there_h in subst (λ (g : Held). in_second g.added ≡ true) z.2 (each given released i z.0 z.1)
 
 pub left_where_cancelled : LeftWhereCancelled
-left_where_cancelled key s m j v y at is on out runs =
-    let go : m.go ≡ Cancelled = once m.go y.held.added y.held.again (fits_running key s m j v y at is runs) on out in
+left_where_cancelled key s m j v y at is on runs =
+    let go : m.go ≡ Cancelled = once m.go y.held.added (fits_running key s m j v y at is runs) on in
     (go, (let e : slice_index s.words 0 ≡ total added_of (map held_of m.all) + 4294967296 = m.yard.first_count ∙ ap (λ (g : Go). total added_of (map held_of m.all) + go_weight g) go in omega arith))
 
 pub released_where_full : ReleasedWhereFull
 released_where_full key s m j v y at is on runs =
-    let go : m.go ≡ Given = twice m.go y.held.added y.held.again (fits_running key s m j v y at is runs) on in
-    let up : rise y.held.again y.held.cpu.phase ≡ 1 = (λ i. rise (on i) (runs i)) in
-    let era : y.held.cpu.era ≡ common_era key.cpus.value.items + rise y.held.again y.held.cpu.phase = (fits key s m j v y at is).era in
+    let go : m.go ≡ Given = twice m.go y.held.added (fits_running key s m j v y at is runs) on in
+    let up : rise (in_second y.held.added) y.held.cpu.phase ≡ 1 = (λ i. rise (in_second (on i)) (runs i)) in
+    let era : y.held.cpu.era ≡ common_era key.cpus.value.items + rise (in_second y.held.added) y.held.cpu.phase = (fits key s m j v y at is).era in
     let released = lt-ltb (common_era key.cpus.value.items) y.held.cpu.era (omega arith) in
     (go, m.yard.second_count ∙ all_count (map held_of m.all) (all_again key s m j v y at is go released) ∙ length-map m.all held_of ∙ m.yard.resides.size)
 

@@ -18,7 +18,7 @@ use Rattle.mt_machine.proofs.Rows.{due_row, is_row}
 use Rattle.mt_cpu.specs.Steps.{is_local}
 use Rattle.mt_rendezvous.specs.declared.view.Key.{Key}
 use Rattle.mt_rendezvous.specs.declared.view.Start.{Start}
-use Rattle.mt_rendezvous.specs.Station.{Fits, order_of, start_of}
+use Rattle.mt_rendezvous.specs.Station.{Fits, order_of, start_of, in_first}
 use Rattle.mt_rendezvous.specs.Plays.{own_event}
 use Rattle.mt_rendezvous.proofs.Local.{changing_fits, due_alone, local_changing}
 use Rattle.mt_private.specs.declared.view.Resident.{Resident}
@@ -30,29 +30,30 @@ use Rattle.mt_private.specs.YardPlays.{AccessesYard, ArrivesAgainYard, ArrivesYa
 use Rattle.mt_private.proofs.Residents.Barriers.{own_fits}
 use Rattle.mt_private.proofs.Residents.Plays.{add, add_again, add_late, first_low, go_out, miss, no_take, pass, release, second_low, sees, take, use_memory, wait, wait_again, work}
 use Rattle.mt_private.proofs.Residents.Roots.{cancelling, giving, said}
+use Rattle.mt_rendezvous.specs.declared.view.Added.TheVariants.{Never, Once, Twice}
+use Rattle.mt_rendezvous.specs.declared.view.Added.{Added}
 use Rattle.mt_private.proofs.Residents.Seats.{there}
 
 -- ---- what a phase and the rule say of the two additions
 
-fits_running : (go : Go) (added again : Bool) → FitsYard go added again Running → added ≡ false → again ≡ false
-fits_running go added again f out = ⊎_elim (λ (x : (added ≡ false) × (again ≡ false)). x.1) (λ (x : Fits go added again Running). absurd (let e : false ≡ true = sym out ∙ x.0 in cc)) f
+never_in : (added : Added) → in_first added ≡ false → added ≡ Never
+never_in Never out = refl
+never_in Once out = absurd (let e : true ≡ false = out in cc)
+never_in Twice out = absurd (let e : true ≡ false = out in cc)
 
-fits_waiting : (go : Go) (added again : Bool) (p : Phase) → FitsYard go added again p → (p ≡ Taken) ⊎ (p ≡ Arrived) → again ≡ false
-fits_waiting go added again p f waits =
+fits_waiting : (go : Go) (added : Added) (p : Phase) → FitsYard go added p → (p ≡ Taken) ⊎ (p ≡ Arrived) → in_first added ≡ true → added ≡ Once
+fits_waiting go added p f waits on =
     ⊎_elim
-    (λ (x : p ≡ Taken). let g : Fits go added again Taken = subst (FitsYard go added again) x f in g.0)
-    (λ (x : p ≡ Arrived). let g : Fits go added again Arrived = subst (FitsYard go added again) x f in g.0)
+    (λ (x : p ≡ Taken). ⊎_elim
+    (λ (y : added ≡ Never). absurd (let e : false ≡ true = ap in_first (sym y) ∙ on in cc))
+    (λ (y : (added ≡ Once) × (go ≡ Cancelled)). y.0)
+    (subst (FitsYard go added) x f))
+    (λ (x : p ≡ Arrived). subst (FitsYard go added) x f)
     waits
 
-fits_restored : (go : Go) (added again : Bool) → FitsYard go added again Restored → (again ≡ false) × (added ≡ true)
-fits_restored go added again f = (f.0, f.1)
-
-fits_again : (go : Go) (added again : Bool) → FitsYard go added again Arrived2 → (again ≡ true) × (added ≡ true)
-fits_again go added again f = (f.0, f.1)
-
-fits_local : (go : Go) (added again : Bool) (p : Phase) → is_local p ≡ true → FitsYard go added again p → (again ≡ false) × (added ≡ true)
-fits_local go added again Running here f = absurd (cc)
-fits_local go added again p here f = let g = changing_fits go added again p (local_changing p here) f in (g.0, g.1)
+fits_local : (go : Go) (added : Added) (p : Phase) → is_local p ≡ true → FitsYard go added p → added ≡ Once
+fits_local go added Running here f = absurd (cc)
+fits_local go added p here f = (changing_fits go added p (local_changing p here) f).0
 
 -- ---- the event that is due between the barriers comes of a store
 
@@ -114,13 +115,13 @@ module _ (key : Key) (s : YardState) (m : MeetsYard key s) (id : ℕ) (st : Step
   second = slice_index s.words 1
 
   module _ (y : Resident) (is : me.0.held ≡ y ∷ []) where
-    fits : FitsYard m.go y.held.added y.held.again y.held.cpu.phase
+    fits : FitsYard m.go y.held.added y.held.cpu.phase
     fits = (own_fits (start_of key) m.all m.go first second m.system m.yard y.held.number y (there key s m id me.0 y at is)).fits
 
-    fits_in : (p : Phase) → y.held.cpu.phase ≡ p → FitsYard m.go y.held.added y.held.again p
-    fits_in p here = subst (FitsYard m.go y.held.added y.held.again) here fits
+    fits_in : (p : Phase) → y.held.cpu.phase ≡ p → FitsYard m.go y.held.added p
+    fits_in p here = subst (FitsYard m.go y.held.added) here fits
 
-    added_is : (b : Bool) → has_added me.0.held ≡ b → y.held.added ≡ b
+    added_is : (b : Bool) → has_added me.0.held ≡ b → in_first y.held.added ≡ b
     added_is b on = sym (ap has_added is) ∙ on
 
     first_loaded : st.first ≡ 0 → first ≡ (first + st.first) % 2 ^ 64
@@ -163,13 +164,12 @@ module _ (key : Key) (s : YardState) (m : MeetsYard key s) (id : ℕ) (st : Step
       let y = play.3.0 in
       let is = play.3.1 in
       let runs = play.3.2 in
-      let out = added_is y is false on in
-      let out_again = fits_running m.go y.held.added y.held.again (fits_in y is Running runs) out in
+      let out = never_in y.held.added (added_is y is false on) in
       ⊎_elim
       (λ (c : (m.go ≡ Cancelled) × (4294967296 ≤ first)).
-      (None, done 0 first spoken _ None (no_take key id me y is s m at out out_again runs c.0).0 (first_loaded y is adds) (play.2 c.1 y is).0, tt))
+      (None, done 0 first spoken _ None (no_take key id me y is s m at out runs c.0).0 (first_loaded y is adds) (play.2 c.1 y is).0, tt))
       (λ (c : (m.go ≢ Cancelled) × (first < 4294967296)).
-      (Some (Steps y.held.number Take), done 0 first spoken _ _ (take key id me y is s m at out out_again runs c.0 c.1).0 (first_loaded y is adds) ((play.1 c.1).1 y is).0.0, (word, adds)))
+      (Some (Steps y.held.number Take), done 0 first spoken _ _ (take key id me y is s m at out runs c.0 c.1).0 (first_loaded y is adds) ((play.1 c.1).1 y is).0.0, (word, adds)))
       (sees key s m id me.0 at y is)
 
   arrives : has_added me.0.held ≡ false → (spoken : Spoken Op) → st.word ≡ 0 → st.first ≡ 1 → ArrivesYard st me first new → One 0 spoken
@@ -177,13 +177,12 @@ module _ (key : Key) (s : YardState) (m : MeetsYard key s) (id : ℕ) (st : Step
       let y = play.3.0 in
       let is = play.3.1 in
       let taken = play.3.2 in
-      let out = added_is y is false on in
-      let out_again = fits_waiting m.go y.held.added y.held.again y.held.cpu.phase (fits y is) (inl taken) in
+      let out = never_in y.held.added (added_is y is false on) in
       ⊎_elim
       (λ (c : (m.go ≡ Cancelled) × (4294967296 ≤ first)).
-      (None, done 0 (first + 1) spoken _ None (add_late key id me y is s m at out out_again taken c.1).0 (first_raised y is adds) (play.2 c.1 y is).0, tt))
+      (None, done 0 (first + 1) spoken _ None (add_late key id me y is s m at out taken c.1).0 (first_raised y is adds) (play.2 c.1 y is).0, tt))
       (λ (c : (m.go ≢ Cancelled) × (first < 4294967296)).
-      (Some (Steps y.held.number Arrive), done 0 (first + 1) spoken _ _ (add key id me y is s m at out out_again taken c.1).0 (first_raised y is adds) (play.1 c.1 y is).0, (word, adds)))
+      (Some (Steps y.held.number Arrive), done 0 (first + 1) spoken _ _ (add key id me y is s m at out taken c.1).0 (first_raised y is adds) (play.1 c.1 y is).0, (word, adds)))
       (sees key s m id me.0 at y is)
 
   passes : has_added me.0.held ≡ true → (spoken : Spoken Op) → st.word ≡ 0 → st.first ≡ 0 → PassesYard st me first new → One 0 spoken
@@ -193,9 +192,8 @@ module _ (key : Key) (s : YardState) (m : MeetsYard key s) (id : ℕ) (st : Step
       let waits = play.4.2 in
       ⊎_elim
       (λ (c : (m.go ≡ Cancelled) × (4294967296 ≤ first)).
-      let come = added_is y is true on in
-      let out_again = fits_waiting m.go y.held.added y.held.again y.held.cpu.phase (fits y is) waits in
-      (Some (Steps y.held.number Leave), done 0 first spoken _ _ (go_out key id me y is s m at come out_again waits c.0 c.1).0 (first_loaded y is adds) (play.2 c.1 y is).0, (word, adds)))
+      let come = fits_waiting m.go y.held.added y.held.cpu.phase (fits y is) waits (added_is y is true on) in
+      (Some (Steps y.held.number Leave), done 0 first spoken _ _ (go_out key id me y is s m at come waits c.0 c.1).0 (first_loaded y is adds) (play.2 c.1 y is).0, (word, adds)))
       (λ (c : (m.go ≢ Cancelled) × (first < 4294967296)). one (first == length me.0.start.cpus + 1) refl c.0 c.1)
       (sees key s m id me.0 at play.4.0 play.4.1)
     where
@@ -204,9 +202,8 @@ module _ (key : Key) (s : YardState) (m : MeetsYard key s) (id : ℕ) (st : Step
           let y = play.4.0 in
           let is = play.4.1 in
           let full = eqb-true first (length me.0.start.cpus + 1) e in
-          let come = added_is y is true on in
-          let out_again = fits_waiting m.go y.held.added y.held.again y.held.cpu.phase (fits y is) play.4.2 in
-          (Some (Steps y.held.number Pass), done 0 first spoken _ _ (pass key id me y is s m at come out_again play.4.2 apart full).0 (first_loaded y is adds) (play.1 full y is).0.0, (word, adds))
+          let come = fits_waiting m.go y.held.added y.held.cpu.phase (fits y is) play.4.2 (added_is y is true on) in
+          (Some (Steps y.held.number Pass), done 0 first spoken _ _ (pass key id me y is s m at come play.4.2 apart full).0 (first_loaded y is adds) (play.1 full y is).0.0, (word, adds))
       one false e apart low =
           let y = play.4.0 in
           let is = play.4.1 in
@@ -217,8 +214,8 @@ module _ (key : Key) (s : YardState) (m : MeetsYard key s) (id : ℕ) (st : Step
   comes_again spoken word adds play =
       let y = play.2.0 in
       let is = play.2.1 in
-      let f = fits_restored m.go y.held.added y.held.again (fits_in y is Restored play.2.2) in
-      (Some (Steps y.held.number ArriveAgain), done 1 (second + 1) spoken _ _ (add_again key id me y is s m at f.1 f.0 play.2.2).0 (second_raised y is adds) (play.1 y is).0, (word, adds))
+      let come = (fits_in y is Restored play.2.2).0 in
+      (Some (Steps y.held.number ArriveAgain), done 1 (second + 1) spoken _ _ (add_again key id me y is s m at come play.2.2).0 (second_raised y is adds) (play.1 y is).0, (word, adds))
 
   releases : (spoken : Spoken Op) → st.word ≡ 1 → st.first ≡ 0 → ReleasesYard st me second new → One 1 spoken
   releases spoken word adds play = one (second == length me.0.start.cpus) refl
@@ -227,9 +224,9 @@ module _ (key : Key) (s : YardState) (m : MeetsYard key s) (id : ℕ) (st : Step
       one true e =
           let y = play.3.0 in
           let is = play.3.1 in
-          let f = fits_again m.go y.held.added y.held.again (fits_in y is Arrived2 play.3.2) in
+          let twice = (fits_in y is Arrived2 play.3.2).0 in
           let full = eqb-true second (length me.0.start.cpus) e in
-          (Some (Steps y.held.number Release), done 1 second spoken _ _ (release key id me y is s m at f.1 f.0 play.3.2 full).0 (second_loaded y is adds) (play.1 full y is).0, (word, adds))
+          (Some (Steps y.held.number Release), done 1 second spoken _ _ (release key id me y is s m at twice play.3.2 full).0 (second_loaded y is adds) (play.1 full y is).0, (word, adds))
       one false e =
           let y = play.3.0 in
           let is = play.3.1 in
@@ -241,11 +238,11 @@ module _ (key : Key) (s : YardState) (m : MeetsYard key s) (id : ℕ) (st : Step
       let y = play.3.0 in
       let is = play.3.1 in
       let local = play.3.2 in
-      let f = fits_local m.go y.held.added y.held.again y.held.cpu.phase local (fits y is) in
+      let come = fits_local m.go y.held.added y.held.cpu.phase local (fits y is) in
       let own : suc (suc i) ≡ y.held.number + 2 = sym word ∙ play.2 y is in
       let high : 2 ≤ st.word = omega arith in (
         Some (Steps y.held.number (own_event me.0.start y.held.cpu)),
-        done (suc (suc i)) st.first none _ _ (work key id me y is s m at (suc (suc i)) st.first own f.1 f.0 local).0 refl (play.1 y is).0,
+        done (suc (suc i)) st.first none _ _ (work key id me y is s m at (suc (suc i)) st.first own come local).0 refl (play.1 y is).0,
         local_event st (own_event me.0.start y.held.cpu) y.held.cpu.phase local (own_row me.0.start y.held.cpu local) high quiet,
       )
 

@@ -8,5 +8,5 @@ pub unreachable-requires-in-Err-Refused : goal.unreachable-requires-in-Err-Refus
 unreachable-requires-in-Err-Refused c =
     let fault = c.in-Err-Refused.field-0-0 in
     let is : c.call.result ≡ Err (Refused c.in-Err-Refused.field-0-0) = c.in-Err-Refused.is ∙ ap (λ (x : CallFault). Err x) c.in-Err-Refused.field-0-is in
-    let e : None ≡ Some c.in-Err-Refused.field-0-0 = one_first_fault_lem c.args.goal None (Some c.in-Err-Refused.field-0-0) c.requires.accepted (c.call.ensures.refused c.in-Err-Refused.field-0-0 is).1 in
+    let e : None ≡ Some c.in-Err-Refused.field-0-0 = one_first_fault_lem c.args.goal.now None (Some c.in-Err-Refused.field-0-0) c.requires.accepted (c.call.ensures.refused c.in-Err-Refused.field-0-0 is).1 in
     cc e

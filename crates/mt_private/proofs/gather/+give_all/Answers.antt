@@ -8,7 +8,8 @@ use Rattle.mt_rendezvous.specs.Station.{start_of}
 use Rattle.mt_bus.specs.declared.system_parts.SystemParts.{SystemParts}
 use Rattle.mt_private.specs.declared.visiting.Guest.{Guest}
 use Rattle.mt_private.specs.Residents.{system_of}
-use Rattle.mt_private.specs.Gathered.{AreRooms, IsGathered}
+use Rattle.mt_private.specs.Gathered.{AreRooms}
+use Rattle.mt_private.specs.InYard.{IsGatheredIn}
 use Rattle.mt_private.proofs.Copies.{at_back, at_front, front_rooms, front_tables, last_room, last_tables, own_sound}
 use Rattle.mt_private.proofs.Lists.{at_end}
 use Rattle.mt_private.proofs.gather.+give_all.Goals as goal
@@ -94,7 +95,7 @@ returns-clause-each t c k g at =
     let n : length c.give_all.new.guests.items ≡ c.len-i.result = c.give_all.ensures.count ∙ sym (c.len-i.ensures ∙ c.pop.new.self.ok.0) in
     ⊎_elim
     (λ (x : (k ≡ length c.give_all.new.guests.items) × (c.give_away-guest.result ≡ g)).
-    subst (λ (z : ℕ × Guest). IsGathered c.args.yard.now.table.shared.table_id (start_of c.args.yard.now.table.shared.key) z.0 z.1.pass.seat.table_id z.1.pass.seat.me z.1.pass.number z.1.own)
+    subst (λ (z : ℕ × Guest). IsGatheredIn c.args.yard.now z.0 z.1)
     (λ j. (sym (x.0 ∙ n) j, x.1 j)) c.give_away-guest.ensures.guest)
     (λ (x : slice_get c.give_all.new.guests.items k ≡ Some g). c.give_all.ensures.each k g x)
     (at_end c.give_all.new.guests.items c.give_away-guest.result k g (subst (λ (l : List Guest). slice_get l k ≡ Some g) c.push_reserved.ensures.items at))

@@ -13,10 +13,11 @@ use Rattle.mt_private.specs.YardRule.{one_of, residents, rest_of}
 use Rattle.mt_private.proofs.Carried.{guest}
 use Rattle.mt_private.proofs.Lists.{drop_at}
 use Rattle.mt_private.proofs.Residents.Seats.{splits_yard}
+use Rattle.mt_rendezvous.specs.declared.view.Added.TheVariants.{Never}
 use Rattle.mt_private.proofs.gather.give_away.Goals as goal
 
 -- the first of those from number i on
-offered : (t : Start) (i : ℕ) (p : Processor) → slice_get t.cpus i ≡ Some p → residents t i (drop i t.cpus) ≡ guest i p false false (own_memory (pages_at t i) t.ram) [] 0 ∷ residents t (i + 1) (drop (i + 1) t.cpus)
+offered : (t : Start) (i : ℕ) (p : Processor) → slice_get t.cpus i ≡ Some p → residents t i (drop i t.cpus) ≡ guest i p Never (own_memory (pages_at t i) t.ram) [] 0 ∷ residents t (i + 1) (drop (i + 1) t.cpus)
 offered t i p at = ap (residents t i) (drop_at t.cpus i p at)
 
 pub split_seat-seat-requires : goal.split_seat-seat-requires
@@ -71,7 +72,7 @@ returns-clause-guest c =
         cpu = o.0;
         same = s.3 ∙ l.same;
         alone = ap (λ (z : System). z.processors) o.2;
-        holds = holds ∙ (λ j. guest c.args.i o.0 false false ((sym is j).memory) (sym (ap done_by holds) j) (sym (ap stored_by holds) j) ∷ []);
+        holds = holds ∙ (λ j. guest c.args.i o.0 Never ((sym is j).memory) (sym (ap done_by holds) j) (sym (ap stored_by holds) j) ∷ []);
         told = ap (λ m. m.0.start) s.4 ∙ l.told;
         below = slice_get_within t.cpus c.args.i o.0 o.1;
         bare = ap (λ m. m.1) s.4;

@@ -10,19 +10,20 @@ use Rattle.mt_rendezvous.specs.Station.{start_of}
 use Rattle.mt_rendezvous.specs.Update.{decided}
 use Rattle.mt_private.specs.declared.job.Part.TheVariants.{After}
 use Rattle.mt_private.specs.Gathered.{IsRest}
+use Rattle.mt_private.specs.InYard.{seat_in}
 use Rattle.mt_private.specs.Jobs.{ops_in}
-use Rattle.mt_private.specs.OneByOne.{AreOneByOne, at_rest, ran_each}
+use Rattle.mt_private.specs.OneByOne.{AreOneByOne, at_rest, jobs_one_by_one, ran_each}
 use Rattle.mt_private.specs.Residents.{Opens, system_of}
 use Rattle.mt_private.specs.Visitors.{CanGoOn}
 use Rattle.mt_private.proofs.Ended.{all_given, all_stopped, can_go_on, few_ended, quiet_ended}
 use Rattle.mt_private.proofs.Meeting.{all_back, waiting}
 use Rattle.mt_private.proofs.runs.visit_all.Goals as goal
 
-pub invariant_of-session-clause-same : goal.invariant_of-session-clause-same
-invariant_of-session-clause-same g c = sym (ap (λ (u : Start). u.goal) c.in-Some.ensures.gathered.key)
+pub invariant_of-gathering-clause-same : goal.invariant_of-gathering-clause-same
+invariant_of-gathering-clause-same g c = sym (ap (λ (u : Start). u.goal) c.in-Some.ensures.gathered.key)
 
-pub invariant_of-session-clause-one_each : goal.invariant_of-session-clause-one_each
-invariant_of-session-clause-one_each g c = c.requires.processors ∙ sym (ap (λ (u : Start). length u.cpus) c.in-Some.ensures.gathered.key) ∙ c.in-Some.yard.counted
+pub invariant_of-gathering-clause-one_each : goal.invariant_of-gathering-clause-one_each
+invariant_of-gathering-clause-one_each g c = c.requires.processors ∙ sym (ap (λ (u : Start). length u.cpus) c.in-Some.ensures.gathered.key) ∙ c.in-Some.yard.counted
 
 pub visit_on_threads-outcome-requires-clause-hosts : goal.visit_on_threads-outcome-requires-clause-hosts
 visit_on_threads-outcome-requires-clause-hosts g c κs within = c.in-Some.ensures.gathered.hosts
@@ -49,7 +50,7 @@ leave-requires-clause-back g c =
     let size : length c.args.jobs.items ≡ length t.cpus = c.requires.processors ∙ sym (ap (λ (u : Start). length u.cpus) key) in
     let e = c.visit_on_threads-outcome.result in
     let long : length e.told.items ≡ length c.args.jobs.items = c.visit_on_threads-outcome.ensures.count ∙ c.in-Some.ensures.gathered.count ∙ sym c.requires.processors in
-    all_back c.in-Some.yard.table.shared.table_id t c.args.jobs.items e.host.seat.table_id e.host.seat.me e.host.owns.items e.told.items c.visit_on_threads-outcome.ensures.returned size long c.in-Some.yard.count c.in-Some.yard.counted
+    all_back (seat_in c.in-Some.yard e.host.seat) c.args.jobs.items e.host.owns.items e.told.items c.visit_on_threads-outcome.ensures.returned size long c.in-Some.yard.count c.in-Some.yard.counted
 
 pub leave-requires-clause-rest : goal.leave-requires-clause-rest
 leave-requires-clause-rest g c =
@@ -63,7 +64,7 @@ rested-requires-clause-quiet g c =
     let size : length c.args.jobs.items ≡ length t.cpus = c.requires.processors ∙ sym (ap (λ (u : Start). length u.cpus) key) in
     let e = c.visit_on_threads-outcome.result in
     let long : length e.told.items ≡ length c.args.jobs.items = c.visit_on_threads-outcome.ensures.count ∙ c.in-Some.ensures.gathered.count ∙ sym c.requires.processors in
-    quiet_ended c.in-Some.yard.table.shared.table_id t c.args.jobs.items e.host.seat.table_id e.host.seat.me e.host.owns.items e.told.items c.visit_on_threads-outcome.ensures.returned size long c.leave.result c.leave.ensures.leaves c.leave.ensures.owns (is_ok e.outcome) c.visit_on_threads-outcome.ensures.go
+    quiet_ended (seat_in c.in-Some.yard e.host.seat) c.args.jobs.items e.host.owns.items e.told.items c.visit_on_threads-outcome.ensures.returned size long c.leave.result c.leave.ensures.leaves c.leave.ensures.owns (is_ok e.outcome) c.visit_on_threads-outcome.ensures.go
 
 pub rested-requires-clause-few : goal.rested-requires-clause-few
 rested-requires-clause-few g c =
@@ -72,7 +73,7 @@ rested-requires-clause-few g c =
     let size : length c.args.jobs.items ≡ length t.cpus = c.requires.processors ∙ sym (ap (λ (u : Start). length u.cpus) key) in
     let e = c.visit_on_threads-outcome.result in
     let long : length e.told.items ≡ length c.args.jobs.items = c.visit_on_threads-outcome.ensures.count ∙ c.in-Some.ensures.gathered.count ∙ sym c.requires.processors in
-    few_ended c.in-Some.yard.table.shared.table_id t c.args.jobs.items e.host.seat.table_id e.host.seat.me e.host.owns.items e.told.items c.visit_on_threads-outcome.ensures.returned size long c.leave.result c.leave.ensures.leaves c.leave.ensures.owns
+    few_ended (seat_in c.in-Some.yard e.host.seat) c.args.jobs.items e.host.owns.items e.told.items c.visit_on_threads-outcome.ensures.returned size long c.leave.result c.leave.ensures.leaves c.leave.ensures.owns
 
 pub update_and_access-requires : goal.update_and_access-requires
 update_and_access-requires g c =
@@ -82,7 +83,7 @@ update_and_access-requires g c =
     let e = c.visit_on_threads-outcome.result in
     let long : length e.told.items ≡ length c.args.jobs.items = c.visit_on_threads-outcome.ensures.count ∙ c.in-Some.ensures.gathered.count ∙ sym c.requires.processors in
     subst (λ (x : Machine × RegisterFile). CanGoOn x.0 x.1 c.args.jobs.items e.told.items) (λ i. (sym c.rested.ensures i, (key i).goal))
-    (can_go_on c.in-Some.yard.table.shared.table_id t c.args.jobs.items e.host.seat.table_id e.host.seat.me e.host.owns.items e.told.items c.visit_on_threads-outcome.ensures.returned size long c.leave.result c.leave.ensures.leaves c.leave.ensures.owns (c.visit_on_threads-outcome.ensures.go ∙ ap decided (ap is_ok c.in-Err.is)) c.requires.addresses)
+    (can_go_on (seat_in c.in-Some.yard e.host.seat) c.args.jobs.items e.host.owns.items e.told.items c.visit_on_threads-outcome.ensures.returned size long c.leave.result c.leave.ensures.leaves c.leave.ensures.owns (c.visit_on_threads-outcome.ensures.go ∙ ap decided (ap is_ok c.in-Err.is)) c.requires.addresses)
 
 pub returns-in-Ok-clause-done : goal.returns-in-Ok-clause-done
 returns-in-Ok-clause-done g c =
@@ -91,8 +92,8 @@ returns-in-Ok-clause-done g c =
     let size : length c.args.jobs.items ≡ length t.cpus = c.requires.processors ∙ sym (ap (λ (u : Start). length u.cpus) key) in
     let e = c.visit_on_threads-outcome.result in
     let long : length e.told.items ≡ length c.args.jobs.items = c.visit_on_threads-outcome.ensures.count ∙ c.in-Some.ensures.gathered.count ∙ sym c.requires.processors in
-    subst (λ (x : Start × Machine). AreOneByOne (system_of x.0) x.0.goal c.args.jobs.items x.1 e.told.items) (λ i. (key i, sym c.rested.ensures i))
-    (all_given c.in-Some.yard.table.shared.table_id t c.args.jobs.items e.host.seat.table_id e.host.seat.me e.host.owns.items e.told.items c.visit_on_threads-outcome.ensures.returned size long c.leave.result c.leave.ensures.leaves c.leave.ensures.owns (c.visit_on_threads-outcome.ensures.go ∙ ap decided (ap is_ok c.in-Ok.is)))
+    subst (λ (x : Start × Machine). AreOneByOne (jobs_one_by_one (system_of x.0) x.0.goal c.args.jobs.items) x.1 e.told.items) (λ i. (key i, sym c.rested.ensures i))
+    (all_given (seat_in c.in-Some.yard e.host.seat) c.args.jobs.items e.host.owns.items e.told.items c.visit_on_threads-outcome.ensures.returned size long c.leave.result c.leave.ensures.leaves c.leave.ensures.owns (c.visit_on_threads-outcome.ensures.go ∙ ap decided (ap is_ok c.in-Ok.is)))
 
 pub returns-clause-done : goal.returns-clause-done
 returns-clause-done g c =
@@ -102,8 +103,8 @@ returns-clause-done g c =
     let e = c.visit_on_threads-outcome.result in
     let long : length e.told.items ≡ length c.args.jobs.items = c.visit_on_threads-outcome.ensures.count ∙ c.in-Some.ensures.gathered.count ∙ sym c.requires.processors in
     let goal_is : c.args.goal ≡ t.goal = sym (ap (λ (u : Start). u.goal) key) in
-    subst (λ (u : Start). AreOneByOne (system_of u) u.goal c.args.jobs.items c.update_and_access.new.core c.update_and_access.new.told.items) key
-    (all_stopped c.in-Some.yard.table.shared.table_id t c.args.jobs.items e.host.seat.table_id e.host.seat.me e.host.owns.items e.told.items c.visit_on_threads-outcome.ensures.returned size long c.leave.result c.leave.ensures.leaves c.leave.ensures.owns (c.visit_on_threads-outcome.ensures.go ∙ ap decided (ap is_ok c.in-Err.is)) c.update_and_access.new.core c.update_and_access.new.told.items
+    subst (λ (u : Start). AreOneByOne (jobs_one_by_one (system_of u) u.goal c.args.jobs.items) c.update_and_access.new.core c.update_and_access.new.told.items) key
+    (all_stopped (seat_in c.in-Some.yard e.host.seat) c.args.jobs.items e.host.owns.items e.told.items c.visit_on_threads-outcome.ensures.returned size long c.leave.result c.leave.ensures.leaves c.leave.ensures.owns (c.visit_on_threads-outcome.ensures.go ∙ ap decided (ap is_ok c.in-Err.is)) c.update_and_access.new.core c.update_and_access.new.told.items
     (c.update_and_access.ensures.left ∙ ap (λ (x : Machine × RegisterFile). at_rest (ran_each 0 (map (ops_in After) c.args.jobs.items) (updated x.0.system (in_order x.0) x.1).system).after) (λ i. (c.rested.ensures i, goal_is i)))
     (c.update_and_access.ensures.after ∙ ap (λ (x : Machine × RegisterFile). (ran_each 0 (map (ops_in After) c.args.jobs.items) (updated x.0.system (in_order x.0) x.1).system).answers) (λ i. (c.rested.ensures i, goal_is i)))
     c.update_and_access.ensures.before)

@@ -5,11 +5,11 @@ use Rattle.mt_machine.specs.declared.phase.Phase.TheVariants.{Running}
 use Rattle.mt_machine.specs.System.{System}
 use Rattle.mt_machine.specs.Machine.{Machine}
 use Rattle.mt_private.specs.declared.job.Told.{Told}
-use Rattle.mt_private.specs.declared.session.Session.{Session}
+use Rattle.mt_private.specs.declared.gathering.Gathering.{Gathering}
 use Rattle.mt_private.specs.declared.visiting.Guest.{Guest}
 use Rattle.mt_private.specs.declared.visiting.Visited.TheVariants.{Cancelled}
 use Rattle.mt_private.specs.Gathered.{IsGathered}
-use Rattle.mt_private.specs.InYard.{IsNewIn, start_at}
+use Rattle.mt_private.specs.InYard.{IsNewIn, pass_in}
 use Rattle.mt_private.specs.Jobs.{FitsJob}
 use Rattle.mt_private.specs.YardCalls.{AreIn}
 use Rattle.mt_private.proofs.Copies.{at_back, at_front}
@@ -24,7 +24,7 @@ returns-clause-number c =
 
 pub returns-clause-some : goal.returns-clause-some
 returns-clause-some c =
-    let session : Session = c.args.session.now in
+    let gathering : Gathering = c.args.gathering.now in
     let front = c.pop.new.self.items in
     let g : Guest = c.in_ok-own.field-0 in
     let rooms = c.pop-2.new.self.items in
@@ -39,17 +39,17 @@ returns-clause-some c =
     let there = ap (λ (l : List Told). slice_get l (length front)) had ∙ ap (slice_get (rooms ++ answers ∷ [])) same ∙ at_back rooms answers in
     let system = ap (λ (x : Machine). x.system) c.core_of.ensures in
     let few = c.requires.few in
-    let job = got session.jobs.items (length front) (omega arith) in
+    let job = got gathering.jobs.items (length front) (omega arith) in
     let gathered = c.requires.gathered (length front) g at in
-    subst (λ (k : ℕ). IsNewIn session k (record { core = c.core_of.result; pass = g.pass; told = answers; visited = Cancelled })) (sym gathered.numbered)
+    subst (λ (k : ℕ). IsNewIn gathering k (record { core = c.core_of.result; pass = g.pass; told = answers; visited = Cancelled })) (sym gathered.numbered)
     (record {
       job = job.0;
       at = job.1;
       new = record {
-        gathered = subst (λ (o : System). IsGathered session.yard.table.shared.table_id (start_at session.yard) (length front) g.pass.seat.table_id g.pass.seat.me g.pass.number o) (sym system) gathered;
+        gathered = subst (λ (o : System). IsGathered (pass_in gathering.yard g.pass) (length front) o) (sym system) gathered;
         idle = ap (λ (x : Machine). x.order) c.core_of.ensures;
         runs = subst (AreIn Running) (sym system) (c.requires.running (length front) g at);
-        fits = subst FitsJob (get_or_from_slice_get session.jobs.items (length front) job.0 job.0 job.1) (c.requires.fits (length front) job.0 (slice_get_within session.jobs.items (length front) job.0 job.1));
+        fits = subst FitsJob (get_or_from_slice_get gathering.jobs.items (length front) job.0 job.0 job.1) (c.requires.fits (length front) job.0 (slice_get_within gathering.jobs.items (length front) job.0 job.1));
         has_room = λ part. c.requires.has_room part (length front) job.0 answers job.1 there;
       };
     })

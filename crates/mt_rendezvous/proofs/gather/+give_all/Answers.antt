@@ -2,8 +2,7 @@ use Rattle.std.proofs.Common.{◌≡◌, ◌⊎◌, ℕ, zero, suc, List, [], �
 use mathlib.Core.Option.{some, some-injective, some-ne-none}
 use lib.ListN.{get_elem?}
 use Rattle.mt_rendezvous.specs.declared.station.Attendee.{Attendee}
-use Rattle.mt_rendezvous.specs.Station.{start_of}
-use Rattle.mt_rendezvous.specs.Calls.{Attends}
+use Rattle.mt_rendezvous.specs.InStation.{IsNewIn}
 use Rattle.mt_rendezvous.proofs.gather.+give_all.Goals as goal
 
 at_end : (l : List Attendee) (a b : Attendee) (j : ℕ) → get_elem? (l ++ a ∷ []) j ≡ some b → (get_elem? l j ≡ some b) ⊎ ((j ≡ length l) × (a ≡ b))
@@ -17,6 +16,5 @@ returns-clause-each t c k a e =
     let n : length c.give_all.new.attendees.items ≡ c.len-i.result = c.give_all.ensures.count ∙ sym (c.len-i.ensures ∙ c.pop.new.self.ok.0) in
     ⊎_elim (λ x. c.give_all.ensures.each k a x)
     (λ (x : (k ≡ length c.give_all.new.attendees.items) × (c.give_away-attendee.result ≡ a)).
-    subst (λ (z : ℕ × Attendee). Attends c.args.station.now.table.shared.table_id (start_of c.args.station.now.table.shared.key) z.0 z.1.cpu z.1.pass.seat.table_id z.1.pass.seat.me z.1.pass.number)
-    (λ j. (sym (x.0 ∙ n) j, x.1 j)) c.give_away-attendee.ensures.attends)
+    subst (λ (z : ℕ × Attendee). IsNewIn c.args.station.now z.0 z.1) (λ j. (sym (x.0 ∙ n) j, x.1 j)) c.give_away-attendee.ensures.attends)
     (at_end c.give_all.new.attendees.items c.give_away-attendee.result a k (subst (λ l. get_elem? l k ≡ some a) c.push_reserved.ensures.items e))

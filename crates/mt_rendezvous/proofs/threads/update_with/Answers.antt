@@ -1,5 +1,4 @@
 use Rattle.std.proofs.Common.{◌∙◌, ap, []}
-use Rattle.mt_regs.specs.RegisterFile.{RegisterFile}
 use Rattle.mt_machine.specs.System.{System}
 use Rattle.mt_machine.specs.Update.{updated}
 use Rattle.mt_core.specs.Rounds.{in_order}
@@ -12,7 +11,6 @@ returns-clause-updated g c =
       h.enabled.0,
       h.enabled.2,
       c.carry_out.ensures
-          ∙ ap (λ (f : RegisterFile). updated c.call_and_take.new.core.system [] f) c.same-aim.ensures
-          ∙ ap (λ (s : System). updated s [] c.args.goal) h.system
-          ∙ (updated_from_broadcast c.args.core.now.system (in_order c.args.core.now) c.args.goal).from_taken,
+          ∙ ap (λ (s : System). updated s [] c.args.goal.now) h.system
+          ∙ (updated_from_broadcast c.args.core.now.system (in_order c.args.core.now) c.args.goal.now).from_taken,
     )

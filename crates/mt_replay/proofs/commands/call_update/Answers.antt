@@ -1,9 +1,6 @@
-use Rattle.std.proofs.Common.{◌≡◌, sym, ap, subst, None, Some, Err}
+use Rattle.std.proofs.Common.{◌≡◌, sym, ap, Some, Err}
 use Rattle.mt_regs.specs.declared.fault.Fault.{Fault}
-use Rattle.mt_regs.specs.RegisterFile.{RegisterFile}
-use Rattle.mt_regs.specs.Faults.{IsAccepted, IsFirstFault}
 use Rattle.mt_regs.proofs.FaultNumbers.{fault_number}
-use Rattle.mt_machine.specs.Machine.{Calls, next}
 use Rattle.mt_core.specs.declared.fault.CallFault.{CallFault}
 use Rattle.mt_core.specs.declared.fault.CallFault.TheVariants.{Refused}
 use Rattle.mt_replay.proofs.Calls.{call_accepted, call_fails}
@@ -12,12 +9,11 @@ use Rattle.mt_replay.proofs.commands.call_update.Goals as goal
 
 pub returns-in-Ok-clause-fault : goal.returns-in-Ok-clause-fault
 returns-in-Ok-clause-fault c =
-    let called = subst (λ (g : RegisterFile). (c.args.core.now.order ≡ None) × IsAccepted g) c.same.ensures (c.in-Ok.ensures.called.0, c.in-Ok.ensures.called.1) in
-    sym (call_accepted c.args.core.now c.args.goal.now called.0 called.1)
+    sym (call_accepted c.args.core.now c.args.goal.now c.in-Ok.ensures.called.0 c.in-Ok.ensures.called.1)
 
 pub returns-in-Ok-clause-called : goal.returns-in-Ok-clause-called
 returns-in-Ok-clause-called c =
-    let called = subst (λ (g : RegisterFile). (c.args.core.now.order ≡ None) × IsAccepted g × (c.call.new.self ≡ next c.args.core.now (Calls g))) c.same.ensures c.in-Ok.ensures.called in (
+    let called = c.in-Ok.ensures.called in (
       called.2,
       is_quiet_without_order c.args.core.now c.a_core_arises.ensures.arises called.0,
       (called.0, c.is_register_file.ensures, called.1, c.requires.fits),
@@ -27,12 +23,11 @@ pub returns-in-Err-clause-fault : goal.returns-in-Err-clause-fault
 returns-in-Err-clause-fault c =
     sym
     (call_fails c.args.core.now c.args.goal.now c.in-Err.fault (λ same. c.in-Err.ensures.under_way.0 (ap Err same))
-    (λ own same. subst (λ (g : RegisterFile). (c.args.core.now.order ≡ None) × IsFirstFault g (Some own)) c.same.ensures (c.in-Err.ensures.refused own (ap Err same))))
+    (λ own same. c.in-Err.ensures.refused own (ap Err same)))
 
 own_of : (fault : CallFault) (own : Fault) → Some fault ≡ Some (Refused own) → fault ≡ Refused own
 own_of fault own is = cc is
 
 pub returns-in-Err-clause-short : goal.returns-in-Err-clause-short
 returns-in-Err-clause-short c own is =
-    let refused = subst (λ (g : RegisterFile). (c.args.core.now.order ≡ None) × IsFirstFault g (Some own)) c.same.ensures (c.in-Err.ensures.refused own (ap Err (own_of c.in-Err.fault own is))) in
-    fault_number c.args.goal.now own c.is_register_file.ensures refused.1
+    fault_number c.args.goal.now own c.is_register_file.ensures (c.in-Err.ensures.refused own (ap Err (own_of c.in-Err.fault own is))).1

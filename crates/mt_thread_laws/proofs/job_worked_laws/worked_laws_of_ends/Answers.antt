@@ -10,8 +10,8 @@ use Rattle.mt_private.specs.declared.visiting.Visited.TheVariants.{Complete}
 use Rattle.mt_private.specs.Left.{AreOwnsOf, Leaves}
 use Rattle.mt_private.specs.OneByOne.{ran}
 use Rattle.mt_private.specs.Residents.{own_of}
-use Rattle.mt_private.specs.Visitors.{CameBack, Returned, own_at}
-use Rattle.mt_thread_laws.specs.WorkedWay.{HasNoAnswers, IsEmptyJob, last_seat, released, seat_shown}
+use Rattle.mt_private.specs.Visitors.{CameBack, Returned, own_at, pass_to, stay_at}
+use Rattle.mt_thread_laws.specs.WorkedWay.{HasNoAnswers, IsEmptyJob, last_seat, lone_host, released, seat_shown}
 use Rattle.mt_thread_laws.specs.WorkedYard.{alone}
 use Rattle.mt_private.specs.YardCalls.{Keeps, VisitEnds, updated_own}
 use Rattle.mt_thread_laws.proofs.LoneGuest.{released_yard}
@@ -25,7 +25,7 @@ updated : own_of released ≡ (ran 0 [] (updated_own alone.goal (ran 0 [] (own_a
 updated = refl
 
 ends : (table : TableId) (job : Job) (told : Told) → IsEmptyJob job → HasNoAnswers told
-    → VisitEnds Complete table alone 0 alone.goal job (own_at alone 0) table (seat_shown (Some 1) false released) (own_of released) told
+    → VisitEnds Complete (pass_to (lone_host table) 0 table (seat_shown (Some 1) false released)) (stay_at alone 0 job (own_of released) told)
 ends table job told is none = (
   record { cpu = released.held.cpu; same = refl; alone = refl; holds = refl; told = refl; below = omega arith; bare = refl },
   refl,
@@ -39,7 +39,7 @@ abbrev first_of : List Resident → Resident
 first_of [] = released
 first_of (y ∷ ys) = y
 
-came : (table : TableId) (job : Job) (told : Told) → IsEmptyJob job → HasNoAnswers told → CameBack table alone job 0 last_seat.0 kept told
+came : (table : TableId) (job : Job) (told : Told) → IsEmptyJob job → HasNoAnswers told → CameBack (lone_host table) job 0 kept told
 came table job told is none = record {
   visited = Complete;
   own = own_of released;
@@ -54,16 +54,16 @@ came table job told is none = record {
 }
 
 each : (table : TableId) (job : Job) (told : Told) → IsEmptyJob job → HasNoAnswers told → (k : ℕ) (j : Job) (r : Told) → slice_get (job ∷ []) k ≡ Some j → slice_get (told ∷ []) k ≡ Some r
-    → CameBack table alone j k last_seat.0 kept r
+    → CameBack (lone_host table) j k kept r
 each table job told is none zero j r at there =
-    subst (λ (x : Job × Told). CameBack table alone x.0 0 last_seat.0 kept x.1) (let a : job ≡ j = cc at in let b : told ≡ r = cc there in λ i. (a i, b i)) (came table job told is none)
+    subst (λ (x : Job × Told). CameBack (lone_host table) x.0 0 kept x.1) (let a : job ≡ j = cc at in let b : told ≡ r = cc there in λ i. (a i, b i)) (came table job told is none)
 each table job told is none (suc k) j r at there = absurd (cc at)
 
 keeps : Keeps last_seat.0 kept
 keeps zero o at = let same : own_of released ≡ o = cc at in (0, released, refl, refl, same)
 keeps (suc k) o at = absurd (cc at)
 
-returned : (table : TableId) (job : Job) (told : Told) → IsEmptyJob job → HasNoAnswers told → Returned table alone (job ∷ []) table last_seat kept (told ∷ [])
+returned : (table : TableId) (job : Job) (told : Told) → IsEmptyJob job → HasNoAnswers told → Returned (lone_host table) (job ∷ []) kept (told ∷ [])
 returned table job told is none = record { root = (refl, refl, refl); size = refl; keeps = keeps; each = each table job told is none }
 
 leaves : Leaves alone last_seat.0 released_yard.0
@@ -78,5 +78,5 @@ returns c = λ law table job told is none. (
   released_yard.0,
   leaves,
   returned table job told is none,
-  (law table alone (job ∷ []) table last_seat kept (told ∷ []) released_yard.0 (returned table job told is none) refl refl leaves owns refl).0,
+  (law (lone_host table) (job ∷ []) kept (told ∷ []) released_yard.0 (returned table job told is none) refl refl leaves owns refl).0,
 )

@@ -11,7 +11,7 @@ use Rattle.mt_rendezvous.specs.declared.view.Key.{Key}
 use Rattle.mt_rendezvous.specs.declared.view.Start.{Start}
 use Rattle.mt_rendezvous.specs.Station.{start_of}
 use Rattle.mt_private.specs.declared.view.Resident.{Resident}
-use Rattle.mt_private.specs.Residents.{Follows, Opens, Yard}
+use Rattle.mt_private.specs.Residents.{Follows, Opens, Yard, scene, move_of}
 use Rattle.mt_thread_laws.specs.WorkedWay.{guest, left, lone_pass, released, settled}
 use Rattle.mt_thread_laws.specs.WorkedYard.{first_lodged, first_state, first_taken, lodging, no_counts, split_state}
 use Rattle.mt_private.specs.YardLaws.{IsLoad}
@@ -23,6 +23,7 @@ use Rattle.mt_private.proofs.Residents.Decisions.{gives}
 use Rattle.mt_private.proofs.Residents.Plays.{takes_yard}
 use Rattle.mt_private.proofs.Residents.Seats.{splits}
 use Rattle.mt_private.proofs.Residents.Work.{takes}
+use Rattle.mt_rendezvous.specs.declared.view.Added.TheVariants.{Once}
 use Rattle.mt_thread_laws.proofs.job_worked_laws.worked_laws_of_tables.Goals as goal
 
 both_held : (key : Key) → start_of key ≡ lodging → (first_yard_view key).held ≡ first_lodged ∷ second_lodged ∷ []
@@ -37,10 +38,10 @@ split_meets key is = (splits key (first_state key) (opened_lodging key is) 0 (fi
 unsaid : (key : Key) (m : MeetsYard key (first_state key)) → m.go ≡ Pending
 unsaid key m = sym ((m.sits 0 (as_view (first_yard_view key)) refl).root refl).1
 
-took : (key : Key) (is : start_of key ≡ lodging) (m : MeetsYard key (split_state key)) → Follows (start_of key) m.all m.go m.system 0 first_taken (Some (Steps 0 Take)) 0 0
+took : (key : Key) (is : start_of key ≡ lodging) (m : MeetsYard key (split_state key)) → Follows (start_of key) (scene m.all m.go m.system) (move_of 0 first_taken (Some (Steps 0 Take))) 0 0
 took key is m =
     let at : get_elem? m.all 0 ≡ some first_lodged = m.same 1 (yard_right (first_yard_view key)) refl 0 first_lodged (ap (λ (ys : List Resident). get_elem? ys 0) (one_held key is)) in
-    takes (start_of key) m.all m.go 0 0 m.system m.yard 0 first_lodged at refl refl refl (omega arith)
+    takes (start_of key) m.all m.go 0 0 m.system m.yard 0 first_lodged at refl refl (omega arith)
 
 pub returns-clause-start : goal.returns-clause-start
 returns-clause-start c = λ law key is. law key no_counts (subst Opens (sym is) opens_lodging) (let e : length key.cpus.value.items ≡ 2 = ap (λ (t : Start). length t.cpus) is in omega arith) zeros
@@ -56,7 +57,7 @@ returns-clause-decides c = λ law key is.
     let m = opened_lodging key is in (
       m,
       law key (first_state key) m 0 1 (first_yard_view key) Given Goes refl refl (omega arith) refl (unsaid key m)
-          (gives (start_of key) m.all 0 0 m.system (subst (λ (go : Go). Yard (start_of key) m.all go 0 0 m.system) (unsaid key m) m.yard)),
+          (gives (start_of key) m.all 0 0 m.system (subst (λ (go : Go). Yard (start_of key) (scene m.all go m.system) 0 0) (unsaid key m) m.yard)),
     )
 
 pub returns-clause-split : goal.returns-clause-split
@@ -107,7 +108,7 @@ returns-clause-released c = λ law key is.
 pub returns-clause-left : goal.returns-clause-left
 returns-clause-left c = λ law key is.
     let m = left_meets key is in
-    let told = law key (left key) m 1 (lone_pass (start_of key) None true (guest Running true)) (guest Running true) refl refl refl refl refl in
+    let told = law key (left key) m 1 (lone_pass (start_of key) None true (guest Running Once)) (guest Running Once) refl refl refl refl in
     (m, told.0, told.1)
 
 pub returns-clause-settles : goal.returns-clause-settles

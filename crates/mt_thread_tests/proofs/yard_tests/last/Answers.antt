@@ -1,8 +1,7 @@
 use Rattle.std.proofs.Common.{◌≡◌, ◌∙◌, ap, ℕ, List, ◌++◌, length, Option, None, Some, rules}
 use Rattle.std.specs.Prelude.{IfSome, option_to_list, slice_get}
-use Rattle.mt_rendezvous.specs.Station.{start_of}
 use Rattle.mt_private.specs.declared.visiting.Guest.{Guest}
-use Rattle.mt_private.specs.Gathered.{IsGathered}
+use Rattle.mt_private.specs.InYard.{IsGatheredIn}
 use Rattle.mt_private.proofs.Copies.{at_back, at_front}
 use Rattle.mt_thread_tests.proofs.yard_tests.last.Goals as goal
 
@@ -12,8 +11,7 @@ popped P old new (Some g) e all = all (length new) g (ap (λ l. slice_get l (len
 
 pub returns-clause-gathered : goal.returns-clause-gathered
 returns-clause-gathered c =
-    popped (λ k g. IsGathered c.args.yard.now.table.shared.table_id (start_of c.args.yard.now.table.shared.key) k g.pass.seat.table_id g.pass.seat.me g.pass.number g.own)
-    c.args.waiting.now.items c.pop.new.self.items c.pop.result c.pop.ensures.items c.requires
+    popped (IsGatheredIn c.args.yard.now) c.args.waiting.now.items c.pop.new.self.items c.pop.result c.pop.ensures.items c.requires
 
 pub returns-clause-rest : goal.returns-clause-rest
 returns-clause-rest c k g at = c.requires k g (ap (λ l. slice_get l k) c.pop.ensures.items ∙ at_front c.pop.new.self.items (option_to_list c.pop.result) k g at)

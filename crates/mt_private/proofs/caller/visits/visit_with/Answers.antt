@@ -3,10 +3,9 @@ use Rattle.std.specs.Prelude.{vec_capacity}
 use Rattle.mt_machine.specs.declared.op.Op.{Op}
 use Rattle.mt_machine.specs.System.{Processor, System}
 use Rattle.mt_machine.specs.Machine.{Machine}
-use Rattle.mt_rendezvous.specs.Station.{start_of}
 use Rattle.mt_private.specs.declared.job.Part.TheVariants.{After, Before}
 use Rattle.mt_private.specs.OneByOne.{ran}
-use Rattle.mt_private.specs.YardCalls.{IsLeft, Lodges, updated_own}
+use Rattle.mt_private.specs.YardCalls.{IsLeft, updated_own}
 use Rattle.mt_private.proofs.Alone.{left_runs}
 use Rattle.mt_private.proofs.caller.visits.visit_with.Goals as goal
 
@@ -39,11 +38,7 @@ returns-in-Cancelled-clause-ends g c =
     let before = c.as_slice.ensures.value in
     let s : System = c.args.core.now.system in
     let first = ap (λ (m : Machine). m.system) a.after ∙ ap (λ (xs : List Op). (ran 0 xs s).after) before in (
-      (
-        e.lodges.0,
-        subst (λ (n : ℕ). Lodges c.args.yard.now.table.shared.table_id (start_of c.args.yard.now.table.shared.key) c.go_through.new.self.seat.table_id c.go_through.new.self.seat.me n c.go_through.new.core.system e.lodges.0 false)
-            (c.go_through.ensures.number ∙ a.number) e.lodges.1,
-      ),
+      e.lodges,
       e.cancel,
       subst (λ (z : System). IsLeft z c.go_through.new.core.system) first e.left,
       a.answers ∙ ap (λ (xs : List Op). (ran 0 xs s).answers) before,
@@ -61,9 +56,8 @@ returns-in-Complete-clause-ends g c =
     let after = c.as_slice-in-Complete.ensures.value in
     let s : System = c.args.core.now.system in
     let first = ap (λ (m : Machine). m.system) a.after ∙ ap (λ (xs : List Op). (ran 0 xs s).after) before in
-    let whole = ap (λ (m : Machine). m.system) all ∙ ap (updated_own c.args.goal.now) first in (
-      subst (λ (n : ℕ). Lodges c.args.yard.now.table.shared.table_id (start_of c.args.yard.now.table.shared.key) c.access_all-in-Complete.new.self.seat.table_id c.access_all-in-Complete.new.self.seat.me n c.access_all-in-Complete.new.core.system true true)
-          (b.number ∙ c.go_through.ensures.number ∙ a.number) e.lodges,
+    let whole = ap (λ (m : Machine). m.system) all ∙ (λ i. updated_own (c.requires.goal i) (first i)) in (
+      e.lodges,
       e.shown ∙ ap (λ (n : ℕ). Some n) (sym c.args.yard.now.counted),
       ap (λ (m : Machine). m.system) b.after ∙ (λ i. (ran 0 (after i) (whole i)).after),
       a.answers ∙ ap (λ (xs : List Op). (ran 0 xs s).answers) before,

@@ -10,12 +10,13 @@ use Rattle.mt_private.specs.YardCalls.{Keeps}
 use Rattle.mt_private.proofs.Carried.{its_guest, own_is}
 use Rattle.mt_private.proofs.Lists.{at_put}
 use Rattle.mt_private.proofs.Residents.Seats.{joins_yard}
+use Rattle.mt_rendezvous.specs.Station.{held}
 use Rattle.mt_private.proofs.host.Host.take_back.Goals as goal
 
 pub join_seat-requires : goal.join_seat-requires
 join_seat-requires c =
     let h = c.requires.hosts in
-    let r = c.requires.lodges.2 in
+    let r = c.requires.lodges.1 in
     let w = c.args.yard.now.wide in
     (h.0, r.same, r.bare, omega arith, joins_yard c.args.yard.now.table.shared.key _ _ _ _ (its_guest r) h.1 r.holds)
 
@@ -33,6 +34,6 @@ kept_too v w owns k own y is number same old j o at =
 
 pub returns-clause-keeps : goal.returns-clause-keeps
 returns-clause-keeps c old =
-    let r = c.requires.lodges.2 in
+    let r = c.requires.lodges.1 in
     subst (λ (v : YardView). Keeps v (set c.args.self.now.owns.items c.args.guest.pass.number (Some c.args.guest.own))) (sym (ap (λ m. m.0) c.join_seat.ensures.2))
     (kept_too c.args.self.now.seat.me.0 c.args.guest.pass.seat.me.0 c.args.self.now.owns.items c.args.guest.pass.number c.args.guest.own (its_guest r) r.holds refl (own_is r) old)

@@ -6,7 +6,9 @@ use Rattle.mt_machine.specs.Access.{access}
 use Rattle.mt_machine.specs.Machine.{Machine}
 use Rattle.mt_machine.specs.System.{Processor, System}
 use Rattle.mt_laws.proofs.Barrier.Stages.{Stage}
-use Rattle.mt_rendezvous.specs.declared.view.Start.{Start}
+use Rattle.mt_rendezvous.specs.declared.view.Added.{Added}
+use Rattle.mt_rendezvous.specs.declared.view.Added.TheVariants.{Never, Twice}
+use Rattle.mt_rendezvous.specs.Calls.{PassOf}
 use Rattle.mt_private.specs.declared.host.Yard.{Yard}
 use Rattle.mt_private.specs.declared.view.YardView.{YardView}
 use Rattle.mt_private.specs.declared.visiting.YardPass.{YardPass}
@@ -21,19 +23,19 @@ use Rattle.mt_private.proofs.Residents.Plays.{accesses_yard}
 use Rattle.mt_private.proofs.visiting.YardPass.access.Goals as goal
 
 -- in both states the seat lodges the resident, and the processor runs
-lodged : (yard : Yard) (pass : YardPass) (core : Machine) → IsOutside yard pass core → (added : Bool) × (again : Bool) × LodgesIn yard pass core.system added again
-lodged yard pass core o = ⊎_elim (λ (h : HasNotTaken yard pass core). (false, false, h.lodges)) (λ (h : IsReleased yard pass core). (true, true, h.lodges)) o
+lodged : (yard : Yard) (pass : YardPass) (core : Machine) → IsOutside yard pass core → (added : Added) × LodgesIn yard pass core.system added
+lodged yard pass core o = ⊎_elim (λ (h : HasNotTaken yard pass core). (Never, h.lodges)) (λ (h : IsReleased yard pass core). (Twice, h.lodges)) o
 
 runs : (yard : Yard) (pass : YardPass) (core : Machine) → IsOutside yard pass core → AreIn Running core.system
 runs yard pass core o = ⊎_elim (λ (h : HasNotTaken yard pass core). h.runs) (λ (h : IsReleased yard pass core). h.runs) o
 
 -- so it is after the access
-lodges_on : {table : TableId} {t : Start} {its : TableId} {me : YardSat} {number : ℕ} {own : System} {added again : Bool} (r : Lodges table t its me number own added again) (its' : TableId) (new : YardSat) (op : Op) (n : ℕ) (shown : Option ℕ) (cancel : Bool) (after : Machine)
-    → its' ≡ its → new.1 ≡ me.1 → new.0 ≡ with_one me.0 (with_stored (accessed_by op (its_guest r)) n) shown cancel → after.system ≡ (access own 0 op).after → Lodges table t its' new number after.system added again
-lodges_on {table = table} {t = t} {number = number} {own = own} {added = added} {again = again} r its' new op n shown cancel after same bare turn is =
+lodges_on : {seat : PassOf YardSat} {own : System} {added : Added} (r : Lodges seat own added) (its : TableId) (new : YardSat) (op : Op) (n : ℕ) (shown : Option ℕ) (cancel : Bool) (after : Machine)
+    → its ≡ seat.its → new.1 ≡ seat.me.1 → new.0 ≡ with_one seat.me.0 (with_stored (accessed_by op (its_guest r)) n) shown cancel → after.system ≡ (access own 0 op).after → Lodges (record seat { its = its; me = new }) after.system added
+lodges_on {seat = seat} {own = own} {added = added} r its new op n shown cancel after same bare turn is =
     let q = one_access op own r.cpu r.alone in
-    subst (λ (z : System). Lodges table t its' new number z added again) (sym is)
-    (carried r its' new (with_stored (accessed_by op (its_guest r)) n) shown cancel (access own 0 op).after q.cpu added again same bare turn q.alone (restored _ _ _ (accessed_is r op q.cpu q.alone)))
+    subst (λ (z : System). Lodges (record seat { its = its; me = new }) z added) (sym is)
+    (carried r its new (with_stored (accessed_by op (its_guest r)) n) shown cancel (access own 0 op).after q.cpu added same bare turn q.alone (restored _ _ _ (accessed_is r op q.cpu q.alone)))
 
 runs_on : (own : System) (p : Processor) (op : Op) (after : Machine) → own.processors ≡ p ∷ [] → AreIn Running own → after.system ≡ (access own 0 op).after → AreIn Running after.system
 runs_on own p op after alone here is =
@@ -42,7 +44,7 @@ runs_on own p op after alone here is =
 
 pub compare_exchange_with-requires : goal.compare_exchange_with-requires
 compare_exchange_with-requires c =
-    let r = (lodged _ _ _ c.requires.outside).2 in
+    let r = (lodged _ _ _ c.requires.outside).1 in
     let w = c.args.yard.now.wide in
     let n = c.args.yard.now.counted in
     let b = r.below in
@@ -50,13 +52,13 @@ compare_exchange_with-requires c =
 
 pub invariant_of-self-clause-known : goal.invariant_of-self-clause-known
 invariant_of-self-clause-known c =
-    let r = (lodged _ _ _ c.requires.outside).2 in
+    let r = (lodged _ _ _ c.requires.outside).1 in
     let tells = accesses_of r c.args.self.now.no_root _ _ _ _ c.args.op refl c.compare_exchange_with.result c.compare_exchange_with.new.seat.me c.compare_exchange_with.ensures.2 in
     sym (has_stored r c.compare_exchange_with.new.seat.me _ _ _ (tells.1 (tells.3 (its_guest r) r.holds ∙ sym c.args.self.now.known) c.args.op refl (its_guest r) r.holds).0)
 
 pub invariant_of-self-clause-no_root : goal.invariant_of-self-clause-no_root
 invariant_of-self-clause-no_root c =
-    let r = (lodged _ _ _ c.requires.outside).2 in
+    let r = (lodged _ _ _ c.requires.outside).1 in
     let tells = accesses_of r c.args.self.now.no_root _ _ _ _ c.args.op refl c.compare_exchange_with.result c.compare_exchange_with.new.seat.me c.compare_exchange_with.ensures.2 in
     ap (λ (v : YardView). v.root) (tells.1 (tells.3 (its_guest r) r.holds ∙ sym c.args.self.now.known) c.args.op refl (its_guest r) r.holds).0 ∙ c.args.self.now.no_root
 
@@ -88,7 +90,7 @@ returns-clause-released c h =
 
 pub returns-clause-done : goal.returns-clause-done
 returns-clause-done c =
-    let r = (lodged _ _ _ c.requires.outside).2 in
+    let r = (lodged _ _ _ c.requires.outside).1 in
     let tells = accesses_of r c.args.self.now.no_root _ _ _ _ c.args.op refl c.compare_exchange_with.result c.compare_exchange_with.new.seat.me c.compare_exchange_with.ensures.2 in
     let turn = tells.1 (tells.3 (its_guest r) r.holds ∙ sym c.args.self.now.known) c.args.op refl (its_guest r) r.holds in
     has_done r c.compare_exchange_with.new.seat.me _ _ _ turn.0

@@ -13,13 +13,14 @@ use Rattle.mt_private.specs.YardRule.{with_one}
 use Rattle.mt_private.proofs.Alone.{in_its_phase, its_phase, onward}
 use Rattle.mt_private.proofs.Carried.{arrives_again_kept, arrives_again_of, core_is, has_done, its_era, its_guest, of_guest, shifted_is, visits_on}
 use Rattle.mt_private.proofs.Residents.Plays.{arrives_again_yard}
+use Rattle.mt_rendezvous.specs.declared.view.Added.TheVariants.{Twice}
 use Rattle.mt_private.proofs.visiting.YardPass.arrive_again.Goals as goal
 
 pub fetch_add-requires : goal.fetch_add-requires
 fetch_add-requires c =
     let r = c.requires.between.1.visits.lodges in
     let w = c.args.yard.now.wide in
-    (r.same, omega arith, arrives_again_yard c.args.yard.now.table.shared.key _ _ c.args.self.now.seat.me (its_guest r) r.holds c.args.self.now.no_root refl refl (its_phase Restored c.args.core.now.system r.cpu r.alone c.requires.restored))
+    (r.same, omega arith, arrives_again_yard c.args.yard.now.table.shared.key _ _ c.args.self.now.seat.me (its_guest r) r.holds c.args.self.now.no_root refl (its_phase Restored c.args.core.now.system r.cpu r.alone c.requires.restored))
 
 pub invariant_of-self-clause-known : goal.invariant_of-self-clause-known
 invariant_of-self-clause-known c =
@@ -51,6 +52,6 @@ returns-clause-arrived c first h =
     of_guest r (λ u y. new.0 ≡ with_one me.0 (with_held y (arrive_again u y.held)) me.0.shown me.0.cancel) (λ y same. (play.1 y same).0) in
     let o = onward t Given s r.cpu ArriveAgain c.args.core.now c.step.new.self (core_is v) c.step.ensures.after r.alone (its_era v) is refl refl in
     record {
-      visits = visits_on v Given ArriveAgain c.step.new.self _ new (with_held (its_guest r) (arrive_again t (its_guest r).held)) _ _ true true o is e.0 play.0 turn (shifted_is r ArriveAgain true true o.q.cpu refl o.q.alone);
+      visits = visits_on v Given ArriveAgain c.step.new.self _ new (with_held (its_guest r) (arrive_again t (its_guest r).held)) _ _ Twice o is e.0 play.0 turn (shifted_is r ArriveAgain Twice o.q.cpu refl o.q.alone);
       phase = in_its_phase Arrived2 c.step.new.self.system o.q.cpu (ap (λ (m : Machine). m.system.processors) o.is ∙ o.q.alone) (ap (λ (x : Stage). x.0) o.q.stage);
     }

@@ -19,13 +19,14 @@ use Rattle.mt_private.specs.declared.view.YardView.{YardView}
 use Rattle.mt_private.proofs.Alone.{called, due_take, in_its_phase, in_phase_one, its_phase, one_all, one_drained, onward}
 use Rattle.mt_private.proofs.Carried.{carried, has_done, its_guest, stepped_done, takes_kept, takes_of, took, visits_first}
 use Rattle.mt_private.proofs.Residents.Plays.{takes_yard}
+use Rattle.mt_rendezvous.specs.declared.view.Added.TheVariants.{Never}
 use Rattle.mt_private.proofs.visiting.YardPass.take.Goals as goal
 
 pub load-found-requires : goal.load-found-requires
 load-found-requires c =
     let r = c.requires.ready.lodges in
     let w = c.args.yard.now.wide in
-    (r.same, omega arith, takes_yard c.args.yard.now.table.shared.key _ _ c.args.self.now.seat.me (its_guest r) r.holds c.args.self.now.no_root refl refl (its_phase Running c.args.core.now.system r.cpu r.alone c.requires.ready.runs))
+    (r.same, omega arith, takes_yard c.args.yard.now.table.shared.key _ _ c.args.self.now.seat.me (its_guest r) r.holds c.args.self.now.no_root refl (its_phase Running c.args.core.now.system r.cpu r.alone c.requires.ready.runs))
 
 pub invariant_of-self-clause-known : goal.invariant_of-self-clause-known
 invariant_of-self-clause-known c =
@@ -50,7 +51,7 @@ returns-then-found-ge-CANCEL-clause-left c _ =
     let play = takes_of r c.args.self.now.no_root _ _ c.load-found.new.seat.me c.load-found.ensures.2 in
     let turn = (play.2 c.if-found-ge-CANCEL.true) (its_guest r) r.holds in
     record {
-      lodges = (false, carried r _ c.load-found.new.seat.me (its_guest r) _ _ c.args.core.now.system r.cpu false false e.0 play.0 turn.0 r.alone refl);
+      lodges = (Never, carried r _ c.load-found.new.seat.me (its_guest r) _ _ c.args.core.now.system r.cpu Never e.0 play.0 turn.0 r.alone refl, refl);
       cancel = ap (λ (v : YardView). v.cancel) turn.0;
       left = inl refl;
     }
@@ -62,7 +63,7 @@ pub call-requires-clause-fits : goal.call-requires-clause-fits
 call-requires-clause-fits c =
     let r = c.requires.ready.lodges in
     let k = took r c.load-found.result c.load-found.new.seat.me (takes_of r c.args.self.now.no_root _ _ c.load-found.new.seat.me c.load-found.ensures.2).1 (let low = c.if-found-ge-CANCEL.false in omega arith) in
-    one_all (FitsGoal c.same.result) c.args.core.now.system.processors r.cpu r.alone (subst (λ (g : RegisterFile). FitsGoal g r.cpu) (sym (c.same.ensures ∙ c.requires.goal)) k.2)
+    one_all (FitsGoal c.args.goal.now) c.args.core.now.system.processors r.cpu r.alone (subst (λ (g : RegisterFile). FitsGoal g r.cpu) (sym c.requires.goal) k.2)
 
 pub call-requires-clause-room : goal.call-requires-clause-room
 call-requires-clause-room c =
@@ -82,8 +83,8 @@ unreachable-requires c = one c.in_default.field-0 c.in_default.is
         cc
     one (Refused fault) is =
         let k = took c.requires.ready.lodges c.load-found.result c.load-found.new.seat.me (takes_of c.requires.ready.lodges c.args.self.now.no_root _ _ c.load-found.new.seat.me c.load-found.ensures.2).1 (let low = c.if-found-ge-CANCEL.false in omega arith) in
-        let accepted : IsAccepted c.same.result = subst IsAccepted (sym (c.same.ensures ∙ c.requires.goal)) k.0.enabled.2 in
-        let none : Some fault ≡ None = one_first_fault_lem c.same.result (Some fault) None (c.call.ensures.refused fault is).1 accepted in
+        let accepted : IsAccepted c.args.goal.now = subst IsAccepted (sym c.requires.goal) k.0.enabled.2 in
+        let none : Some fault ≡ None = one_first_fault_lem c.args.goal.now (Some fault) None (c.call.ensures.refused fault is).1 accepted in
         cc
 
 pub returns-clause-done : goal.returns-clause-done
@@ -103,7 +104,7 @@ returns-clause-taken c _ =
     let none = c.requires.ready.idle in
     let runs = its_phase Running s r.cpu r.alone c.requires.ready.runs in
     let o = onward t Pending s r.cpu Take c.call.new.self c.step.new.self
-    (c.in-Ok.ensures.called.2 ∙ called t c.args.core.now c.same.result r.cpu none r.alone k.3 (c.same.ensures ∙ c.requires.goal))
+    (c.in-Ok.ensures.called.2 ∙ called t c.args.core.now c.args.goal.now r.cpu none r.alone k.3 c.requires.goal)
     c.step.ensures.after r.alone k.3 (due_take t Pending r.cpu runs k.3 refl) refl refl in
     let quiet = subst IsQuiet (λ i. record { system = s; order = none i }) (is_quiet_without_order c.args.core.now c.a_core_arises.ensures.arises none) in
     let fits = one_all (FitsGoal t.goal) s.processors r.cpu r.alone k.2 in

@@ -19,6 +19,7 @@ use Rattle.mt_private.specs.YardCalls.{AreIn}
 use Rattle.mt_private.proofs.Alone.{cancelled, does_due, given, in_its_phase, its_phase, one_step, onward, passes_alone, taken_on}
 use Rattle.mt_private.proofs.Carried.{carried, core_is, guest, has_done, its_era, its_guest, of_guest, passes_kept, passes_of, shifted_is, visits_on}
 use Rattle.mt_private.proofs.Residents.Plays.{passes_yard}
+use Rattle.mt_rendezvous.specs.declared.view.Added.TheVariants.{Once}
 use Rattle.mt_private.proofs.visiting.YardPass.wait_first.Goals as goal
 
 -- the phase of one that waits
@@ -38,7 +39,7 @@ load-found-requires g c =
     let w = c.args.yard.now.wide in (
       r.same,
       omega arith,
-      passes_yard c.args.yard.now.table.shared.key _ _ c.loop.self.seat.me (its_guest r) r.holds c.loop.self.no_root refl refl (waiting c.loop.core.system r.cpu r.alone h.phase),
+      passes_yard c.args.yard.now.table.shared.key _ _ c.loop.self.seat.me (its_guest r) r.holds c.loop.self.no_root refl (waiting c.loop.core.system r.cpu r.alone h.phase),
     )
 
 pub invariant_of-self-clause-known : goal.invariant_of-self-clause-known
@@ -93,9 +94,10 @@ returns-then-found-ge-CANCEL-clause-left g c _ first before =
     of_guest r (λ u y. new.0 ≡ with_one me.0 (with_held y (does u Leave y.held)) me.0.shown true) (λ y same. (tells y same).0) in
     record {
       lodges = (
-        true,
-        carried r _ new (with_held (its_guest r) (does t Leave (its_guest r).held)) _ _ c.step.new.self.system q.cpu true false e.0 play.0 turn (ap (λ (z : System). z.processors) is ∙ q.alone)
-            (shifted_is r Leave true false q.cpu refl q.alone ∙ ap (λ (z : System). guest c.loop.self.number q.cpu true false z.memory (its_guest r).done (its_guest r).stored) (sym is)),
+        Once,
+        carried r _ new (with_held (its_guest r) (does t Leave (its_guest r).held)) _ _ c.step.new.self.system q.cpu Once e.0 play.0 turn (ap (λ (z : System). z.processors) is ∙ q.alone)
+            (shifted_is r Leave Once q.cpu refl q.alone ∙ ap (λ (z : System). guest c.loop.self.number q.cpu Once z.memory (its_guest r).done (its_guest r).stored) (sym is)),
+        refl,
       );
       cancel = ap (λ (u : YardView). u.cancel) (tells (its_guest r) r.holds).0;
       left = inr (is ∙ taken_on Running first s r.cpu r.alone h.drained);
@@ -144,7 +146,7 @@ returns-then-found-yard-clause-passed g c _ first before =
     let said = c.go.ensures.after (c.go.ensures.given.1 (ap (option_map (λ (o : Order). o.go)) v.order)) ∙ given t c.loop.core s r.cpu (core_is v) r.alone (its_era v) in
     let o = onward t Given s r.cpu Pass c.go.new.self c.step-then-found-yard.new.self said c.step-then-found-yard.ensures.after r.alone (its_era v) (passes_alone t r.cpu arrived) refl refl in
     record {
-      visits = visits_on v Given Pass c.step-then-found-yard.new.self _ new (with_held (its_guest r) (does t Pass (its_guest r).held)) _ _ true false o (passes_alone t r.cpu arrived) e.0 play.0 turn (shifted_is r Pass true false o.q.cpu refl o.q.alone);
+      visits = visits_on v Given Pass c.step-then-found-yard.new.self _ new (with_held (its_guest r) (does t Pass (its_guest r).held)) _ _ Once o (passes_alone t r.cpu arrived) e.0 play.0 turn (shifted_is r Pass Once o.q.cpu refl o.q.alone);
       phase = in_its_phase Passed c.step-then-found-yard.new.self.system o.q.cpu (ap (λ (m : Machine). m.system.processors) o.is ∙ o.q.alone) (ap (λ (x : Stage). x.0) o.q.stage);
     }
 
@@ -167,7 +169,7 @@ loop-preserved g c =
           let r = v.lodges in
           record {
             visits = record {
-              lodges = carried r _ c.load-found.new.seat.me (its_guest r) _ _ c.loop.core.system r.cpu true false e.0 play.0 (idle (its_guest r) r.holds).0 r.alone refl;
+              lodges = carried r _ c.load-found.new.seat.me (its_guest r) _ _ c.loop.core.system r.cpu Once e.0 play.0 (idle (its_guest r) r.holds).0 r.alone refl;
               order = v.order;
               era = v.era;
               one = v.one;

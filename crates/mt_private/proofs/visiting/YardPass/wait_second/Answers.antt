@@ -19,6 +19,7 @@ use Rattle.mt_private.specs.YardRule.{with_one}
 use Rattle.mt_private.proofs.Alone.{does_due, in_its_phase, its_phase, last_round, one_step, released_alone}
 use Rattle.mt_private.proofs.Carried.{carried, core_is, guest, has_done, its_era, its_guest, of_guest, releases_kept, releases_of, shifted_is}
 use Rattle.mt_private.proofs.Residents.Plays.{releases_yard}
+use Rattle.mt_rendezvous.specs.declared.view.Added.TheVariants.{Twice}
 use Rattle.mt_private.proofs.visiting.YardPass.wait_second.Goals as goal
 
 pub loop-init : goal.loop-init
@@ -31,7 +32,7 @@ load-found-requires g c =
     let w = c.args.yard.now.wide in (
       r.same,
       omega arith,
-      releases_yard c.args.yard.now.table.shared.key _ _ c.loop.self.seat.me (its_guest r) r.holds c.loop.self.no_root refl refl (its_phase Arrived2 c.loop.core.system r.cpu r.alone h.phase),
+      releases_yard c.args.yard.now.table.shared.key _ _ c.loop.self.seat.me (its_guest r) r.holds c.loop.self.no_root refl (its_phase Arrived2 c.loop.core.system r.cpu r.alone h.phase),
     )
 
 pub invariant_of-self-clause-known : goal.invariant_of-self-clause-known
@@ -80,8 +81,8 @@ returns-then-found-yard-clause-released g c =
     let turn : new.0 ≡ with_one me.0 (with_held (its_guest r) (does t Release (its_guest r).held)) (Some c.load-found.result) me.0.cancel =
     of_guest r (λ u y. new.0 ≡ with_one me.0 (with_held y (does u Release y.held)) (Some c.load-found.result) me.0.cancel) (λ y same. (tells y same).0) in
     record {
-      lodges = carried r _ new (with_held (its_guest r) (does t Release (its_guest r).held)) _ _ c.step.new.self.system q.cpu true true e.0 play.0 turn alone
-          (shifted_is r Release true true q.cpu refl q.alone ∙ ap (λ (z : System). guest c.loop.self.number q.cpu true true z.memory (its_guest r).done (its_guest r).stored) (sym is));
+      lodges = carried r _ new (with_held (its_guest r) (does t Release (its_guest r).held)) _ _ c.step.new.self.system q.cpu Twice e.0 play.0 turn alone
+          (shifted_is r Release Twice q.cpu refl q.alone ∙ ap (λ (z : System). guest c.loop.self.number q.cpu Twice z.memory (its_guest r).done (its_guest r).stored) (sym is));
       runs = in_its_phase Running c.step.new.self.system q.cpu alone (ap (λ (x : Stage). x.0) q.stage);
       shown = ap (λ (u : YardView). u.shown) (tells (its_guest r) r.holds).0 ∙ ap (λ (n : ℕ). Some n) full;
     }
@@ -114,7 +115,7 @@ loop-preserved g c =
           let r = v.lodges in
           record {
             visits = record {
-              lodges = carried r _ c.load-found.new.seat.me (its_guest r) _ _ c.loop.core.system r.cpu true true e.0 play.0 (idle (its_guest r) r.holds).0 r.alone refl;
+              lodges = carried r _ c.load-found.new.seat.me (its_guest r) _ _ c.loop.core.system r.cpu Twice e.0 play.0 (idle (its_guest r) r.holds).0 r.alone refl;
               order = v.order;
               era = v.era;
               one = v.one;

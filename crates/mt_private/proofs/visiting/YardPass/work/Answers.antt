@@ -19,6 +19,7 @@ use Rattle.mt_private.specs.YardCalls.{AreIn}
 use Rattle.mt_private.proofs.Alone.{in_its_phase, its_phase, onward}
 use Rattle.mt_private.proofs.Carried.{core_is, guest, has_done, has_stored, its_era, its_guest, of_guest, stepped_done, stepped_is, visits_on, works_of}
 use Rattle.mt_private.proofs.Residents.Plays.{works_yard}
+use Rattle.mt_rendezvous.specs.declared.view.Added.TheVariants.{Once}
 use Rattle.mt_private.proofs.visiting.YardPass.work.Goals as goal
 
 -- its event, whatever else there is
@@ -38,7 +39,7 @@ store-requires c =
     let w = c.args.yard.now.wide in
     let n = c.args.yard.now.counted in
     let below = r.below in
-    (r.same, omega arith, works_yard c.args.yard.now.table.shared.key _ _ c.args.self.now.seat.me (its_guest r) r.holds c.args.self.now.no_root _ _ refl refl refl (local_at c.args.core.now.system r.cpu b.0 r.alone b.1 b.2))
+    (r.same, omega arith, works_yard c.args.yard.now.table.shared.key _ _ c.args.self.now.seat.me (its_guest r) r.holds c.args.self.now.no_root _ _ refl refl (local_at c.args.core.now.system r.cpu b.0 r.alone b.1 b.2))
 
 pub invariant_of-self-clause-known : goal.invariant_of-self-clause-known
 invariant_of-self-clause-known c =
@@ -75,9 +76,9 @@ returns-clause-between c first h =
     let o = onward t Given s r.cpu event c.args.core.now c.step.new.self (core_is v) c.step.ensures.after r.alone (its_era v) (is_due t r.cpu local (order_of t Given) (r.cpu ∷ [])) (keeps t r.cpu local).1 refl in
     let is = stepped_is r event o.q.cpu o.q.alone in
     record {
-      visits = visits_on v Given event c.step.new.self _ new (with_stored (stepped_by t event (its_guest r)) n) _ _ true false o (is_due t r.cpu local (order_of t Given) (r.cpu ∷ [])) e.0 play.0 turn
+      visits = visits_on v Given event c.step.new.self _ new (with_stored (stepped_by t event (its_guest r)) n) _ _ Once o (is_due t r.cpu local (order_of t Given) (r.cpu ∷ [])) e.0 play.0 turn
           (ap (λ (y : Resident). with_stored y n) is
-          ∙ (λ i. guest c.args.self.now.number o.q.cpu true false (step t.goal event 0 s).memory ((sym is i).done) n));
+          ∙ (λ i. guest c.args.self.now.number o.q.cpu Once (step t.goal event 0 s).memory ((sym is i).done) n));
       phase = (
         o.q.cpu.phase,
         in_its_phase o.q.cpu.phase c.step.new.self.system o.q.cpu (ap (λ (m : Machine). m.system.processors) o.is ∙ o.q.alone) refl,

@@ -1,4 +1,4 @@
-use Rattle.std.proofs.Common.{true, false, map, refl, subst, sym, ap, ◌∙◌, inl, inr, arith}
+use Rattle.std.proofs.Common.{map, refl, subst, sym, ap, ◌∙◌, inl, inr, arith}
 use Rattle.mt_machine.specs.declared.phase.Phase.{Phase}
 use Rattle.mt_machine.specs.System.{Processor}
 use Rattle.mt_rendezvous.specs.declared.view.View.{View}
@@ -8,6 +8,7 @@ use Rattle.mt_rendezvous.proofs.Told.{arrives_told}
 use Rattle.std.proofs.Common.{◌≡◌, Some}
 use Rattle.std.specs.Prelude.{slice_get}
 use Rattle.mt_rendezvous.proofs.Carried.{carried, of_it}
+use Rattle.mt_rendezvous.specs.declared.view.Added.TheVariants.{Once}
 use Rattle.mt_rendezvous.proofs.station.Pass.arrive.Goals as goal
 
 pub fetch_add-found-requires : goal.fetch_add-found-requires
@@ -21,8 +22,8 @@ returns-then-found-lt-CANCEL-clause-arrived c =
     let moves = (tells.3 c.if-found-lt-CANCEL.true).0 in
     let is = c.shift.ensures c.args.station.now.table.shared.key.goal.value in record {
       begins = subst Begins c.requires.carries.told tells.1;
-      carries = carried c.requires.carries _ _ c.shift.new.self true false arrive e.0 tells.0 (ap (λ (v : View). v.held) moves) (ap (λ (v : View). v.start) moves)
-          (ap (λ (p : Processor). held c.args.self.now.number p true false) (sym is));
+      carries = carried c.requires.carries _ _ c.shift.new.self Once arrive e.0 tells.0 (ap (λ (v : View). v.held) moves) (ap (λ (v : View). v.start) moves)
+          (ap (λ (p : Processor). held c.args.self.now.number p Once) (sym is));
       waits = inr (ap (λ (p : Processor). p.phase) is);
     }
 
@@ -33,7 +34,7 @@ returns-clause-arrived c =
     let late_came = c.if-found-lt-CANCEL.false in
     let moves = (tells.4 (omega arith)).0 in record {
       begins = subst Begins c.requires.carries.told tells.1;
-      carries = carried c.requires.carries _ _ c.args.cpu.now true false (λ t. late) e.0 tells.0 (ap (λ (v : View). v.held) moves) (ap (λ (v : View). v.start) moves) refl;
+      carries = carried c.requires.carries _ _ c.args.cpu.now Once (λ t. late) e.0 tells.0 (ap (λ (v : View). v.held) moves) (ap (λ (v : View). v.start) moves) refl;
       waits = inl c.requires.taken;
     }
 

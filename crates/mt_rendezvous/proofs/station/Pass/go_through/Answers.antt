@@ -1,10 +1,9 @@
-use Rattle.std.proofs.Common.{ℕ, true, Some, sym, ap, ◌∙◌, subst}
+use Rattle.std.proofs.Common.{ℕ, Some, sym, ap, ◌∙◌, subst}
 use Rattle.mt_machine.specs.declared.event.Event.TheVariants.{Release}
 use Rattle.mt_machine.specs.System.{Processor}
 use Rattle.mt_rendezvous.specs.declared.view.Start.{Start}
 use Rattle.mt_rendezvous.specs.Station.{start_of}
 use Rattle.mt_rendezvous.specs.Plays.{Took}
-use Rattle.mt_rendezvous.specs.Calls.{Carries}
 use Rattle.mt_rendezvous.proofs.Ends.{settled}
 use Rattle.mt_rendezvous.proofs.station.Pass.go_through.Goals as goal
 
@@ -16,7 +15,7 @@ returns-clause-attended g c =
     let q : Processor = c.wait_second.new.cpu in
     let k : ℕ = c.args.self.now.number in
     let took : Took t k Release c.change.new.cpu q = subst (λ (n : ℕ). Took t n Release c.change.new.cpu q) number w.took in (
-      subst (λ (n : ℕ). Carries c.args.station.now.table.shared.table_id t c.wait_second.new.self.seat.table_id c.wait_second.new.self.seat.me n q true true) number w.released.carries,
+      w.released.carries,
       w.released.shown ∙ ap (λ (n : ℕ). Some n) (sym c.args.station.now.counted),
       settled t c.arrive.ensures.arrived.begins k c.change.new.cpu q took c.args.cpu.now c.arrive.ensures.first w.released.risen,
     )

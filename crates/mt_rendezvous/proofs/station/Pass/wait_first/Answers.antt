@@ -1,4 +1,4 @@
-use Rattle.std.proofs.Common.{◌≡◌, ◌∙◌, length, true, false, sym, ap, subst, arith}
+use Rattle.std.proofs.Common.{◌≡◌, ◌∙◌, length, sym, ap, subst, arith}
 use Rattle.mt_machine.specs.declared.phase.Phase.TheVariants.{Arrived}
 use Rattle.mt_machine.specs.declared.event.Event.TheVariants.{Leave, Pass}
 use Rattle.mt_machine.specs.declared.go.Go.TheVariants.{Given}
@@ -11,6 +11,7 @@ use Rattle.mt_machine.specs.Machine.{is_changing, own_step}
 use Rattle.mt_rendezvous.specs.Plays.{Stands, does}
 use Rattle.mt_rendezvous.proofs.Told.{passes_told}
 use Rattle.mt_rendezvous.proofs.Carried.{carried, of_it}
+use Rattle.mt_rendezvous.specs.declared.view.Added.TheVariants.{Once}
 use Rattle.mt_rendezvous.proofs.station.Pass.wait_first.Goals as goal
 
 pub load-found-requires : goal.load-found-requires
@@ -25,8 +26,8 @@ returns-then-found-ge-CANCEL-clause-waited g c =
     let t : Start = start_of c.args.station.now.table.shared.key in
     let is = c.shift.ensures t.goal in (
       record {
-        carries = carried c.loop.invariant.carries _ _ c.shift.new.self true false (λ t. does t Leave) e.0 tells.0 (ap (λ (v : View). v.held) moves) (ap (λ (v : View). v.start) moves)
-            (ap (λ (p : Processor). held c.loop.self.number p true false) (sym is));
+        carries = carried c.loop.invariant.carries _ _ c.shift.new.self Once (λ t. does t Leave) e.0 tells.0 (ap (λ (v : View). v.held) moves) (ap (λ (v : View). v.start) moves)
+            (ap (λ (p : Processor). held c.loop.self.number p Once) (sym is));
         runs = ap (λ (p : Processor). p.phase) is;
       },
       is ∙ ap (λ (p : Processor). own_step t.goal Leave p) c.loop.invariant.cpu,
@@ -57,8 +58,8 @@ returns-then-found-station-clause-waited g c =
     let passed = of_it r (λ u h. (h.cpu.phase ≡ Arrived) × Stands u Given h.number (does u Pass h).cpu) full.2 in (
       record {
         begins = c.requires.arrived.begins;
-        carries = carried r _ _ c.shift-then-found-station.new.self true false (λ t. does t Pass) e.0 tells.0 (ap (λ (v : View). v.held) moves) (ap (λ (v : View). v.start) moves)
-            (ap (λ (p : Processor). held c.loop.self.number p true false) (sym is));
+        carries = carried r _ _ c.shift-then-found-station.new.self Once (λ t. does t Pass) e.0 tells.0 (ap (λ (v : View). v.held) moves) (ap (λ (v : View). v.start) moves)
+            (ap (λ (p : Processor). held c.loop.self.number p Once) (sym is));
         stands = subst (Stands t Given c.loop.self.number) (sym is) passed.1;
         between = ap (λ (p : Processor). is_changing p.phase) is;
       },

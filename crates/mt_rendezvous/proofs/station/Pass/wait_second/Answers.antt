@@ -1,4 +1,4 @@
-use Rattle.std.proofs.Common.{◌≡◌, ℕ, ◌+◌, length, true, Some, sym, ap, ◌∙◌, subst, arith}
+use Rattle.std.proofs.Common.{◌≡◌, ℕ, ◌+◌, length, Some, sym, ap, ◌∙◌, subst, arith}
 use Rattle.mt_machine.specs.declared.event.Event.TheVariants.{Release}
 use Rattle.mt_machine.specs.System.{Processor}
 use Rattle.mt_machine.specs.Machine.{Steps, common_era}
@@ -6,10 +6,11 @@ use Rattle.mt_rendezvous.specs.declared.view.View.{View}
 use Rattle.mt_rendezvous.specs.declared.view.Start.{Start}
 use Rattle.mt_rendezvous.specs.Station.{held, start_of}
 use Rattle.mt_rendezvous.specs.declared.view.Held.{Held}
-use Rattle.mt_rendezvous.specs.Plays.{PassSteps, Took, does}
+use Rattle.mt_rendezvous.specs.Plays.{PassSteps, Took, does, word_step}
 use Rattle.mt_rendezvous.proofs.Keeps.{took_of}
 use Rattle.mt_rendezvous.proofs.Told.{releases_told}
 use Rattle.mt_rendezvous.proofs.Carried.{carried, of_it}
+use Rattle.mt_rendezvous.specs.declared.view.Added.TheVariants.{Twice}
 use Rattle.mt_rendezvous.proofs.station.Pass.wait_second.Goals as goal
 
 pub load-found-requires : goal.load-found-requires
@@ -28,8 +29,8 @@ returns-then-found-station-clause-released g c =
     let full = tells.2 (omega arith) in
     let moves = full.0 in
     let is = c.shift.ensures t.goal in record {
-      carries = carried r _ _ c.shift.new.self true true (λ t. does t Release) e.0 tells.0 (ap (λ (v : View). v.held) moves) (ap (λ (v : View). v.start) moves)
-          (ap (λ (p : Processor). held c.loop.self.number p true true) (sym is));
+      carries = carried r _ _ c.shift.new.self Twice (λ t. does t Release) e.0 tells.0 (ap (λ (v : View). v.held) moves) (ap (λ (v : View). v.start) moves)
+          (ap (λ (p : Processor). held c.loop.self.number p Twice) (sym is));
       shown = ap (λ (v : View). v.shown) moves ∙ ap Some same;
       runs = ap (λ (p : Processor). p.phase) is;
       risen = ap (λ (p : Processor). p.era) is ∙ ap (λ (n : ℕ). n + 1) (of_it r (λ u h. h.cpu.era ≡ common_era u.cpus) full.2);
@@ -44,8 +45,8 @@ returns-then-found-station-clause-took g c =
     let counted = c.args.station.now.counted in
     let same = c.if-found-station.true in
     let is = c.shift.ensures t.goal in
-    let h : Held = held c.loop.self.number c.loop.cpu true true in
-    let took = took_of t 1 c.load-found.result c.load-found.result Release h (does t Release h) (of_it r (λ u x. PassSteps u 1 c.load-found.result c.load-found.result (Some (Steps x.number Release)) x (does u Release x)) (tells.2 (omega arith)).1) in
+    let h : Held = held c.loop.self.number c.loop.cpu Twice in
+    let took = took_of t 1 c.load-found.result c.load-found.result Release h (does t Release h) (of_it r (λ u x. PassSteps u (word_step 1 c.load-found.result c.load-found.result) (Some (Steps x.number Release)) x (does u Release x)) (tells.2 (omega arith)).1) in
     subst (λ (p : Processor). Took t c.loop.self.number Release p c.shift.new.self) c.loop.invariant.cpu (subst (Took t c.loop.self.number Release c.loop.cpu) (sym is) took)
 
 pub shift-requires-clause-room : goal.shift-requires-clause-room

@@ -1,7 +1,7 @@
-use Rattle.std.proofs.Common.{◌≡◌, true}
-use Rattle.mt_rendezvous.specs.Station.{start_of}
-use Rattle.mt_rendezvous.specs.Calls.{Carries}
+use Rattle.std.proofs.Common.{◌≡◌}
+use Rattle.mt_rendezvous.specs.declared.view.Added.TheVariants.{Twice}
+use Rattle.mt_rendezvous.specs.InStation.{CarriesIn}
 use Rattle.mt_rendezvous.proofs.station.Pass.wait_second.Given as goal
 
 abbrev pub invariant-loop : goal.invariant-loop
-invariant-loop g l = record { carries : Carries l.station.table.shared.table_id (start_of l.station.table.shared.key) l.self.seat.table_id l.self.seat.me l.self.number l.cpu true true; cpu : l.cpu ≡ l.initial.cpu; number : l.self.number ≡ l.initial.self.number }
+invariant-loop g l = record { carries : CarriesIn l.station l.self l.cpu Twice; cpu : l.cpu ≡ l.initial.cpu; number : l.self.number ≡ l.initial.self.number }

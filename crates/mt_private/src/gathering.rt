@@ -7,7 +7,7 @@ use mt_regs::RegFile;
 
 /// What is lent to the threads of one run: the yard, its goal, and the job of each processor.
 #[derive(Drop)]
-pub struct Session {
+pub struct Gathering {
     pub yard: Yard,
     pub goal: RegFile,
     pub jobs: Vec<Job>,
@@ -24,9 +24,9 @@ pub struct Queue {
 }
 
 // The job of processor k.
-pub(crate) fn job_of(session: &Session, k: usize) -> &Job
-    requires { k < length session.now.jobs.items }
-    ensures { slice_get session.now.jobs.items k ≡ Some result.now }
+pub(crate) fn job_of(gathering: &Gathering, k: usize) -> &Job
+    requires { k < length gathering.now.jobs.items }
+    ensures { slice_get gathering.now.jobs.items k ≡ Some result.now }
 {
-    &session.jobs[k]
+    &gathering.jobs[k]
 }
