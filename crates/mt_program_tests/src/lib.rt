@@ -1,4 +1,5 @@
-//! Tests of the top call and of summaries: what rows can't say, as ports that fail, gates, and texts that are long.
+//! Tests of the top call, of summaries, and of logs and pictures: what rows can't say, as ports that fail, gates, and texts that are
+//! long.
 #![tactic(auto)]
 
 #[cfg(test)]
@@ -7,6 +8,8 @@ mod failing_ports;
 mod gates;
 #[cfg(test)]
 mod jobs;
+#[cfg(test)]
+mod logs;
 #[cfg(test)]
 mod long_texts;
 #[cfg(test)]

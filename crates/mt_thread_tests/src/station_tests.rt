@@ -6,15 +6,13 @@ ghost use Rattle.mt_rendezvous.specs.Station.{Begins};
 ghost use Rattle.mt_rendezvous.specs.Calls.{gathered};
 ghost use Rattle.mt_rendezvous.specs.InStation.{AllNewIn, HoldsOneIn, IsNewIn, IsRootIn, LeadsIn, goal_at, start_at, windows_at};
 
-use crate::checks::{holds, holds_at, some};
-use crate::common::{file, is_same_cpu, may_call, word};
-use crate::update_tests::{core_of, store};
+use crate::checks::succeeds_at;
+use crate::common::{Windows, core_of, file, is_same_cpu, is_same_memory, may_call, store, word};
 use mt_bus::SystemParts;
 use mt_core::{Core, a_core_arises};
 use mt_cpu::Cpu;
 use mt_gates::AllBut;
 use mt_kinds::MemType;
-use mt_machine::Done;
 use mt_ram::Ram;
 use mt_regs::RegFile;
 use mt_rendezvous::{Attendee, Outcome, Root, Station, attend, call_and_take, disband};
@@ -29,16 +27,24 @@ mod endings;
 
 use endings::{Ending, end, finish, leave_all};
 
-/// So many processors, each with one dirty line.
-fn dirty_row(alloc: Global, count: u32) -> Option<Core> {
-    let mut core = core_of(alloc, count, 6)?;
+/// Each of so many processors stores a word as WB, in a line of its own.
+fn dirties(core: &mut Core, count: u32) -> bool {
     for k in 0..count {
-        let stored = store(&mut core, k, 0x40 * k as u64, 0x2a + k as u64)?;
-        if stored != Done::Stored(MemType::WB) {
-            return None;
+        if store(core, k, 0x40 * k as u64, 0x2a + k as u64) != Some(MemType::WB) {
+            return false;
         }
     }
-    Some(core)
+    true
+}
+
+/// So many processors, each with one dirty line.
+fn dirty_row(alloc: Global, count: u32) -> Option<Core> {
+    let mut core = core_of(alloc, count, 6, Windows::Common)?;
+    if dirties(&mut core, count) {
+        Some(core)
+    } else {
+        None
+    }
 }
 
 /// Calls, and lets each take, where the call's conditions hold.
@@ -241,106 +247,100 @@ fn ends_of<R: Threads + Wait + Clock + Sync>(
     Some(Row { done, ram, gate })
 }
 
-/// Whether the word of memory at this address is this one.
-fn is_word(row: &Row, address: u64, value: u64) -> bool {
-    word(&row.ram, address) == Some(value)
-}
-
-/// Whether it completed, and was shown so many.
-fn has_completed(told: &Told, count: u32) -> bool {
-    told.outcome == Outcome::Complete && told.shown == Some(count)
-}
-
-/// Whether it left, was shown nothing, and has its one dirty line.
-fn has_left(told: &Told) -> bool {
-    let cache = told.cpu.cache();
-    told.outcome == Outcome::Cancelled
-        && told.shown.is_none()
-        && cache.len() == 1
-        && cache.nth(0).dirty == 1
-}
-
-/// Whether so many left.
-fn all_left(done: &[Told], count: usize) -> bool {
-    for told in done {
-        if !has_left(told) {
+/// Whether the words of so many processors were written back, or none was.
+fn has_words(ram: &Ram, count: u32, written: bool) -> bool {
+    for k in 0..count {
+        let value = if written { 0x2a + k as u64 } else { 0 };
+        if word(ram, 0x10_0000 + 0x40 * k as u64) != Some(value) {
             return false;
         }
     }
-    done.len() == count
+    true
 }
 
-#[test]
-fn two_complete(rt: HostRuntime) {
-    let row = some(&rt, ends_of(&rt, rt.alloc(), 2, Ending::Go));
-    holds(&rt, row.done.len() == 2);
-    for told in row.done.iter() {
-        holds(&rt, has_completed(told, 2));
-    }
-    holds(&rt, is_word(&row, 0x10_0000, 0x2a));
-    holds(&rt, is_word(&row, 0x10_0040, 0x2b));
-    holds(&rt, row.gate.told_each(0..2, 1));
+/// Whether it was shown nothing, and has its one dirty line.
+fn has_left(told: &Told) -> bool {
+    let cache = told.cpu.cache();
+    told.shown.is_none() && cache.len() == 1 && cache.nth(0).dirty == 1
 }
 
-#[test]
-fn two_leave(rt: HostRuntime) {
-    let row = some(&rt, ends_of(&rt, rt.alloc(), 2, Ending::Cancel));
-    holds(&rt, all_left(row.done.as_slice(), 2));
-    holds(&rt, is_word(&row, 0x10_0000, 0));
-    holds(&rt, is_word(&row, 0x10_0040, 0));
-    holds(&rt, row.gate.told_each(0..2, 1));
-}
-
-/// Whether the row ends with this outcome as the core does, each pass having told the gate once.
-fn ends_as(row: &Row, core: &Core, outcome: Outcome, shown: Option<u32>) -> bool {
-    let cpus = core.system().cpus();
-    let mut each = row.done.iter().zip(cpus.iter());
-    row.done.len() == cpus.len()
-        && row.gate.told_each(0..16, 1)
-        && each.all(|(told, cpu)| {
-            told.outcome == outcome && told.shown == shown && is_same_cpu(&told.cpu, cpu)
-        })
-        && (0..16u64).all(|k| {
-            let address = 0x10_0000 + 0x40 * k;
-            word(&row.ram, address) == word(core.system().ram(), address)
-        })
-}
-
-/// Sixteen dirty processors that have taken.
-fn taken_row(alloc: Global) -> Option<Core> {
-    let mut core = dirty_row(alloc, 16)?;
-    if !take(&mut core, &file(0)?) {
-        return None;
-    }
-    Some(core)
-}
-
-#[test]
-fn sixteen_end_as_by_turns(rt: HostRuntime) {
-    let mut core = some(&rt, taken_row(rt.alloc()));
-    if core.order().is_some() {
-        core.round();
-    }
-    for round in 0..200u64 {
-        let row = some(&rt, ends_of(&rt, rt.alloc(), 16, Ending::Go));
-        let alike = ends_as(&row, &core, Outcome::Complete, Some(16));
-        holds_at(&rt, round, alike);
+/// Whether it completed and was shown so many, or left.
+fn has_ended(told: &Told, count: u32, ending: Ending) -> bool {
+    match ending {
+        Ending::Go => told.outcome == Outcome::Complete && told.shown == Some(count),
+        _ => told.outcome == Outcome::Cancelled && has_left(told),
     }
 }
 
-#[test]
-fn sixteen_leave_as_by_steps(rt: HostRuntime) {
-    let mut core = some(&rt, taken_row(rt.alloc()));
-    core.cancel();
+/// Whether each has ended so, as the core's processor.
+fn have_ended(done: &[Told], cpus: &[Cpu], ending: Ending) -> bool {
+    if done.len() != cpus.len() || done.len() > 16 {
+        return false;
+    }
+    for k in 0..done.len() {
+        let is_so = has_ended(&done[k], done.len() as u32, ending);
+        if !is_so || !is_same_cpu(&done[k].cpu, &cpus[k]) {
+            return false;
+        }
+    }
+    true
+}
+
+/// Whether the row of so many ends so as the core does, each pass having told the gate once.
+fn ends_as(row: &Row, core: &Core, count: u32, ending: Ending) -> bool {
+    have_ended(row.done.as_slice(), core.system().cpus(), ending)
+        && is_same_memory(&row.ram, core.system().ram())
+        && has_words(&row.ram, count, matches!(ending, Ending::Go))
+        && row.gate.told_each(0..count, 1)
+}
+
+/// Each processor steps once.
+fn steps(core: &mut Core) {
     for k in 0..16 {
         if k < core.system().cpus().len() {
             core.step(k as u32);
         }
     }
-    holds(&rt, core.order().is_none());
-    for round in 0..200u64 {
-        let row = some(&rt, ends_of(&rt, rt.alloc(), 16, Ending::Cancel));
-        holds_at(&rt, round, ends_as(&row, &core, Outcome::Cancelled, None));
+}
+
+/// Ends an update in which each has taken, by the core's own calls.
+fn ends(core: &mut Core, ending: Ending) -> bool {
+    if let Ending::Go = ending {
+        if core.order().is_some() {
+            core.round();
+        }
+    } else {
+        core.cancel();
+        steps(core);
+    }
+    core.order().is_none()
+}
+
+/// Whether so many rows, each of so many processors, end so as a core does by its own calls.
+fn rows_end_as<R: Threads + Wait + Clock + Sync>(
+    rt: &R,
+    alloc: Global,
+    count: u32,
+    ending: Ending,
+    rows: u32,
+) -> Option<bool> {
+    let goal = file(0)?;
+    let mut core = dirty_row(alloc, count)?;
+    let mut alike = take(&mut core, &goal) && ends(&mut core, ending);
+    for _ in 0..rows {
+        let row = ends_of(rt, alloc, count, ending)?;
+        alike = alike && ends_as(&row, &core, count, ending);
+    }
+    Some(alike)
+}
+
+#[test]
+fn each_ends_as_by_the_cores_calls(rt: HostRuntime) {
+    for ending in [Ending::Go, Ending::Cancel] {
+        let two = rows_end_as(&rt, rt.alloc(), 2, ending, 1);
+        succeeds_at(&rt, 2, two);
+        let sixteen = rows_end_as(&rt, rt.alloc(), 16, ending, 200);
+        succeeds_at(&rt, 16, sixteen);
     }
 }
 
@@ -348,14 +348,7 @@ fn sixteen_leave_as_by_steps(rt: HostRuntime) {
 #[test]
 fn a_station_may_be_cancelled_at_each_arrival(rt: HostRuntime) {
     for late in [3, 2, 1, 0] {
-        let row = some(
-            &rt,
-            ends_of(&rt, rt.alloc(), 3, Ending::CancelAfter { late }),
-        );
-        holds_at(&rt, late as u64, all_left(row.done.as_slice(), 3));
-        holds_at(&rt, late as u64, is_word(&row, 0x10_0000, 0));
-        holds_at(&rt, late as u64, is_word(&row, 0x10_0040, 0));
-        holds_at(&rt, late as u64, is_word(&row, 0x10_0080, 0));
-        holds_at(&rt, late as u64, row.gate.told_each(0..3, 1));
+        let alike = rows_end_as(&rt, rt.alloc(), 3, Ending::CancelAfter { late }, 1);
+        succeeds_at(&rt, late as u64, alike);
     }
 }

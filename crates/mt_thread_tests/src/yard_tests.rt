@@ -13,7 +13,7 @@ ghost use Rattle.mt_private.specs.YardCalls.{AreIn};
 
 use crate::checks::{holds, some};
 use crate::common::{file, may_call, word};
-use crate::job_tests::{core_of, fits_job, jobs_of};
+use crate::job_tests::{fits_job, jobs_of, own_core};
 use mt_bus::System;
 use mt_core::{Core, a_core_arises};
 use mt_gates::AllBut;
@@ -233,7 +233,7 @@ fn come_alone<R: Wait>(
 
 /// What comes of a core's one processor, and the gate.
 fn alone<R: Wait>(rt: &R, alloc: Global, given: bool) -> Option<(Came, AllBut)> {
-    let core = core_of(alloc, 1)?;
+    let core = own_core(alloc, 1)?;
     let goal = file(0)?;
     let jobs = jobs_of(alloc, 1)?;
     if !may_call(&core, &goal) {
@@ -317,7 +317,7 @@ fn come_both<'s, E, R: Threads + Wait + Sync>(
 
 /// What comes of a core's two processors, and the gate.
 fn both<R: Threads + Wait + Sync>(rt: &R, alloc: Global, given: bool) -> Option<(Pair, AllBut)> {
-    let core = core_of(alloc, 2)?;
+    let core = own_core(alloc, 2)?;
     let wanted = file(0)?;
     let all_jobs = jobs_of(alloc, 2)?;
     if !may_call(&core, &wanted) {
@@ -389,33 +389,41 @@ fn has_left(came: &Came, address: u64) -> bool {
         && is_left(&came.own, 0, 1, address, 0)
 }
 
+/// Whether the guest completed if the go was given, and else left.
+fn has_come(came: &Came, given: bool, address: u64, value: u64) -> bool {
+    if given {
+        has_completed(came, address, value)
+    } else {
+        has_left(came, address)
+    }
+}
+
+// It comes after the host's word. So at a cancel it doesn't arrive.
 #[test]
-fn one_completes(rt: HostRuntime) {
-    let (came, gate) = some(&rt, alone(&rt, rt.alloc(), true));
-    holds(&rt, has_completed(&came, 0x10_0000, 0x2a));
-    holds(&rt, gate.told_each(0..1, 1));
+fn one_completes_or_leaves(rt: HostRuntime) {
+    for given in [true, false] {
+        let (came, gate) = some(&rt, alone(&rt, rt.alloc(), given));
+        holds(&rt, has_come(&came, given, 0x10_0000, 0x2a));
+        holds(&rt, gate.told_each(0..1, if given { 1 } else { 0 }));
+    }
+}
+
+/// Whether the gate was told once of both if the go was given. At a cancel the one on the calling thread comes after it, and so
+/// doesn't arrive.
+fn was_told(gate: &AllBut, given: bool) -> bool {
+    if given {
+        gate.told_each(0..2, 1)
+    } else {
+        gate.told_at_most(1..2, 1)
+    }
 }
 
 #[test]
-fn one_leaves(rt: HostRuntime) {
-    let (came, gate) = some(&rt, alone(&rt, rt.alloc(), false));
-    holds(&rt, has_left(&came, 0x10_0000));
-    holds(&rt, gate.told_each(0..1, 0));
-}
-
-#[test]
-fn two_complete(rt: HostRuntime) {
-    let (ended, gate) = some(&rt, both(&rt, rt.alloc(), true));
-    holds(&rt, has_completed(&ended.first, 0x10_0000, 0x2a));
-    holds(&rt, has_completed(&ended.other, 0x20_0000, 0x2b));
-    holds(&rt, gate.told_each(0..2, 1));
-}
-
-// The one on the calling thread comes after the cancel, and so doesn't arrive.
-#[test]
-fn two_leave(rt: HostRuntime) {
-    let (ended, gate) = some(&rt, both(&rt, rt.alloc(), false));
-    holds(&rt, has_left(&ended.first, 0x10_0000));
-    holds(&rt, has_left(&ended.other, 0x20_0000));
-    holds(&rt, gate.told_at_most(1..2, 1));
+fn two_complete_or_leave(rt: HostRuntime) {
+    for given in [true, false] {
+        let (ended, gate) = some(&rt, both(&rt, rt.alloc(), given));
+        holds(&rt, has_come(&ended.first, given, 0x10_0000, 0x2a));
+        holds(&rt, has_come(&ended.other, given, 0x20_0000, 0x2b));
+        holds(&rt, was_told(&gate, given));
+    }
 }

@@ -107,6 +107,6 @@ pub(super) fn leave_all<R: Wait>(
     };
     let k = waiting.len() as u64;
     let (a, outcome) = attend_whole(rt, station, ram, k, a, goal, gate);
-    let is_done = finish(station, root, a, outcome, done);
-    leave_all(rt, station, ram, root, goal, gate, waiting, done) && is_done
+    let went = leave_all(rt, station, ram, root, goal, gate, waiting, done);
+    finish(station, root, a, outcome, done) && went
 }
