@@ -262,7 +262,11 @@ fn tell_fault(text: &mut String, fault: &Fault) -> Result<(), AllocError> {
 }
 
 // Writes that a processor can't go on: it waits at a step, or its list has ended.
-fn tell_pause(text: &mut String, cpu: usize, step: Option<ProcedureStep>) -> Result<(), AllocError> {
+fn tell_pause(
+    text: &mut String,
+    cpu: usize,
+    step: Option<ProcedureStep>,
+) -> Result<(), AllocError> {
     push_decimal(text, "", cpu as u64)?;
     match step {
         Some(step) => {

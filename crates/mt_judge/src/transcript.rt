@@ -33,7 +33,10 @@ pub struct ToldStep {
 pub enum Told {
     Step(ToldStep),
     /// A processor doesn't go on: it waits at this step, or its list has ended.
-    Pause { cpu: usize, step: Option<ProcedureStep> },
+    Pause {
+        cpu: usize,
+        step: Option<ProcedureStep>,
+    },
     /// The list of a processor has ended in the midst of an update.
     Unfinished {
         cpu: usize,
@@ -115,12 +118,7 @@ pub(crate) fn tell_pause(
 
 // The same, if its list hasn't ended.
 #[tactic(auto, using(crate::proofs::Courses::nothing_told))]
-fn tell_rest(
-    told: &mut Vec<Told>,
-    case: &Case,
-    state: &State,
-    k: usize,
-) -> Result<(), NoMemory>
+fn tell_rest(told: &mut Vec<Told>, case: &Case, state: &State, k: usize) -> Result<(), NoMemory>
     ensures { OnOk result (AreToldBehind case.now state.now [] told.old.items told.new.items) }
 {
     if case.step_at(state, k).is_some() {
