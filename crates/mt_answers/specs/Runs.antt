@@ -35,18 +35,22 @@ pub record IsSerialRun {S K : Type 0} (command : SerialCommand) (source : Source
   pub write_fault : StatusHasCause WriteFault (sink.faults sink.old) (sink.faults sink.new) status
   pub too_long : (status ≡ TooLong) ↔ GaveTooMuch (source.given source.old) (source.given source.new)
 
+-- the statuses of wrong usage
+abbrev pub IsUsageEnd : Status → Type 0
+IsUsageEnd status = (status ≡ Usage) ⊎ (status ≡ WriteFault)
+
 -- Nothing is read, and the line for wrong usage is written.
 pub record IsUsage {S K : Type 0} (source : SourceRun S) (sink : SinkRun K) (status : Status) : Type 0 where
   pub unread : source.new ≡ source.old
   pub bytes : Writes usage_line Usage (sink.taken sink.old) (sink.taken sink.new) status
-  pub ends : (status ≡ Usage) ⊎ (status ≡ WriteFault)
+  pub ends : IsUsageEnd status
   pub cause : StatusHasCause WriteFault (sink.faults sink.old) (sink.faults sink.new) status
 
 pub data IsAnswered {S K : Type 0} (words : List (List ℕ)) (source : SourceRun S) (sink : SinkRun K) (status : Status) : Type 0 where
   answered : (command : SerialCommand) → command_of words ≡ Some (Serial command) → IsSerialRun command source sink status → IsAnswered words source sink status
   no_command : command_of words ≡ None → IsUsage source sink status → IsAnswered words source sink status
 
--- A command that starts threads is wrong usage. If memory is refused to the arguments, no port is called.
+-- A command that starts threads is wrong usage. If memory is refused to the arguments or to the list of words, no port is called.
 pub data EndsAlone {S K : Type 0} (words : List (List ℕ)) (source : SourceRun S) (sink : SinkRun K) (status : Status) : Type 0 where
   alone : IsAnswered words source sink status → EndsAlone words source sink status
   elsewhere : (command : ThreadedCommand) → command_of words ≡ Some (Threaded command) → IsUsage source sink status → EndsAlone words source sink status

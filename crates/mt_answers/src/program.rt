@@ -5,7 +5,7 @@ ghost use Rattle.mt_ports.specs.Exit.{code};
 ghost use Rattle.mt_output.specs.Ports.{sink_run, source_run};
 ghost use Rattle.mt_output.specs.Program.{Exits, words_of};
 ghost use Rattle.mt_answers.specs.CommandLine.{command_of, threaded_of};
-ghost use Rattle.mt_answers.specs.Runs.{EndsAlone, IsAnswered};
+ghost use Rattle.mt_answers.specs.Runs.{EndsAlone, IsAnswered, IsUsageEnd};
 
 use crate::command::{Command, ThreadedCommand};
 use crate::serial::{run_serial, wrong_usage};
@@ -69,6 +69,7 @@ fn run<S: Source, K: Sink>(
     ensures ends { EndsAlone (words_of args)
         (source_run S.left S.faults S.given source.old source.new) (sink_run K.taken K.faults sink.old sink.new) result }
     ensures no_memory { IfErr args (λ error. error_kind error ≡ ErrorKind.OutOfMemory → result ≡ Status.NoMemory) }
+    ensures no_text { IfErr args (λ error. error_kind error ≢ ErrorKind.OutOfMemory → IsUsageEnd result) }
 {
     let Ok(words) = words_from(alloc, args) else {
         return Status::NoMemory;
@@ -80,7 +81,7 @@ fn run<S: Source, K: Sink>(
 }
 
 /// Does all that a program does that has no command but those that start no thread, and returns its exit code. To it the
-/// words of any other command are wrong usage.
+/// words of any other command are wrong usage. Its help is that of `mtrr`, with all commands.
 pub fn serial_status<S: Source, K: Sink>(
     alloc: Global,
     args: io::Result<Args>,
@@ -92,6 +93,9 @@ pub fn serial_status<S: Source, K: Sink>(
 
     // If memory is refused to the arguments, nothing is run.
     ensures no_memory { IfErr args (λ error. error_kind error ≡ ErrorKind.OutOfMemory → exit_status result ≡ code Status.NoMemory) }
+
+    // An argument that is no text is wrong usage.
+    ensures no_text { Exits result (λ status. IfErr args (λ error. error_kind error ≢ ErrorKind.OutOfMemory → IsUsageEnd status)) }
 {
     exit_code(run(alloc, args, source, sink))
 }
