@@ -1,5 +1,4 @@
-//! Tests of the top call, of summaries, and of logs and pictures: what rows can't say, as ports that fail, gates, and texts that are
-//! long.
+//! Tests of the top call and of summaries: what rows can't say, as ports that fail, gates, and texts that are long.
 #![tactic(auto)]
 
 #[cfg(test)]
@@ -8,8 +7,6 @@ mod failing_ports;
 mod gates;
 #[cfg(test)]
 mod jobs;
-#[cfg(test)]
-mod logs;
 #[cfg(test)]
 mod long_texts;
 #[cfg(test)]

@@ -1,5 +1,5 @@
 use crate::checks::{holds, holds_at, some};
-use crate::cores::{call, core_of, file, has_word, is_called, step, stores, word};
+use crate::common::{call, core_of, file, has_word, is_called, step, stores, word};
 use mt_core::{CallFault, Core, Stepped};
 use mt_machine::Event;
 use mt_ram::RamFault;

@@ -2,7 +2,7 @@ ghost use Rattle.std.specs.Prelude.{◌<◌, ◌≤◌, length};
 ghost use Rattle.mt_regs.specs.StartFiles.{AreStartFiles};
 
 use crate::checks::{holds, holds_at, some};
-use crate::cores::{core_of, file, is_called, stores};
+use crate::common::{core_of, file, is_called, stores};
 use mt_bus::System;
 use mt_core::Core;
 use mt_kinds::MemType;

@@ -1,5 +1,5 @@
 use crate::checks::holds;
-use crate::sinks::memory_sink;
+use crate::memory::memory_sink;
 use mt_ports::{MemSource, Sink, Source, put};
 use std::test::Fail;
 

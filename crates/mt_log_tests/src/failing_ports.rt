@@ -1,4 +1,3 @@
-//! Logs and pictures over ports that fail. Rows are what they read and write otherwise.
 use mt_import::import;
 use mt_map::{Asked, Labels, map};
 use mt_ports::{MemSink, MemSource, Status};

@@ -1,5 +1,5 @@
 use crate::checks::holds;
-use crate::sinks::memory_sink;
+use crate::memory::memory_sink;
 use arrayvec::ArrayVec;
 use mt_dump::{DumpFault, DumpReason};
 use mt_kinds::{MemType, PatType};

@@ -1,5 +1,5 @@
 use crate::checks::{holds, holds_at, some};
-use crate::cores::{core_of, file, has_room, has_word, is_called, map, step, stores};
+use crate::common::{core_of, file, has_room, has_word, is_called, map, step, stores};
 use mt_admit::{RetireFault, UpFault, admit, retire, up};
 use mt_core::Core;
 use mt_kinds::MemType;
