@@ -20,6 +20,7 @@ use Rattle.mt_import.specs.Import.{log_outcome}
 use Rattle.mt_import.specs.Outcome.{Seen, Slots, Outcome, dump_outcome, ended, ended_by, ended_with, facts_fault, firm_of, hint_of, is_empty, known_of, missing_of, notes_of, nothing_seen, or_fault, processors, refusal, remarks, seen_after, seen_with, slot_shown, unless, values_of, warning_text}
 use Rattle.mt_import.specs.Pieces.{shown_as}
 use Rattle.mt_import.specs.Readings.{Fact, context_after, fixed_facts, fixed_line, fixed_shows, is_fault, is_fixed_clash, is_line, is_match, is_register, is_register_value, line_facts, reading_facts, said_facts, shown_facts, shows_facts, starts, value_facts, variable_shows}
+use Rattle.mt_ports.specs.declared.status.Status.TheVariants.{Done}
 use Rattle.mt_import.specs.Shown.{chosen, context_behind, facts_from, facts_of_line, format_of, is_auto, said_in, shown}
 use Rattle.mt_import.specs.Supplied.{Supplied}
 use Rattle.mt_import.specs.Values.{Known, width_by}
@@ -188,32 +189,32 @@ module _ (move : ℕ → ℕ) (supplied : Supplied) (slots : Slots) (known : Kno
       ∙ ap (ended_by (missing_of supplied slots count known) (notes_of supplied slots count known) tally auto (values_of supplied slots known) count) same_width
 
 module _ (at : ℕ) where
-  remarked : (auto : Bool) (tally : Tally) → AreMovedReasons at (remarks auto tally) (remarks auto (one_line_less tally))
+  remarked : (auto : Bool) (tally : Tally) → AreMovedReasons auto Done at (remarks auto tally) (remarks auto (one_line_less tally))
   remarked true tally = of_count tally (warning_text tally.warned) refl refl
-  remarked false tally = same_reasons refl
+  remarked false tally = same_reasons refl refl refl
 
-  refused : (tally : Tally) (missing : List ℕ) → ComeToSameWithout at (refusal tally missing) (refusal (one_line_less tally) missing)
-  refused tally missing = record { same = record { notes = refl; dump = refl; status = refl }; reasons = of_count tally (warning_text tally.warned ++ missing) refl refl }
+  refused : (auto : Bool) (tally : Tally) (missing : List ℕ) → ComeToSameWithout auto at (refusal tally missing) (refusal (one_line_less tally) missing)
+  refused auto tally missing = record { same = record { notes = refl; dump = refl; status = refl }; reasons = of_count tally (warning_text tally.warned ++ missing) refl refl }
 
   dumped : (auto : Bool) (missing notes : List ℕ) (tally : Tally) (values : ℕ → ℕ → Option ℕ) (count : ℕ) (width capabilities : Option ℕ)
-      → ComeToSameWithout at (dump_outcome (refusal tally missing) values count notes (remarks auto tally) width capabilities)
+      → ComeToSameWithout auto at (dump_outcome (refusal tally missing) values count notes (remarks auto tally) width capabilities)
       (dump_outcome (refusal (one_line_less tally) missing) values count notes (remarks auto (one_line_less tally)) width capabilities)
   dumped auto missing notes tally values count (Some width) (Some capabilities) = record { same = record { notes = refl; dump = refl; status = refl }; reasons = remarked auto tally }
-  dumped auto missing notes tally values count (Some width) None = refused tally missing
-  dumped auto missing notes tally values count None capabilities = refused tally missing
+  dumped auto missing notes tally values count (Some width) None = refused auto tally missing
+  dumped auto missing notes tally values count None capabilities = refused auto tally missing
 
   less : (auto : Bool) (missing notes : List ℕ) (tally : Tally) (values : ℕ → ℕ → Option ℕ) (count : ℕ) (width : Option ℕ)
-      → ComeToSameWithout at (ended_by missing notes tally auto values count width) (ended_by missing notes (one_line_less tally) auto values count width)
+      → ComeToSameWithout auto at (ended_by missing notes tally auto values count width) (ended_by missing notes (one_line_less tally) auto values count width)
   less auto missing notes tally values count width = by (is_empty missing)
     where
       by : (test : Bool)
-          → ComeToSameWithout at (if test then dump_outcome (refusal tally missing) values count notes (remarks auto tally) width (values 0 0xfe) else refusal tally missing)
+          → ComeToSameWithout auto at (if test then dump_outcome (refusal tally missing) values count notes (remarks auto tally) width (values 0 0xfe) else refusal tally missing)
           (if test then dump_outcome (refusal (one_line_less tally) missing) values count notes (remarks auto (one_line_less tally)) width (values 0 0xfe) else refusal (one_line_less tally) missing)
       by true = dumped auto missing notes tally values count width (values 0 0xfe)
-      by false = refused tally missing
+      by false = refused auto tally missing
 
   moved_ended : (auto : Bool) (supplied : Supplied) (seen : Seen) → 1 ≤ seen.tally.lines → at ≤ seen.tally.lines
-      → ComeToSameWithout at (ended auto supplied seen) (ended auto supplied (moved_seen (number_without at) seen))
+      → ComeToSameWithout auto at (ended auto supplied seen) (ended auto supplied (moved_seen (number_without at) seen))
   moved_ended auto supplied seen some later =
       let slots : Slots = slot_shown seen.readings in
       let known : Known = known_of seen in
@@ -224,13 +225,14 @@ module _ (at : ℕ) where
       ∙ sym (unmoved (number_without at) supplied slots known auto (processors seen.readings) tally)
       ∙ ap (λ (s : Slots). ended_with auto supplied s (processors seen.readings) known tally) (all_slots (number_without at) (zero_stays at) seen.readings)
       ∙ ap (λ count. ended_with auto supplied (slot_shown (moved_seen (number_without at) seen).readings) count known tally) (sym (same_processors (number_without at) (zero_stays at) seen.readings)) in
-      subst (ComeToSameWithout at (ended auto supplied seen)) same
+      subst (ComeToSameWithout auto at (ended auto supplied seen)) same
       (less auto (missing_of supplied slots (processors seen.readings) known) (notes_of supplied slots (processors seen.readings) known) seen.tally (values_of supplied slots known) (processors seen.readings)
       (width_by supplied slots known.width))
 
-  by_fault : (fault : Option ImportFault) (longer shorter : Outcome) → ComeToSameWithout at longer shorter → ComeToSameWithout at (unless fault longer) (unless (moved_faults (number_without at) fault) shorter)
-  by_fault None longer shorter same = same
-  by_fault (Some fault) longer shorter same = record { same = record { notes = refl; dump = refl; status = refl }; reasons = of_fault fault refl refl }
+  by_fault : (auto : Bool) (fault : Option ImportFault) (longer shorter : Outcome)
+      → ComeToSameWithout auto at longer shorter → ComeToSameWithout auto at (unless fault longer) (unless (moved_faults (number_without at) fault) shorter)
+  by_fault auto None longer shorter same = same
+  by_fault auto (Some fault) longer shorter same = record { same = record { notes = refl; dump = refl; status = refl }; reasons = of_fault refl fault refl refl }
 
 -- ---- the two logs
 
@@ -327,10 +329,10 @@ module _ (choice : Choice) (supplied : Supplied) (longer shorter : List ℕ) (ha
       let parts = length-append has.before (has.line ∷ has.others) in
       omega (arith, all, size, parts)
 
-  pub without : ComeToSameWithout at (log_outcome choice supplied longer) (log_outcome choice supplied shorter)
+  pub without : ComeToSameWithout (is_auto choice) at (log_outcome choice supplied longer) (log_outcome choice supplied shorter)
   without =
       let some = counts_all in
-      subst (λ f. ComeToSameWithout at (log_outcome choice supplied longer) (unless f (ended (is_auto choice) supplied (seen_of choice shorter)))) same_fault
-      (by_fault at (facts_fault supplied start (shown (format_of choice) longer)) (ended (is_auto choice) supplied (seen_of choice longer)) (ended (is_auto choice) supplied (seen_of choice shorter))
-      (subst (λ (s : Seen). ComeToSameWithout at (ended (is_auto choice) supplied (seen_of choice longer)) (ended (is_auto choice) supplied s)) same_seen
+      subst (λ f. ComeToSameWithout (is_auto choice) at (log_outcome choice supplied longer) (unless f (ended (is_auto choice) supplied (seen_of choice shorter)))) same_fault
+      (by_fault at (is_auto choice) (facts_fault supplied start (shown (format_of choice) longer)) (ended (is_auto choice) supplied (seen_of choice longer)) (ended (is_auto choice) supplied (seen_of choice shorter))
+      (subst (λ (s : Seen). ComeToSameWithout (is_auto choice) at (ended (is_auto choice) supplied (seen_of choice longer)) (ended (is_auto choice) supplied s)) same_seen
       (moved_ended at (is_auto choice) supplied (seen_of choice longer) (omega (arith, some)) some)))

@@ -1,9 +1,11 @@
 -- Logs of which one has a line more, that matches nothing (own).
 --     HasSpareLine choice longer shorter      so it is of two texts
---     ComeToSameWithout at longer shorter      two outcomes agree, and reasons count without the line of this number
-use Rattle.std.specs.Prelude.{ℕ, ◌≡◌, ◌≢◌, ◌+◌, ◌-◌, nat_le, ⊤, List, [], ◌∷◌, ◌++◌, length, if◌then◌else◌, None}
+--     ComeToSameWithout auto at longer shorter      two outcomes agree, and reasons count without the line of this number
+use Rattle.std.specs.Prelude.{ℕ, ◌≡◌, ◌≢◌, ◌+◌, ◌-◌, nat_le, ⊤, Bool, false, List, [], ◌∷◌, ◌++◌, length, if◌then◌else◌, None}
 use Rattle.mt_text.specs.Text.{lines_of}
 use Rattle.mt_text.specs.declared.place.Place.{Place}
+use Rattle.mt_ports.specs.declared.status.Status.{Status}
+use Rattle.mt_ports.specs.declared.status.Status.TheVariants.{BadText, Done}
 use Rattle.mt_import.specs.declared.fault.ImportFault.{ImportFault}
 use Rattle.mt_import.specs.declared.fault.ImportFault.TheVariants.{LongLine, BadProcessor, TooManyPairs, BadWidth, Contradiction, WidthContradiction}
 use Rattle.mt_import.specs.declared.fault.Rival.{Rival}
@@ -69,12 +71,13 @@ moved_fault move (WidthContradiction place rival) = WidthContradiction (moved_pl
 abbrev pub one_line_less : Tally → Tally
 one_line_less tally = record { format = tally.format; lines = tally.lines - 1; matches = tally.matches; warned = tally.warned }
 
--- The reasons are the same, or the same fault with the lines' new numbers, or they count one line less.
-pub data AreMovedReasons (at : ℕ) (longer shorter : List ℕ) : Type 0 where
-  same_reasons : longer ≡ shorter → AreMovedReasons at longer shorter
-  of_fault : (fault : ImportFault) → longer ≡ fault_line fault → shorter ≡ fault_line (moved_fault (number_without at) fault) → AreMovedReasons at longer shorter
-  of_count : (tally : Tally) (others : List ℕ) → longer ≡ count_line tally ++ others → shorter ≡ count_line (one_line_less tally) ++ others → AreMovedReasons at longer shorter
+-- Of a fault the reasons are the same fault with the lines' new numbers. Of a dump there are none that count lines, unless `auto` was
+-- chosen. All others count one line less.
+pub data AreMovedReasons (auto : Bool) (status : Status) (at : ℕ) (longer shorter : List ℕ) : Type 0 where
+  same_reasons : auto ≡ false → status ≡ Done → longer ≡ shorter → AreMovedReasons auto status at longer shorter
+  of_fault : status ≡ BadText → (fault : ImportFault) → longer ≡ fault_line fault → shorter ≡ fault_line (moved_fault (number_without at) fault) → AreMovedReasons auto status at longer shorter
+  of_count : (tally : Tally) (others : List ℕ) → longer ≡ count_line tally ++ others → shorter ≡ count_line (one_line_less tally) ++ others → AreMovedReasons auto status at longer shorter
 
-pub record ComeToSameWithout (at : ℕ) (longer shorter : Outcome) : Type 0 where
+pub record ComeToSameWithout (auto : Bool) (at : ℕ) (longer shorter : Outcome) : Type 0 where
   pub same : ComeToSame longer shorter
-  pub reasons : AreMovedReasons at longer.reasons shorter.reasons
+  pub reasons : AreMovedReasons auto longer.status at longer.reasons shorter.reasons

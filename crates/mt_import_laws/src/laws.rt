@@ -9,7 +9,7 @@ ghost use Rattle.mt_import.specs.declared.shape.Reading.{Reading};
 ghost use Rattle.mt_import.specs.Import.{log_outcome, outcome_of};
 ghost use Rattle.mt_import.specs.Outcome.{Seen, Outcome, shows_fixed, shows_no_fix, warning_text};
 ghost use Rattle.mt_import.specs.Readings.{is_width};
-ghost use Rattle.mt_import.specs.Shown.{format_of, shown};
+ghost use Rattle.mt_import.specs.Shown.{format_of, is_auto, shown};
 ghost use Rattle.mt_import.specs.Supplied.{Supplied, supplied_value};
 ghost use Rattle.mt_import_laws.specs.Alike.{AreAlikeLogs};
 ghost use Rattle.mt_import_laws.specs.FirstLine.{ComeToSame, TellsFirst};
@@ -109,11 +109,11 @@ pub fn lines_that_match_nothing_change_nothing()
     ensures { (choice : Choice) (supplied : Supplied) (a b : List ℕ) → AreAlikeLogs choice a b → log_outcome choice supplied a ≡ log_outcome choice supplied b }
 {}
 
-/// A line that matches nothing may be left out, in any format and by `auto`: the dump, its comments and the status stay. Reasons give
-/// the lines behind it numbers that are one less, and count one line less.
+/// A line that matches nothing may be left out, in any format and by `auto`, unless it takes back a call of rdmsr whose value comes
+/// next: the dump, its comments and the status stay. Reasons give the lines behind it numbers that are one less, and count one line less.
 pub fn lines_that_match_nothing_may_be_left_out()
     ensures { (choice : Choice) (supplied : Supplied) (longer shorter : List ℕ) (has : HasSpareLine choice longer shorter)
-        → ComeToSameWithout (1 + length has.before) (log_outcome choice supplied longer) (log_outcome choice supplied shorter) }
+        → ComeToSameWithout (is_auto choice) (1 + length has.before) (log_outcome choice supplied longer) (log_outcome choice supplied shorter) }
 {}
 
 /// A CR at the end of lines changes nothing, in any format: the texts and the status stay.
