@@ -98,3 +98,7 @@ if_ok P Q f (Err e) h = tt
 pub on_ok : {T E : Type 0} {A B : Type 0} → (A → B) → (r : Result T E) → OnOk r A → OnOk r B
 on_ok f (Ok x) h = f h
 on_ok f (Err e) h = tt
+
+pub on_both : {T E : Type 0} {A B C : Type 0} → (A → B → C) → (r : Result T E) → OnOk r A → OnOk r B → OnOk r C
+on_both f (Ok x) a b = f a b
+on_both f (Err e) a b = tt

@@ -43,40 +43,18 @@ fn has_passed(cpu: &Cpu) -> bool
     is_changing(cpu.phase) || is_arrived_again(cpu.phase) || has_released(cpu)
 }
 
-// Whether a processor counts at the first barrier.
-fn has_arrived(cpu: &Cpu) -> bool
+/// Whether a processor counts at the first barrier.
+pub(crate) fn has_arrived(cpu: &Cpu) -> bool
     ensures { result ≡ has_arrived (procedure_order cpu.now.file) cpu.now }
 {
     is_arrived(cpu.phase) || has_passed(cpu)
 }
 
-// Whether a processor counts at the second barrier.
-fn has_arrived_again(cpu: &Cpu) -> bool
+/// Whether a processor counts at the second barrier.
+pub(crate) fn has_arrived_again(cpu: &Cpu) -> bool
     ensures { result ≡ has_arrived_again (procedure_order cpu.now.file) cpu.now }
 {
     is_arrived_again(cpu.phase) || has_released(cpu)
-}
-
-/// How many have arrived at the first barrier.
-pub(crate) fn arrived(cpus: &[Cpu]) -> usize {
-    let mut count = 0usize;
-    for cpu in cpus {
-        if has_arrived(cpu) {
-            count = count.saturating_add(1);
-        }
-    }
-    count
-}
-
-/// How many have arrived at the second barrier.
-pub(crate) fn arrived_again(cpus: &[Cpu]) -> usize {
-    let mut count = 0usize;
-    for cpu in cpus {
-        if has_arrived_again(cpu) {
-            count = count.saturating_add(1);
-        }
-    }
-    count
 }
 
 fn have_arrived(cpus: &[Cpu]) -> bool

@@ -29,6 +29,7 @@ mod step;
 mod steps;
 mod store;
 mod telling;
+mod transcript;
 mod words;
 mod worked;
 mod wrong;
@@ -43,6 +44,7 @@ pub use reader::read_input;
 pub use search::{Found, Search, has_wrong_if_a_sense_holds};
 pub use step::{ListPlace, ProcedureStep};
 pub use store::{Node, Origin, Store};
+pub use transcript::{Arrivals, Told, ToldStep, Transcript};
 pub use worked::{
     worked_lost_words, worked_old_types, worked_orders, worked_stale_buffers, worked_stale_entries,
     worked_stale_lines, worked_two_types,

@@ -1,27 +1,26 @@
-ghost use Rattle.std.specs.Prelude.{◌≡◌, ◌↔◌, ◌||◌, [], IfOk, IsFalse, OnOk, Option, false};
+ghost use Rattle.std.specs.Prelude.{◌≡◌, ◌↔◌, ◌||◌, [], IfOk, IsFalse, IsNone, OnOk, Option, false};
 ghost use Rattle.mt_judge.specs.Dues.{AreListsFinished};
-ghost use Rattle.mt_judge.specs.Ordered.{IsRightRun, all_turns, step_of, turn};
-ghost use Rattle.mt_judge.specs.Runs.{IsEnded, may_go};
-ghost use Rattle.mt_judge.specs.Searches.{has_wrong};
-ghost use Rattle.mt_judge.specs.Told.{IsRightMove, IsTold, IsToldOrder, IsToldPart};
+ghost use Rattle.mt_judge.specs.Ordered.{IsRightRun, all_turns, ordered, step_of, turn};
+ghost use Rattle.mt_judge.specs.Runs.{IsEnded, IsRun, may_go};
+ghost use Rattle.mt_judge.specs.Told.{AreToldBehind, IsTold, IsToldOrder, IsToldPart, IsTranscript};
 
-use crate::judging::{Verdict, memory};
-use crate::moves::{Case, Move, State, advance};
-use crate::telling::{tell_ends, tell_new, tell_pause, tell_pauses, tell_whole_step};
-use crate::wrong::{Wrong, fault_of, wrongs_of};
+use crate::judging::Verdict;
+use crate::moves::{Case, State, advance};
+use crate::transcript::{Told, Transcript, tell, tell_ends, tell_pause, tell_pauses, told_step};
+use crate::wrong::wrongs_of;
 use mt_ports::NoMemory;
 use std::alloc::Global;
 
 /// More turns than the lists of any text take.
 const MOST_TURNS: u64 = 1 << 40;
 
-/// A run that is judged: where it stands, what is wrong there, and the verdict so far.
+/// A run that is judged: where it stands, what is told of it, and whether something is wrong so far.
 #[derive(Drop)]
 pub(crate) struct JudgedRun {
     alloc: Global,
     state: State,
-    wrongs: Vec<Wrong>,
-    pub(crate) verdict: Verdict,
+    told: Vec<Told>,
+    wrong: bool,
 }
 
 fn or(a: bool, b: bool) -> bool
@@ -31,56 +30,27 @@ fn or(a: bool, b: bool) -> bool
 }
 
 impl JudgedRun {
-    /// A run that stands at a start, and what is wrong there.
-    pub(crate) fn new(alloc: Global, start: &State) -> Result<JudgedRun, NoMemory>
+    /// A run that stands at a start, where something is wrong or nothing is.
+    fn new(alloc: Global, start: &State, wrong: bool) -> Result<JudgedRun, NoMemory>
         ensures state { IfOk result (λ r. r.state ≡ start.now) }
-        ensures wrong { IfOk result (λ r. r.verdict.wrong ≡ has_wrong start.now) }
+        ensures told { IfOk result (λ r. r.told.items ≡ []) }
+        ensures wrong { IfOk result (λ r. r.wrong ≡ wrong) }
     {
-        let mut run = JudgedRun {
+        Ok(JudgedRun {
             alloc,
             state: start.copy(alloc)?,
-            wrongs: Vec::new(alloc),
-            verdict: Verdict {
-                text: String::new(alloc),
-                wrong: false,
-            },
-        };
-        run.look()?;
-        Ok(run)
+            told: Vec::new(alloc),
+            wrong,
+        })
     }
 
     // Notes whether something more is wrong.
     fn note(&mut self, wrong: bool)
         ensures state { self.new.state ≡ self.old.state }
-        ensures wrong { self.new.verdict.wrong ≡ (self.old.verdict.wrong || wrong) }
+        ensures told { self.new.told.items ≡ self.old.told.items }
+        ensures wrong { self.new.wrong ≡ (self.old.wrong || wrong) }
     {
-        self.verdict.wrong = or(self.verdict.wrong, wrong);
-    }
-
-    // Tells what is wrong in the state and wasn't before.
-    fn look(&mut self) -> Result<(), NoMemory>
-        ensures state { self.new.state ≡ self.old.state }
-        ensures wrong { OnOk result (self.new.verdict.wrong ≡ (self.old.verdict.wrong || has_wrong self.old.state)) }
-    {
-        let wrongs = wrongs_of(self.alloc, &self.state)?;
-        let text = &mut self.verdict.text;
-        memory(tell_new(text, wrongs.as_slice(), self.wrongs.as_slice()))?;
-        self.note(0 < wrongs.len());
-        self.wrongs = wrongs;
-        Ok(())
-    }
-
-    // Tells of a step, by the state before it.
-    fn tell_step(&mut self, case: &Case, before: &State, m: &Move) -> Result<(), NoMemory>
-        ensures state { self.new.state ≡ self.old.state }
-        ensures right { OnOk result (IsFalse self.new.verdict.wrong ↔ IsRightMove before.now m.now self.old) }
-    {
-        let fault = fault_of(before, m);
-        let text = &mut self.verdict.text;
-        memory(tell_whole_step(text, case, before, m, &fault))?;
-        self.note(!m.is_due());
-        self.note(fault.is_some());
-        self.look()
+        self.wrong = or(self.wrong, wrong);
     }
 
     /// Does the next step of a processor and tells of it. False if it can't go on.
@@ -90,8 +60,10 @@ impl JudgedRun {
     {
         let before = self.state.copy(self.alloc)?;
         match advance(case, &mut self.state, k)? {
-            Some(m) => {
-                self.tell_step(case, &before, &m)?;
+            Some(done) => {
+                let step = told_step(self.alloc, &before, done, &self.state)?;
+                self.note(!step.is_right());
+                tell(&mut self.told, Told::Step(step))?;
                 Ok(true)
             }
             None => Ok(false),
@@ -105,7 +77,7 @@ impl JudgedRun {
         if self.step(case, k)? {
             return Ok(());
         }
-        memory(tell_pause(&mut self.verdict.text, case, &self.state, k))
+        tell_pause(&mut self.told, case, &self.state, k)
     }
 
     // A step of each processor in ascending order. False if none can go on.
@@ -135,22 +107,24 @@ impl JudgedRun {
     }
 
     // Tells which processors wait, where none can go on.
-    fn tell_stuck(&mut self, case: &Case) -> Result<(), NoMemory>
+    fn note_stuck(&mut self, case: &Case) -> Result<(), NoMemory>
         ensures state { self.new.state ≡ self.old.state }
-        ensures right { OnOk result (IsFalse self.new.verdict.wrong ↔ (self.old.verdict.wrong ≡ false) × IsEnded case.now self.old.state) }
+        ensures told { OnOk result (AreToldBehind case.now self.old.state [] self.old.told.items self.new.told.items) }
+        ensures right { OnOk result (IsFalse self.new.wrong ↔ (self.old.wrong ≡ false) × IsEnded case.now self.old.state) }
     {
-        memory(tell_pauses(&mut self.verdict.text, case, &self.state))?;
+        tell_pauses(&mut self.told, case, &self.state)?;
         let ended = self.state.has_ended(case);
         self.note(!ended);
         Ok(())
     }
 
     // Tells which lists have ended in the midst of an update.
-    fn tell_ends(&mut self, case: &Case) -> Result<(), NoMemory>
+    fn note_ends(&mut self, case: &Case) -> Result<(), NoMemory>
         ensures state { self.new.state ≡ self.old.state }
-        ensures right { OnOk result (IsFalse self.new.verdict.wrong ↔ (self.old.verdict.wrong ≡ false) × AreListsFinished case.now self.old.state) }
+        ensures told { OnOk result (AreToldBehind case.now self.old.state [] self.old.told.items self.new.told.items) }
+        ensures right { OnOk result (IsFalse self.new.wrong ↔ (self.old.wrong ≡ false) × AreListsFinished case.now self.old.state) }
     {
-        memory(tell_ends(&mut self.verdict.text, case, &self.state))?;
+        tell_ends(&mut self.told, case, &self.state)?;
         let unfinished = self.state.has_unfinished(case);
         self.note(unfinished);
         Ok(())
@@ -164,7 +138,7 @@ impl JudgedRun {
             Some(k) => self.step_or_pause(case, k),
             None => {
                 self.all_turns(case)?;
-                self.tell_stuck(case)
+                self.note_stuck(case)
             }
         }
     }
@@ -179,48 +153,73 @@ impl JudgedRun {
         Ok(())
     }
 
-    /// Does the steps of a run that a search found. At its end some processors may be stuck.
-    pub(crate) fn path(
-        &mut self,
-        case: &Case,
-        path: &[usize],
-        is_stuck: bool,
-    ) -> Result<(), NoMemory> {
+    // Does the steps of a run.
+    fn path(&mut self, case: &Case, path: &[usize]) -> Result<(), NoMemory>
+        ensures { OnOk result (IsRun case.now self.old.state path.now → IsTold case.now path.now self.old self.new) }
+    {
         for k in path {
             self.step(case, *k)?;
         }
-        if is_stuck {
-            self.tell_stuck(case)?;
-            self.tell_ends(case)?;
-        }
         Ok(())
+    }
+
+    // Tells who waits at the end of a run that is stuck.
+    fn tell_end(&mut self, case: &Case, is_stuck: bool) -> Result<(), NoMemory>
+        ensures { OnOk result (AreToldBehind case.now self.old.state [] self.old.told.items self.new.told.items) }
+    {
+        if !is_stuck {
+            return Ok(());
+        }
+        tell_pauses(&mut self.told, case, &self.state)?;
+        tell_ends(&mut self.told, case, &self.state)
     }
 }
 
-// Writes that nothing is wrong, if it is so.
-fn conclude(verdict: &mut Verdict) -> Result<(), NoMemory>
-    ensures { verdict.new.wrong ≡ verdict.old.wrong }
+/// A run that a search found, as it is printed. At its end some processors may be stuck.
+pub(crate) fn told_run(
+    alloc: Global,
+    case: &Case,
+    start: &State,
+    path: &[usize],
+    is_stuck: bool,
+) -> Result<Transcript, NoMemory>
+    requires { IsRun case.now start.now path.now }
+    ensures { IfOk result (λ t. IsTranscript case.now start.now path.now t) }
 {
-    if verdict.wrong {
-        return Ok(());
-    }
-    memory(verdict.text.push_str("nothing wrong\n"))
+    let wrongs = wrongs_of(alloc, start)?;
+    let mut run = JudgedRun::new(alloc, start, false)?;
+    run.path(case, path)?;
+    run.tell_end(case, is_stuck)?;
+    let JudgedRun { told, .. } = run;
+    Ok(Transcript {
+        start: wrongs,
+        told,
+    })
 }
 
 /// Judges one run, by the processors in the order of their steps; `None` stands for whole turns to the end. The verdict is wrong unless
-/// nothing is wrong in the run.
+/// nothing is wrong in the run, and what is printed is this run.
 pub fn judge_run(
     alloc: Global,
     case: &Case,
     start: &State,
     order: &[Option<usize>],
 ) -> Result<Verdict, NoMemory>
-    ensures { IfOk result (λ v. IsFalse v.wrong ↔ IsRightRun case.now start.now order.now) }
+    ensures right { IfOk result (λ v. IsFalse v.wrong ↔ IsRightRun case.now start.now order.now) }
+    ensures alone { IfOk result (λ v. IsNone v.explored) }
+    ensures told { IfOk result (λ v. IsTranscript case.now start.now (ordered case.now start.now order.now) v.transcript) }
 {
-    let mut run = JudgedRun::new(alloc, start)?;
+    let wrongs = wrongs_of(alloc, start)?;
+    let mut run = JudgedRun::new(alloc, start, 0 < wrongs.len())?;
     run.parts(case, order)?;
-    run.tell_ends(case)?;
-    conclude(&mut run.verdict)?;
-    let JudgedRun { verdict, .. } = run;
-    Ok(verdict)
+    run.note_ends(case)?;
+    let JudgedRun { told, wrong, .. } = run;
+    Ok(Verdict {
+        explored: None,
+        transcript: Transcript {
+            start: wrongs,
+            told,
+        },
+        wrong,
+    })
 }

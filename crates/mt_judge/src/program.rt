@@ -1,6 +1,8 @@
 use crate::case::Trouble;
 use crate::judging::{Verdict, judge};
+use crate::moves::Case;
 use crate::reader::read_input;
+use crate::telling::verdict_text;
 use mt_output::{bad_text, exit_code, words_behind_name, written};
 use mt_ports::{Sink, Source, Status};
 use std::alloc::Global;
@@ -66,12 +68,24 @@ fn read_all<S: Source>(alloc: Global, source: &mut S) -> Result<Vec<u8>, Status>
     Ok(bytes)
 }
 
+// Writes a verdict.
+fn print<K: Sink>(alloc: Global, case: &Case, verdict: &Verdict, sink: &mut K) -> Status {
+    let status = if verdict.wrong {
+        Status::Refused
+    } else {
+        Status::Done
+    };
+    match verdict_text(alloc, case, verdict) {
+        Ok(text) => written(sink, text.as_bytes(), status),
+        Err(_) => Status::NoMemory,
+    }
+}
+
 // Writes the verdict on a text.
 fn answer<R: Eprint + AllocGlobal, K: Sink>(rt: &R, text: &[u8], sink: &mut K) -> Status {
     match read_input(rt.alloc(), text) {
         Ok(input) => match judge(rt, &input) {
-            Ok(Verdict { text, wrong: true }) => written(sink, text.as_bytes(), Status::Refused),
-            Ok(Verdict { text, wrong: false }) => written(sink, text.as_bytes(), Status::Done),
+            Ok(verdict) => print(rt.alloc(), &input.case, &verdict, sink),
             Err(_) => Status::NoMemory,
         },
         Err(Trouble::NoMemory) => Status::NoMemory,

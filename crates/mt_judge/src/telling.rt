@@ -1,12 +1,14 @@
-use crate::due::{arrived, arrived_again, due_at};
-use crate::moves::{Case, Move, Outcome, State, phase_in};
+use crate::judging::{Explored, Verdict};
+use crate::moves::{Case, Move, Outcome, State};
 use crate::numbers::{push_decimal, push_hex};
+use crate::search::Found;
 use crate::step::ProcedureStep;
+use crate::transcript::{Arrivals, Told, ToldStep, Transcript, end_at};
 use crate::wrong::{Fault, Wrong};
 use mt_kinds::{LINE_BYTES, MemType, PAGE_BYTES, WORD_BYTES};
 use mt_machine::{Done, Event, Op, Phase};
 use mt_regs::RegFile;
-use std::alloc::AllocError;
+use std::alloc::{AllocError, Global};
 
 fn tell_wait(text: &mut String, barrier: u32, count: u32) -> Result<(), AllocError> {
     push_decimal(text, "wait ", barrier as u64)?;
@@ -151,36 +153,35 @@ fn tell_event_due(text: &mut String, event: Event, phase: Phase) -> Result<(), A
 // Writes the step that the manual's procedure has for a processor in a phase, or why it has none.
 fn tell_due(
     text: &mut String,
-    state: &State,
     due: Option<Event>,
     phase: Phase,
+    arrived: Arrivals,
 ) -> Result<(), AllocError> {
-    let cpus = state.cpus.as_slice();
     match (due, phase) {
         (Some(event), _) => tell_event_due(text, event, phase),
-        (None, Phase::Arrived) => tell_barrier(text, arrived(cpus), cpus.len(), "first"),
-        (None, Phase::Arrived2) => tell_barrier(text, arrived_again(cpus), cpus.len(), "second"),
+        (None, Phase::Arrived) => tell_barrier(text, arrived.first, arrived.of, "first"),
+        (None, Phase::Arrived2) => tell_barrier(text, arrived.second, arrived.of, "second"),
         (None, _) => text.push_str("the manual's procedure has ended\n"),
     }
 }
 
-// Writes why the manual's procedure hasn't the step due, by the state before it.
-fn tell_undue(text: &mut String, before: &State, m: &Move) -> Result<(), AllocError> {
+// Writes why the manual's procedure hasn't a step due.
+fn tell_undue(text: &mut String, step: &ToldStep) -> Result<(), AllocError> {
     text.push_str("  not due: ")?;
-    tell_due(text, before, m.due, m.phase)
+    tell_due(text, step.done.due, step.done.phase, step.arrived)
 }
 
-/// Writes a line for each processor whose list has ended in the midst of an update.
-pub(crate) fn tell_ends(text: &mut String, case: &Case, state: &State) -> Result<(), AllocError> {
-    let cpus = state.cpus.as_slice();
-    for k in 0..cpus.len() {
-        if state.is_unfinished(case, k) {
-            push_decimal(text, "", k as u64)?;
-            text.push_str(" has ended: ")?;
-            tell_due(text, state, due_at(cpus, k), phase_in(cpus, k))?;
-        }
-    }
-    Ok(())
+// Writes that a processor's list has ended in the midst of an update.
+fn tell_end(
+    text: &mut String,
+    cpu: usize,
+    due: Option<Event>,
+    phase: Phase,
+    arrived: Arrivals,
+) -> Result<(), AllocError> {
+    push_decimal(text, "", cpu as u64)?;
+    text.push_str(" has ended: ")?;
+    tell_due(text, due, phase, arrived)
 }
 
 // Writes what is wrong at an address of a processor, without an end of the line.
@@ -227,12 +228,8 @@ fn tell_wrong(text: &mut String, wrong: &Wrong) -> Result<(), AllocError> {
     text.push_str("\n")
 }
 
-/// Writes what is wrong in a state and isn't known.
-pub(crate) fn tell_new(
-    text: &mut String,
-    wrongs: &[Wrong],
-    known: &[Wrong],
-) -> Result<(), AllocError> {
+// Writes what is wrong in a state and isn't known.
+fn tell_new(text: &mut String, wrongs: &[Wrong], known: &[Wrong]) -> Result<(), AllocError> {
     for wrong in wrongs {
         if !known.contains(wrong) {
             tell_wrong(text, wrong)?;
@@ -264,15 +261,14 @@ fn tell_fault(text: &mut String, fault: &Fault) -> Result<(), AllocError> {
     }
 }
 
-/// Writes that a processor can't go on: it waits, or its list has ended.
-pub(crate) fn tell_pause(
+// Writes that a processor can't go on: it waits at a step, or its list has ended.
+fn tell_pause(
     text: &mut String,
-    case: &Case,
-    state: &State,
-    k: usize,
+    cpu: usize,
+    step: Option<ProcedureStep>,
 ) -> Result<(), AllocError> {
-    push_decimal(text, "", k as u64)?;
-    match case.step_at(state, k) {
+    push_decimal(text, "", cpu as u64)?;
+    match step {
         Some(step) => {
             text.push_str(" waits: ")?;
             tell_step(text, step)?;
@@ -282,30 +278,120 @@ pub(crate) fn tell_pause(
     }
 }
 
-/// Writes which processors can't go on, though their lists haven't ended.
-pub(crate) fn tell_pauses(text: &mut String, case: &Case, state: &State) -> Result<(), AllocError> {
+// Writes a step that was done, whether it wasn't due, its fault, and what is newly wrong behind it.
+fn tell_whole_step(
+    text: &mut String,
+    goal: &RegFile,
+    step: &ToldStep,
+    known: &[Wrong],
+) -> Result<(), AllocError> {
+    tell_move(text, goal, &step.done)?;
+    if !step.done.is_due() {
+        tell_undue(text, step)?;
+    }
+    if let Some(fault) = &step.fault {
+        tell_fault(text, fault)?;
+    }
+    tell_new(text, step.wrongs.as_slice(), known)
+}
+
+fn tell_told(
+    text: &mut String,
+    goal: &RegFile,
+    told: &Told,
+    known: &[Wrong],
+) -> Result<(), AllocError> {
+    match told {
+        Told::Step(step) => tell_whole_step(text, goal, step, known),
+        Told::Pause { cpu, step } => tell_pause(text, *cpu, *step),
+        Told::Unfinished {
+            cpu,
+            phase,
+            due,
+            arrived,
+        } => tell_end(text, *cpu, *due, *phase, *arrived),
+    }
+}
+
+// What is wrong where something is told, and so is known behind it.
+fn known_behind<'a>(told: &'a Told, known: &'a [Wrong]) -> &'a [Wrong] {
+    match told {
+        Told::Step(step) => step.wrongs.as_slice(),
+        _ => known,
+    }
+}
+
+// Writes a run.
+fn tell_run(text: &mut String, goal: &RegFile, run: &Transcript) -> Result<(), AllocError> {
+    let mut known = run.start.as_slice();
+    tell_new(text, known, &[])?;
+    for told in run.told.as_slice() {
+        tell_told(text, goal, told, known)?;
+        known = known_behind(told, known);
+    }
+    Ok(())
+}
+
+// Writes what a search counted.
+fn tell_counts(text: &mut String, explored: &Explored) -> Result<(), AllocError> {
+    push_decimal(text, "states ", explored.states as u64)?;
+    push_decimal(text, "\nsteps ", explored.moves)?;
+    push_decimal(text, "\nnot due ", explored.undue)?;
+    text.push_str("\n")
+}
+
+// Writes which lists have ended in the midst of an update.
+fn tell_ends(text: &mut String, case: &Case, state: &State) -> Result<(), AllocError> {
     for k in 0..state.count() {
-        if case.step_at(state, k).is_some() {
-            tell_pause(text, case, state, k)?;
+        if let Some(end) = end_at(case, state, k) {
+            tell_told(text, &case.goal, &end, &[])?;
         }
     }
     Ok(())
 }
 
-/// Writes a step that was done, whether it wasn't due, and its fault.
-pub(crate) fn tell_whole_step(
+// Writes that nothing is wrong, behind the lists that have ended in the midst of an update.
+fn tell_nothing(text: &mut String, case: &Case, explored: &Explored) -> Result<(), AllocError> {
+    if let Some(state) = &explored.unfinished {
+        tell_ends(text, case, state)?;
+    }
+    text.push_str("nothing wrong\n")
+}
+
+// Writes what a search came to, and the run that it returned.
+fn tell_search(
     text: &mut String,
     case: &Case,
-    before: &State,
-    m: &Move,
-    fault: &Option<Fault>,
+    explored: &Explored,
+    run: &Transcript,
 ) -> Result<(), AllocError> {
-    tell_move(text, &case.goal, m)?;
-    if !m.is_due() {
-        tell_undue(text, before, m)?;
+    tell_counts(text, explored)?;
+    match explored.found {
+        Found::Nothing => tell_nothing(text, case, explored),
+        Found::Stopped => text.push_str("stopped\n"),
+        _ => tell_run(text, &case.goal, run),
     }
-    match fault {
-        Some(fault) => tell_fault(text, fault),
-        None => Ok(()),
+}
+
+// Writes a run that was asked for, and whether nothing is wrong in it.
+fn tell_order(text: &mut String, case: &Case, verdict: &Verdict) -> Result<(), AllocError> {
+    tell_run(text, &case.goal, &verdict.transcript)?;
+    if verdict.wrong {
+        return Ok(());
     }
+    text.push_str("nothing wrong\n")
+}
+
+/// The text of a verdict.
+pub(crate) fn verdict_text(
+    alloc: Global,
+    case: &Case,
+    verdict: &Verdict,
+) -> Result<String, AllocError> {
+    let mut text = String::new(alloc);
+    match &verdict.explored {
+        Some(explored) => tell_search(&mut text, case, explored, &verdict.transcript)?,
+        None => tell_order(&mut text, case, verdict)?,
+    }
+    Ok(text)
 }

@@ -1,0 +1,7 @@
+use Rattle.std.proofs.Common.{take}
+use Rattle.mt_judge.specs.Runs.{IsRun}
+use Rattle.mt_judge.specs.Told.{IsTold}
+use Rattle.mt_judge.proofs.one_run.JudgedRun.path.Given as goal
+
+abbrev pub invariant-loop-k : goal.invariant-loop-k
+invariant-loop-k l = IsRun l.case l.fn.self.state l.path → IsTold l.case (take l.k-index l.path) l.fn.self l.self
