@@ -83,7 +83,7 @@ returns-clause-join c = λ law key is.
 pub returns-clause-steps : goal.returns-clause-steps
 returns-clause-steps c = λ law key is.
     let m = split_meets key is in
-    let may = takes_yard key 0 1 (yard_right (first_yard_view key), []) first_lodged (one_held key is) refl refl refl refl (split_state key) m refl refl (omega arith) in (
+    let may = takes_yard key 0 1 (yard_right (first_yard_view key), []) first_lodged (one_held key is) refl refl refl (split_state key) m refl refl (omega arith) in (
       m,
       (may.0, carried_after [] may.1),
       law key (split_state key) m 1 (step 0 0 0 0 none) (yard_right (first_yard_view key), []) (may.0, carried_after [] may.1) refl may.4,
@@ -92,7 +92,7 @@ returns-clause-steps c = λ law key is.
 pub returns-clause-shown : goal.returns-clause-shown
 returns-clause-shown c = λ law key is.
     let me : YardSat = (yard_right (first_yard_view key), []) in
-    let may = takes_yard key 0 1 me first_lodged (one_held key is) refl refl refl refl (split_state key) (split_meets key is) refl refl (omega arith) in
+    let may = takes_yard key 0 1 me first_lodged (one_held key is) refl refl refl (split_state key) (split_meets key is) refl refl (omega arith) in
     let new : YardSat = (may.0, carried_after [] may.1) in
     let st = step 0 0 0 0 none in (
       new,
