@@ -38,7 +38,7 @@ behind_end x end so_far = so_far
 
 -- the answers of a part, and then of the other
 pub sums : (s : System) (jobs : List Job) (told : List Told) (after : Machine) (count n accesses first last : ℕ)
-    → AreOneByOne s (file_of 4) jobs after told → s ≡ (measured_machine count).system → map (ops_in Before) jobs ≡ map (ops_before n accesses) (ascending count) → map (ops_in After) jobs ≡ map (ops_after n accesses) (ascending count)
+    → AreOneByOne (jobs_one_by_one s (file_of 4) jobs) after told → s ≡ (measured_machine count).system → map (ops_in Before) jobs ≡ map (ops_before n accesses) (ascending count) → map (ops_in After) jobs ≡ map (ops_after n accesses) (ascending count)
     → first ≡ fold (λ v t. values_from v (answers_in Before t)) 0 told → last ≡ fold (λ v t. values_from v (answers_in After t)) first told
     → sums_text last (words_sum after.system.memory.words) ≡ measured_text count n accesses
 unfolding measured_text

@@ -6,7 +6,7 @@ ghost use Rattle.mt_machine.specs.Start.{start_machine};
 ghost use Rattle.mt_core.specs.Rounds.{ascending};
 ghost use Rattle.mt_private.specs.declared.job.Part.TheVariants.{Before, After};
 ghost use Rattle.mt_private.specs.Jobs.{FitsJob, answers_in, ops_in};
-ghost use Rattle.mt_private.specs.OneByOne.{AreOneByOne};
+ghost use Rattle.mt_private.specs.OneByOne.{AreOneByOne, jobs_one_by_one};
 ghost use Rattle.mt_cli.specs.Measured.{IsSetUp, behind_ops, drawn_op, drawn_ops, file_of, measured_machine, measured_text, ops_after, ops_before, own_page, sums_text, value_of, values_from, with_own, words_sum};
 
 use arrayvec::ArrayVec;
@@ -231,7 +231,7 @@ fn run_jobs<R: Threads + Wait + Sync, G: Gate>(
     requires some { 0 < vec_len jobs }
     requires set_up { IsSetUp (vec_len jobs) core.old }
     requires addresses { All FitsJob jobs.items }
-    ensures { IfOk result (λ told. AreOneByOne core.old.system (file_of 4) jobs.items core.new told.items) }
+    ensures { IfOk result (λ told. AreOneByOne (jobs_one_by_one core.old.system (file_of 4) jobs.items) core.new told.items) }
 {
     let Some(goal) = file_of(4) else {
         return Err(NoMemory);
