@@ -1,11 +1,10 @@
 -- From what the calls say to what is proved of a run.
 use Rattle.std.proofs.Common.{◌≡◌, ◌≢◌, ◌⊎◌, ◌∙◌, ℕ, Bool, true, false, List, [], Option, None, Some, ap, inl, inr, refl, sym, subst, arith}
-use Rattle.std.specs.Prelude.{◌↔◌, if◌then◌else◌, IfErr, IfOk, IfSome, Result, Ok, Err}
+use Rattle.std.specs.Prelude.{◌↔◌, if◌then◌else◌, IfErr, IfOk, Result, Ok, Err}
 use Rattle.mt_ports.specs.Causes.{StatusHasCause}
 use Rattle.mt_ports.specs.declared.status.Status.{Status}
-use Rattle.mt_ports.specs.declared.status.Status.TheVariants.{Done, Usage, ReadFault, WriteFault, NoMemory, TooLong, TooFew, Disabled}
+use Rattle.mt_ports.specs.declared.status.Status.TheVariants.{Done, Usage, ReadFault, WriteFault, NoMemory, TooLong}
 use Rattle.mt_text.specs.Feed.{GaveTooMuch}
-use Rattle.mt_output.specs.Written.{Writes}
 use Rattle.mt_output.specs.Ports.{SinkRun, SourceRun, change, held, port, sink_run, source_run}
 use Rattle.mt_stream.specs.Results.{ResultsIn}
 use Rattle.mt_proc.specs.Proc.{proc_told}
@@ -19,7 +18,7 @@ use Rattle.mt_answers.specs.declared.command.ThreadedCommand.TheVariants.{Big, P
 use Rattle.mt_answers.specs.declared.command.DumpCommand.{DumpCommand}
 use Rattle.mt_answers.specs.CommandLine.{MayTakeMemory, command_of, left_of, reads_input}
 use Rattle.mt_answers.specs.Generator.{make_text}
-use Rattle.mt_answers.specs.Help.{help_text, own_text, version_text}
+use Rattle.mt_answers.specs.Help.{help_text, version_text}
 use Rattle.mt_answers.specs.Lines.{usage_line}
 use Rattle.mt_cli.specs.Output.{Output, printed, usage}
 use Rattle.mt_cli.specs.Runs.{IsRun, IsToolRun}

@@ -1,6 +1,6 @@
 -- Jobs for measurements, which three numbers determine, around one update, and what they sum to (own).
 --     measured_text count n accesses      the text
-use Rattle.std.specs.Prelude.{◌≡◌, ℕ, zero, suc, ◌+◌, ◌*◌, ◌%◌, ◌^◌, nat_lt, false, List, [], ◌∷◌, ◌++◌, length, map, replicate, codes, if◌then◌else◌}
+use Rattle.std.specs.Prelude.{◌≡◌, ℕ, zero, suc, ◌+◌, ◌*◌, ◌%◌, ◌^◌, nat_lt, false, List, [], ◌∷◌, ◌++◌, length, map, replicate, codes, if◌then◌else◌, None}
 use Rattle.std.specs.List.{All, fold}
 use Rattle.mt_regs.specs.RegisterFile.{RegisterFile, blank_file}
 use Rattle.mt_regs.specs.Registers.{with_value}
@@ -12,6 +12,7 @@ use Rattle.mt_machine.specs.declared.done.Done.{Done}
 use Rattle.mt_machine.specs.declared.done.Done.TheVariants.{Value}
 use Rattle.mt_machine.specs.declared.op.Op.{Op}
 use Rattle.mt_machine.specs.declared.op.Op.TheVariants.{Load, Store}
+use Rattle.mt_machine.specs.Memory.{Window}
 use Rattle.mt_machine.specs.Machine.{Controls, FitsGoal, Machine, next}
 use Rattle.mt_machine.specs.Start.{start_machine}
 use Rattle.mt_core.specs.Arises.{grown}
@@ -61,8 +62,11 @@ file_of kind = with_value (with_value (with_value (blank_file 36 0x508) (PhysBas
 abbrev pub own_page : ℕ → Mapping
 own_page k = record { vpage = 0; ppage = 0x100 * k; index = 0; global = false }
 
+abbrev pub own_window : ℕ → Window
+own_window k = window (0x100000 * k) 64
+
 abbrev pub with_own : Machine → ℕ → Machine
-with_own m k = next (grown (window (0x100000 * k) 64) m) (Controls k (Map (own_page k)))
+with_own m k = next (grown (own_window k) m) (Controls k (Map (own_page k)))
 
 abbrev pub measured_machine : ℕ → Machine
 measured_machine count = fold with_own (start_machine (replicate count (file_of 6)) []) (ascending count)
@@ -72,9 +76,10 @@ abbrev pub measured : ℕ → ℕ → ℕ → OneByOne
 measured count n accesses =
     one_by_one (measured_machine count).system (file_of 4) (map (ops_before n accesses) (ascending count)) (map (ops_after n accesses) (ascending count))
 
--- so many processors, with the goal's width and capabilities, that have finished no update
+-- so many processors, with the goal's width and capabilities, that have finished no update, and none is under way
 pub record IsSetUp (count : ℕ) (m : Machine) : Type 0 where
   pub size : length m.system.processors ≡ count
+  pub order : m.order ≡ None
   pub fits : All (FitsGoal (file_of 4)) m.system.processors
   pub eras : All (λ p. p.era ≡ 0) m.system.processors
 

@@ -1,7 +1,7 @@
 -- What is proved of a run of the program, by its words, its source, its sink and its status (own).
 --     IsRun words source sink status      of any run
 --     IsToolRun words source sink status      of a run whose list of words found memory
-use Rattle.std.specs.Prelude.{ℕ, ◌≡◌, ◌⊎◌, ◌↔◌, false, List, Option, None, Some}
+use Rattle.std.specs.Prelude.{ℕ, ◌≡◌, ◌⊎◌, ◌↔◌, false, List, None, Some}
 use Rattle.mt_ports.specs.Causes.{StatusHasCause}
 use Rattle.mt_ports.specs.declared.status.Status.{Status}
 use Rattle.mt_ports.specs.declared.status.Status.TheVariants.{Usage, ReadFault, WriteFault, NoMemory, TooLong}

@@ -1,13 +1,16 @@
 // Jobs for measurements around one update, and what they sum to.
-ghost use Rattle.std.specs.Prelude.{◌≡◌, ◌<◌, ◌≤◌, [], IfOk, IfSome, OnOk, length, map, replicate, vec_len};
+ghost use Rattle.std.specs.Prelude.{◌≡◌, ◌<◌, ◌≤◌, [], IfOk, None, OnOk, length, map, replicate, vec_len};
 ghost use Rattle.std.specs.List.{All, fold};
 ghost use Rattle.mt_machine.specs.Machine.{FitsGoal, FitsOp};
 ghost use Rattle.mt_machine.specs.Start.{start_machine};
+ghost use Rattle.mt_core.specs.Arises.{grown};
 ghost use Rattle.mt_core.specs.Rounds.{ascending};
 ghost use Rattle.mt_private.specs.declared.job.Part.TheVariants.{Before, After};
 ghost use Rattle.mt_private.specs.Jobs.{FitsJob, answers_in, ops_in};
 ghost use Rattle.mt_private.specs.OneByOne.{AreOneByOne, jobs_one_by_one};
-ghost use Rattle.mt_cli.specs.Measured.{IsSetUp, behind_ops, drawn_op, drawn_ops, file_of, measured_machine, measured_text, ops_after, ops_before, own_page, sums_text, value_of, values_from, with_own, words_sum};
+ghost use Rattle.mt_private.specs.Pages.{IsPrivate};
+ghost use Rattle.mt_ram.specs.Windows.{refusal};
+ghost use Rattle.mt_cli.specs.Measured.{IsSetUp, behind_ops, drawn_op, drawn_ops, file_of, measured_machine, measured_text, ops_after, ops_before, own_page, own_window, sums_text, value_of, values_from, with_own, words_sum};
 
 use arrayvec::ArrayVec;
 use mt_answers::{drawn, stepped};
@@ -15,8 +18,8 @@ use mt_core::Core;
 use mt_machine::{Control, Done, Op};
 use mt_output::{LineBuffer, append, append_value};
 use mt_ports::{Gate, NoMemory};
-use mt_private::{Caller, Job, Part, Told, run_private_with};
-use mt_ram::Ram;
+use mt_private::{Caller, Job, Part, PrivateFault, Told, run_private_with};
+use mt_ram::{Ram, RamFault};
 use mt_regs::{RegFile, Register};
 use mt_tlb::Mapping;
 use std::alloc::Global;
@@ -137,16 +140,14 @@ fn words_sum(ram: &Ram) -> u64
 }
 
 // Registers that give memory below 4 GB a type, over UC.
-fn file_of(kind: u64) -> Option<RegFile>
-    ensures { IfSome result (λ f. f ≡ file_of kind) }
+fn file_of(kind: u64) -> RegFile
+    ensures { result ≡ file_of kind }
 {
-    let Ok(mut file) = RegFile::blank(36, 0x508) else {
-        return None;
-    };
+    let mut file = RegFile::blank(36, 0x508).unwrap();
     file.put(Register::PhysBase(0), kind);
     file.put(Register::PhysMask(0), 0xf_0000_0800);
     file.put(Register::DefaultType, 0x800);
-    Some(file)
+    file
 }
 
 fn own_page(k: u32) -> Mapping
@@ -160,14 +161,28 @@ fn own_page(k: u32) -> Mapping
     }
 }
 
+// Adds the window of processor k. Fails only if an allocation fails.
+fn add_own_window(core: &mut Core, k: u32) -> Result<(), NoMemory>
+    requires few { k < 16 }
+    requires room { refusal core.old.system.memory.windows (own_window k) ≡ None }
+    ensures { OnOk result (core.new ≡ grown (own_window k) core.old) }
+{
+    match core.add_ram(0x10_0000 * k as u64, 64) {
+        Ok(()) => Ok(()),
+        Err(RamFault::NoMemory) => Err(NoMemory),
+        Err(_) => unreachable!(),
+    }
+}
+
 // The window and the mapping of processor k.
 fn add_own(core: &mut Core, k: u32) -> Result<(), NoMemory>
     requires processor { k < length core.old.system.processors }
     requires few { k < 16 }
     requires kind { All (FitsGoal (file_of 4)) core.old.system.processors }
+    requires room { refusal core.old.system.memory.windows (own_window k) ≡ None }
     ensures added { OnOk result (core.new ≡ with_own core.old k) }
 {
-    let Ok(()) = core.add_ram(0x10_0000 * k as u64, 64) else {
+    let Ok(()) = add_own_window(core, k) else {
         return Err(NoMemory);
     };
     core.control(k, Control::Map(own_page(k)));
@@ -180,12 +195,7 @@ fn bare_core(alloc: Global, cpus: u32) -> Result<Core, NoMemory>
     requires few { cpus ≤ 16 }
     ensures { IfOk result (λ core. core ≡ start_machine (replicate cpus (file_of 6)) []) }
 {
-    let Some(file) = file_of(6) else {
-        return Err(NoMemory);
-    };
-    if file.first_fault().is_some() {
-        return Err(NoMemory);
-    }
+    let file = file_of(6);
     let files = file.copies(cpus);
     Core::start(alloc, files.as_slice())
 }
@@ -196,6 +206,7 @@ fn measured_core(alloc: Global, cpus: u32) -> Result<Core, NoMemory>
     requires few { cpus ≤ 16 }
     ensures machine { IfOk result (λ core. core ≡ measured_machine cpus) }
     ensures set_up { IfOk result (IsSetUp cpus) }
+    ensures private { IfOk result (λ core. IsPrivate core.system) }
 {
     let Ok(mut core) = bare_core(alloc, cpus) else {
         return Err(NoMemory);
@@ -221,6 +232,16 @@ fn sums_text(values: u64, memory: u64) -> LineBuffer
     text
 }
 
+// The error of jobs that nothing but a failed allocation stops.
+fn no_memory(fault: PrivateFault) -> NoMemory
+    requires { fault ≡ PrivateFault.NoMemory }
+{
+    match fault {
+        PrivateFault::NoMemory => NoMemory,
+        _ => unreachable!(),
+    }
+}
+
 // The jobs, and an update between.
 fn run_jobs<R: Threads + Wait + Sync, G: Gate>(
     caller: &Caller<R, G>,
@@ -230,15 +251,14 @@ fn run_jobs<R: Threads + Wait + Sync, G: Gate>(
 ) -> Result<Vec<Told>, NoMemory>
     requires some { 0 < vec_len jobs }
     requires set_up { IsSetUp (vec_len jobs) core.old }
+    requires private { IsPrivate core.old.system }
     requires addresses { All FitsJob jobs.items }
     ensures { IfOk result (λ told. AreOneByOne (jobs_one_by_one core.old.system (file_of 4) jobs.items) core.new told.items) }
 {
-    let Some(goal) = file_of(4) else {
-        return Err(NoMemory);
-    };
+    let goal = file_of(4);
     match run_private_with(caller, alloc, core, goal, jobs) {
         Ok(told) => Ok(told),
-        Err(_) => Err(NoMemory),
+        Err(fault) => Err(no_memory(fault)),
     }
 }
 
