@@ -3,24 +3,23 @@ use Rattle.std.proofs.Common.{◌≡◌, ◌∙◌, ap, subst, sym, refl, arith,
 use Rattle.std.proofs.Math.Seq.{take-suc}
 use Rattle.std.proofs.lemmas.Bool.{ltb-false}
 use Rattle.std.specs.Prelude.{◌↔◌, IfSome, IsSomeAnd, is_some, nat_lt, not}
-use Rattle.std.specs.Option.{option_map, option_map_or}
-use Rattle.mt_judge.specs.Dues.{AreListsFinished, IsDue, IsDueAt}
+use Rattle.std.specs.Option.{option_map_or}
+use Rattle.mt_judge.specs.Dues.{AreListsFinished, IsDue}
 use Rattle.mt_judge.specs.Listed.{wrongs_in}
-use Rattle.mt_judge.specs.Ordered.{AreRightSteps, AreWhole, IsRightRun, IsRightStep, IsWhole, all_turns, ordered, part_of, step_of, steps_below, turn, turns}
-use Rattle.mt_judge.specs.Runs.{Case, IsEnded, IsRun, State, after, may_go, move_of, moved, next_move, run, step_at}
-use Rattle.mt_judge.specs.Searches.{fault_at, has_wrong, is_bad}
+use Rattle.mt_judge.specs.Ordered.{AreRightSteps, AreWhole, IsRightRun, IsWhole, all_turns, ordered, part_of, step_of, steps_below, turn, turns}
+use Rattle.mt_judge.specs.Runs.{Case, IsEnded, IsRun, State, after, may_go, moved, next_move, run, step_at}
+use Rattle.mt_judge.specs.Searches.{has_wrong}
 use Rattle.mt_judge.specs.Told.{AreTold, AreToldBehind, IsRightTold, IsTold, IsToldOrder, IsToldPart, TellsNext, TellsStep}
 use Rattle.mt_judge.specs.Wrongs.{fault_of}
 use Rattle.mt_judge.specs.declared.moves.Move.{Move}
 use Rattle.mt_judge.specs.declared.one_run.JudgedRun.{JudgedRun}
-use Rattle.mt_judge.specs.declared.step.ProcedureStep.{ProcedureStep}
 use Rattle.mt_judge.specs.declared.transcript.Told.{Told}
 use Rattle.mt_judge.specs.declared.transcript.Told.TheVariants as line
 use Rattle.mt_judge.specs.declared.transcript.ToldStep.{ToldStep}
 use Rattle.mt_judge.specs.declared.wrong.Fault.{Fault}
 use Rattle.mt_judge.specs.declared.wrong.Wrong.{Wrong}
 use Rattle.mt_judge.proofs.RunLists.{run_behind, runs_behind}
-use Rattle.mt_judge.proofs.Searching.{bad_is, goes, waits}
+use Rattle.mt_judge.proofs.Searching.{bad_is, goes}
 
 -- ---- flags
 
@@ -68,8 +67,8 @@ module _ (c : Case) where
     step,
     told_on (moved c s k) rest ys first then_on h (subst (λ ks. AreTold c (run c s ks) ys then_on) is g),
   )
-  told_on s xs ys (line.Pause cpu step ∷ first) then_on h g = (h.0, told_on s xs ys first then_on h.1 g)
-  told_on s xs ys (line.Unfinished cpu phase due arrived ∷ first) then_on h g = (h.0, told_on s xs ys first then_on h.1 g)
+  told_on s xs ys (line.Pause cpu step ∷ first) then_on h g = (h.0, h.1, told_on s xs ys first then_on h.2 g)
+  told_on s xs ys (line.Unfinished cpu phase due arrived ∷ first) then_on h g = (h.0, h.1, h.2, h.3, told_on s xs ys first then_on h.4 g)
 
   pub nothing_told : (s : State) (old : List Told) → AreToldBehind c s [] old old
   nothing_told s old = record { more = []; are = refl; behind = sym (append-nil old) }

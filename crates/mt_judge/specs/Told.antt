@@ -1,12 +1,14 @@
 -- What is printed of a run: its steps in their order, and beside them who doesn't go on (own).
-use Rattle.std.specs.Prelude.{◌≡◌, ◌↔◌, ℕ, Bool, true, false, List, [], ◌∷◌, ◌++◌, length, IsSomeAnd, Option, None}
-use Rattle.std.specs.List.{count_by}
+use Rattle.std.specs.Prelude.{◌≡◌, ◌↔◌, ℕ, ◌^◌, nat_lt, Bool, true, false, List, [], ◌∷◌, ◌++◌, length, if◌then◌else◌, slice_get, IsSomeAnd, Option, None}
+use Rattle.std.specs.List.{count_by, list_all}
+use Rattle.std.specs.Option.{option_map_or}
+use Rattle.mt_machine.specs.declared.event.Event.{Event}
 use Rattle.mt_machine.specs.Machine.{has_arrived, has_arrived_again}
 use Rattle.mt_machine.specs.System.{Processor}
 use Rattle.mt_judge.specs.Dues.{IsDue, is_unfinished}
 use Rattle.mt_judge.specs.Listed.{wrongs_in}
 use Rattle.mt_judge.specs.Ordered.{AreRightSteps, AreWhole, IsWhole, ordered, part_of}
-use Rattle.mt_judge.specs.Runs.{Case, IsRun, State, moved, next_move, procedure_order, run, step_at}
+use Rattle.mt_judge.specs.Runs.{Case, IsRun, State, due_of, may_go, moved, next_move, phase_in, procedure_order, run, step_at}
 use Rattle.mt_judge.specs.Wrongs.{fault_of}
 use Rattle.mt_judge.specs.declared.moves.Move.{Move}
 use Rattle.mt_judge.specs.declared.one_run.JudgedRun.{JudgedRun}
@@ -27,6 +29,10 @@ has_arrived_second p = has_arrived_again (procedure_order p.file) p
 abbrev pub arrived_in : List Processor → Arrivals
 arrived_in ps = record { first = count_by has_arrived_first ps; second = count_by has_arrived_second ps; of = length ps }
 
+-- the event that is due, if the processor's lines are within the physical addresses
+abbrev pub told_due : List Processor → ℕ → Option Event
+told_due ps k = option_map_or (λ p. if list_all (λ l. nat_lt l.number (2 ^ 46)) p.lines then due_of ps p else None) (slice_get ps k) None
+
 -- a step from one state to another, with its fault and all that is wrong in the state after it
 pub record TellsStep (before : State) (m : Move) (after : State) (t : ToldStep) : Type 0 where
   pub done : t.done ≡ m
@@ -46,13 +52,15 @@ TellsNext c s k t = IsSomeAnd (next_move c s k) (λ m. TellsStep s m (moved c s 
 
 -- ---- a run
 
--- these processors' steps are told in their order, and no other. Beside them stands which step a processor has next that doesn't go on, and
--- whose list has ended in the midst of an update
+-- these processors' steps are told in their order, and no other. Beside them stands which step a processor has next that can't go on, and
+-- whose list has ended in the midst of an update, with its phase, the event that is due, and who has arrived
 abbrev pub AreTold : Case → State → List ℕ → List Told → Type 0
 AreTold c s ks [] = ks ≡ []
 AreTold c s ks (line.Step t ∷ ts) = (k : ℕ) × (rest : List ℕ) × (ks ≡ k ∷ rest) × TellsNext c s k t × AreTold c (moved c s k) rest ts
-AreTold c s ks (line.Pause cpu step ∷ ts) = (step ≡ step_at c s cpu) × AreTold c s ks ts
-AreTold c s ks (line.Unfinished cpu phase due arrived ∷ ts) = (is_unfinished c s cpu ≡ true) × AreTold c s ks ts
+AreTold c s ks (line.Pause cpu step ∷ ts) = (may_go c s cpu ≡ false) × (step ≡ step_at c s cpu) × AreTold c s ks ts
+AreTold c s ks (line.Unfinished cpu phase due arrived ∷ ts) =
+    (is_unfinished c s cpu ≡ true) × (phase ≡ phase_in s.processors cpu) × (due ≡ told_due s.processors cpu) × (arrived ≡ arrived_in s.processors)
+    × AreTold c s ks ts
 
 -- a run of these processors, from its start on
 pub record IsTranscript (c : Case) (s : State) (ks : List ℕ) (t : Transcript) : Type 0 where

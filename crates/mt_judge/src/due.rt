@@ -3,6 +3,7 @@ ghost use Rattle.std.specs.List.{list_all};
 ghost use Rattle.mt_machine.specs.System.{Processor};
 ghost use Rattle.mt_machine.specs.Machine.{first_flush, has_arrived, has_arrived_again, has_passed, has_released, is_arrived, is_arrived_again, is_changing, write_or_enable};
 ghost use Rattle.mt_judge.specs.Runs.{due_in, due_of, procedure_order};
+ghost use Rattle.mt_judge.specs.Told.{told_due};
 
 use crate::cpu::Cpu;
 use crate::moves::are_physical;
@@ -108,6 +109,7 @@ pub(crate) fn due(cpus: &[Cpu], k: usize) -> Option<Event>
 /// The event that is due, if the processor's lines are within the physical addresses.
 pub(crate) fn due_at(cpus: &[Cpu], k: usize) -> Option<Event>
     requires { k < length cpus.now }
+    ensures { result ≡ told_due cpus.now k }
 {
     let cpu = &cpus[k];
     if are_physical(cpu.lines()) {

@@ -1,3 +1,5 @@
+ghost use Rattle.mt_judge.specs.Verdicts.{IsStatusOf};
+
 use crate::case::Trouble;
 use crate::judging::{Verdict, judge};
 use crate::moves::Case;
@@ -69,7 +71,9 @@ fn read_all<S: Source>(alloc: Global, source: &mut S) -> Result<Vec<u8>, Status>
 }
 
 // Writes a verdict.
-fn print<K: Sink>(alloc: Global, case: &Case, verdict: &Verdict, sink: &mut K) -> Status {
+fn print<K: Sink>(alloc: Global, case: &Case, verdict: &Verdict, sink: &mut K) -> Status
+    ensures { IsStatusOf verdict.now result }
+{
     let status = if verdict.wrong {
         Status::Refused
     } else {

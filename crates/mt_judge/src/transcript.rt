@@ -103,7 +103,8 @@ pub(crate) fn tell(told: &mut Vec<Told>, more: Told) -> Result<(), NoMemory>
     }
 }
 
-/// Tells where a processor stands that doesn't go on.
+/// Tells where a processor stands if it can't go on.
+#[tactic(auto, using(crate::proofs::Courses::nothing_told))]
 pub(crate) fn tell_pause(
     told: &mut Vec<Told>,
     case: &Case,
@@ -112,6 +113,9 @@ pub(crate) fn tell_pause(
 ) -> Result<(), NoMemory>
     ensures { OnOk result (AreToldBehind case.now state.now [] told.old.items told.new.items) }
 {
+    if state.may_go(case, k) {
+        return Ok(());
+    }
     let step = case.step_at(state, k);
     tell(told, Told::Pause { cpu: k, step })
 }
