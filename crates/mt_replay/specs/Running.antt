@@ -3,7 +3,6 @@
 --     AsksAt point number line      a line that asks for memory; OutOfMemory source sink, where it was refused
 --     IsReplay source sink status      what is proved of a replay
 use Rattle.std.specs.Prelude.{ℕ, ◌≡◌, ◌||◌, ◌++◌, Bool, true, false, List, [], ◌∷◌, ⊤, MatchOption, MatchResult, Option, Result, None, Ok}
-use Rattle.mt_text.specs.declared.line.Line.{Line}
 use Rattle.mt_text.specs.declared.place.Place.{Place}
 use Rattle.mt_ports.specs.declared.status.Status.{Status}
 use Rattle.mt_ports.specs.declared.status.Failed.{Failed}
@@ -20,7 +19,7 @@ use Rattle.mt_machine.specs.Start.{HasEraRoom}
 use Rattle.mt_regs.specs.Agreement.{first_refusal}
 use Rattle.mt_dump.specs.Dumps.{Dump}
 use Rattle.mt_stream.specs.Handling.{IsRunOfLines}
-use Rattle.mt_stream.specs.Lines.{AtLine, Path, Running, Takes, at_line, running}
+use Rattle.mt_stream.specs.Lines.{AtLine, Path, Running, at_line, running}
 use Rattle.mt_output.specs.Ports.{Change, Held, Port, SinkRun, SourceRun, Waiting}
 use Rattle.mt_stream.specs.Results.{AsksBy, RefusesMemory, ResultsAs}
 use Rattle.mt_stream.specs.Transcript.{Transcript}
@@ -110,12 +109,6 @@ from_line number line p end lines = told_lines end number (line ∷ lines) p
 -- and what a run that takes it finds behind a text, where a processor may have come up before
 abbrev pub line_at : Bool → List ℕ → ℕ → List ℕ → ScriptState → AtLine
 line_at came so_far number line p = at_line number line so_far (path_from came so_far p)
-
--- a run takes a line, wherever it stands
-abbrev pub TakesLine : Change Run → Line → Waiting → Port → Result (Option Stop) Failed → Type 0
-TakesLine run line writer sink result =
-    (came : Bool) (so_far : List ℕ) (was : ScriptState) → IsAt run.old was → HasOutput run.old came so_far
-    → Takes (StandsAt run.new) (line_at came so_far line.number line.bytes.now was) writer sink result
 
 -- The same at the end of a dump that is shown, the lines behind which have this number on. Nothing is written before it.
 abbrev pub dump_at : Situation → Dump → ℕ → AtLine

@@ -1,4 +1,4 @@
-ghost use Rattle.std.specs.Prelude.{◌≡◌, ◌+◌, ℕ, List, Bool, true, IfOk, OnOk, OnErr, Some, Ok, Err};
+ghost use Rattle.std.specs.Prelude.{◌≡◌, ◌≢◌, ◌+◌, ℕ, List, [], Bool, true, MatchOption, MatchResult, IfOk, OnOk, OnErr, Some, Ok, Err};
 ghost use Rattle.mt_ports.specs.Causes.{HasCause};
 ghost use Rattle.mt_regs.specs.Agreement.{first_refusal};
 ghost use Rattle.mt_machine.specs.Start.{HasEraRoom};
@@ -9,8 +9,8 @@ ghost use Rattle.mt_script.specs.Stages.{is_in_dump};
 ghost use Rattle.mt_dump.specs.ForProcessors.{has_each};
 ghost use Rattle.mt_replay.specs.Kept.{HasEras};
 ghost use Rattle.mt_replay.specs.Parts.{AsksForMemory};
-ghost use Rattle.mt_replay.specs.ReplayState.{command_text, may_come, state_after, task_of};
-ghost use Rattle.mt_replay.specs.Running.{AsksAt, CarriesOut, HasEraRoomAt, HasErasAt, HasOutput, IsAt, StandsAt, TakesLine, Writes, dump_at, line_at, setup_of};
+ghost use Rattle.mt_replay.specs.ReplayState.{ReplayState, command_text, may_come, state_after, task_of};
+ghost use Rattle.mt_replay.specs.Running.{AsksAt, CarriesOut, HasEraRoomAt, HasErasAt, IsAt, HasOutput, Writes, StandsAt, dump_at, line_at, setup_of};
 ghost use Rattle.mt_stream.specs.Lines.{IfGoesOn, Takes};
 ghost use Rattle.mt_output.specs.Ports.{change, port};
 ghost use Rattle.mt_replay.specs.Summing.{Begins, Lasts, state_in};
@@ -244,6 +244,37 @@ fn take_command<R: Threads + Wait + Sync, K: Sink, G: Gate>(
     }
 }
 
+// Takes a line up to the dump's end. It stays apart, because a dump's 10 KB would be cleared for each line of a script.
+#[inline(never)]
+fn take_in_head<K: Sink>(
+    alloc: Global,
+    run: &mut Run,
+    line: &Line<'_>,
+    writer: &mut Writer,
+    sink: &mut K,
+) -> Result<Option<Stop>, Failed>
+    requires { (replayer : ReplayState) → run.old ≢ Run.Body replayer }
+    ensures bytes { (came : Bool) (so_far : List ℕ) (was : ScriptState) → IsAt run.old was → HasOutput run.old came so_far →
+        Takes (StandsAt run.new) (line_at came so_far line.now.number line.now.bytes.now was) (change writer.old writer.new) (port K.taken sink.old sink.new) result }
+    ensures eras { (most : ℕ) → HasErasAt most run.old → IfGoesOn result (HasErasAt (most + 1) run.new) }
+    ensures asks { (was : ScriptState) → IsAt run.old was → result ≡ Ok (Some Stop.NoMemory) → AsksAt was line.now.number line.now.bytes.now }
+    ensures last { (was : ScriptState) → IsAt run.old was → Lasts line.now.number line.now.bytes.now was run.new result }
+    ensures cause { HasCause (K.faults sink.old) (K.faults sink.new) result }
+{
+    let head = match run {
+        Run::Head(head) => head,
+        Run::Body(_) => unreachable!(),
+    };
+    match head.take(line) {
+        Ok(None) => Ok(None),
+        Ok(Some(dump)) => {
+            let setup = mem::replace(&mut head.setup, Setup::new());
+            begin(alloc, run, setup, dump, writer, sink)
+        }
+        Err(offence) => tell_offence(writer, sink, &offence),
+    }
+}
+
 /// Takes a line. It returns a stop if the replay ends with it.
 pub(crate) fn take_line<R: Threads + Wait + Sync, K: Sink, G: Gate>(
     caller: &Caller<R, G>,
@@ -254,22 +285,15 @@ pub(crate) fn take_line<R: Threads + Wait + Sync, K: Sink, G: Gate>(
     sink: &mut K,
 ) -> Result<Option<Stop>, Failed>
     requires { HasEraRoomAt run.old }
-    ensures bytes { TakesLine (change run.old run.new) line.now (change writer.old writer.new) (port K.taken sink.old sink.new) result }
+    ensures bytes { (came : Bool) (so_far : List ℕ) (was : ScriptState) → IsAt run.old was → HasOutput run.old came so_far →
+        Takes (StandsAt run.new) (line_at came so_far line.now.number line.now.bytes.now was) (change writer.old writer.new) (port K.taken sink.old sink.new) result }
     ensures eras { (most : ℕ) → HasErasAt most run.old → IfGoesOn result (HasErasAt (most + 1) run.new) }
     ensures asks { (was : ScriptState) → IsAt run.old was → result ≡ Ok (Some Stop.NoMemory) → AsksAt was line.now.number line.now.bytes.now }
     ensures last { (was : ScriptState) → IsAt run.old was → Lasts line.now.number line.now.bytes.now was run.new result }
     ensures cause { HasCause (K.faults sink.old) (K.faults sink.new) result }
 {
-    let head = match run {
-        Run::Body(replayer) => return take_command(caller, alloc, replayer, line, writer, sink),
-        Run::Head(head) => head,
-    };
-    match head.take(line) {
-        Ok(None) => Ok(None),
-        Ok(Some(dump)) => {
-            let setup = mem::replace(&mut head.setup, Setup::new());
-            begin(alloc, run, setup, dump, writer, sink)
-        }
-        Err(offence) => tell_offence(writer, sink, &offence),
+    match run {
+        Run::Body(replayer) => take_command(caller, alloc, replayer, line, writer, sink),
+        Run::Head(_) => take_in_head(alloc, run, line, writer, sink),
     }
 }
