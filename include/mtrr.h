@@ -70,7 +70,7 @@ extern "C" {
 #define MTRR_DISABLED 9u  /* the range registers are off */
 #define MTRR_TOO_FEW 10u  /* more pairs are needed than may be used */
 #define MTRR_NO_GRANULE 11u /* the size isn't a power of two from 4 KB to 1 TB */
-#define MTRR_NOT_DUE 12u  /* the step isn't the one that is due: nothing was changed */
+#define MTRR_NOT_DUE 12u  /* the step isn't due, or a count has no room: nothing was changed */
 
 /* What is wrong with a register. */
 #define MTRR_RESERVED_BIT 1u

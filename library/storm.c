@@ -2,7 +2,7 @@
  * The calls under a storm of interrupts on the same stack, as a kernel has
  * them: a program without a C library steps through each call by the trap flag.
  * Before every instruction a signal's handler overwrites the 128 bytes below
- * the stack pointer and the vector registers, which an interrupt and a kernel's
+ * the stack pointer and the XMM registers, which an interrupt and a kernel's
  * own code may. The answers are to be those without the storm.
  *
  *     storm [SIGNALS]        3,000,000 unless told otherwise
