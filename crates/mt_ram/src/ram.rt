@@ -190,6 +190,23 @@ impl Ram {
         self.words.len()
     }
 
+    /// Borrows all words, in the order of their places.
+    pub fn as_slice(&self) -> &[u64]
+        ensures { result.now ≡ self.now.words }
+    {
+        self.words.as_slice()
+    }
+
+    /// Borrows all words for writing, in the order of their places.
+    pub fn as_mut_slice(&mut self) -> &mut [u64]
+        ensures* writes_back { sem 𝓛 (Lends the_row (Array u64 0) self.entry result (with_line 0 self.old)) }
+        ensures value { result.now ≡ self.old.words }
+        ensures whole { length result.now ≡ length self.old.words }
+    {
+        let count = self.words.len();
+        self.words.slice_mut(0..count)
+    }
+
     /// The word at a place.
     pub fn word(&self, i: usize) -> u64
         requires { i < length self.now.words }
