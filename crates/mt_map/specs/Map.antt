@@ -75,5 +75,5 @@ pub data Maps (asked : Option Asked) (source : Held) (sink : Port) (result : Sta
   unread : sink.new ≡ sink.old → (result ≡ ReadFault) ⊎ ((result ≡ TooLong) × (longest_input < length source.bytes)) → Maps asked source sink result
 
 -- the same where the arguments may have found no memory: then nothing is read or written
-abbrev pub Runs : Option Asked → Held → Port → Status → Type 0
-Runs asked source sink result = Maps asked source sink result ⊎ ((result ≡ NoMemory) × (source.left ≡ Some source.bytes) × (sink.new ≡ sink.old))
+abbrev pub IsMapRun : Option Asked → Held → Port → Status → Type 0
+IsMapRun asked source sink result = Maps asked source sink result ⊎ ((result ≡ NoMemory) × (source.left ≡ Some source.bytes) × (sink.new ≡ sink.old))

@@ -17,7 +17,7 @@ use Rattle.mt_rendezvous.specs.declared.view.Start.{Start}
 use Rattle.mt_rendezvous.specs.Calls.{SeatOf}
 use Rattle.mt_rendezvous.specs.Station.{held, start_of}
 use Rattle.mt_private.specs.declared.job.Job.{Job}
-use Rattle.mt_private.specs.declared.job.Told.{Told}
+use Rattle.mt_private.specs.declared.job.JobAnswers.{JobAnswers}
 use Rattle.mt_private.specs.declared.view.Resident.{Resident}
 use Rattle.mt_private.specs.declared.view.YardView.{YardView}
 use Rattle.mt_private.specs.Own.{own_memory}
@@ -122,5 +122,5 @@ lone_host table = record { table = table; start = alone; its = table; me = last_
 abbrev pub IsEmptyJob : Job → Type 0
 IsEmptyJob job = (job.before.items ≡ []) × (job.after.items ≡ [])
 
-abbrev pub HasNoAnswers : Told → Type 0
+abbrev pub HasNoAnswers : JobAnswers → Type 0
 HasNoAnswers told = (told.before.items ≡ []) × (told.after.items ≡ [])

@@ -15,7 +15,7 @@ ghost use Rattle.mt_rendezvous.specs.declared.view.Added.TheVariants.{Never, Onc
 ghost use Rattle.mt_rendezvous.specs.declared.view.Key.{Key};
 ghost use Rattle.mt_rendezvous.specs.Station.{broadcast, start_of};
 ghost use Rattle.mt_private.specs.declared.job.Job.{Job as YardJob};
-ghost use Rattle.mt_private.specs.declared.job.Told.{Told as YardTold};
+ghost use Rattle.mt_private.specs.declared.job.JobAnswers.{JobAnswers as YardTold};
 ghost use Rattle.mt_private.specs.Alone.{JobsAlone, JobsRunAlone, UpdatesAlone, UpdatesRunAlone};
 ghost use Rattle.mt_private.specs.Left.{Leaves};
 ghost use Rattle.mt_private.specs.OneByOne.{jobs_one_by_one};

@@ -16,7 +16,7 @@ ghost use Rattle.mt_private.specs.YardCalls.{AreIn};
 
 use crate::caller::Caller;
 use crate::host::Yard;
-use crate::job::{Job, Told, op_at};
+use crate::job::{Job, JobAnswers, op_at};
 use crate::view::YardTurn;
 use crate::visiting::{Guest, Visited, YardPass};
 use mt_bus::System;
@@ -113,7 +113,7 @@ pub(super) fn visit_with<R: Wait, G: Gate>(
     core: &mut Core,
     goal: &RegFile,
     job: &Job,
-    told: &mut Told,
+    told: &mut JobAnswers,
 ) -> Visited
     requires ready { HasNotTaken yard.now pass.old core.old }
     requires new { done_of pass.old ≡ [] }
@@ -147,7 +147,7 @@ pub fn visit<R: Wait, G: Gate>(
     guest: Guest,
     goal: &RegFile,
     job: &Job,
-    told: &mut Told,
+    told: &mut JobAnswers,
     gate: &G,
 ) -> (Guest, Visited)
     requires lodges { LodgesIn yard.now guest.pass guest.own Never }
