@@ -5,7 +5,7 @@ ghost use Rattle.mt_kinds.specs.Sizes.{most_lines};
 ghost use Rattle.mt_machine.specs.Memory.{IsMemory, Memory, place, place_in, put_word, window_end, word_at, word_count};
 ghost use Rattle.mt_machine.specs.Update.{addresses};
 ghost use Rattle.mt_ram.specs.contracts.ram.Ram.{the_row};
-ghost use Rattle.mt_ram.specs.Windows.{is_overlap, refusal, refusal_in, shares_byte, window, window_of, with_line, with_window};
+ghost use Rattle.mt_ram.specs.Windows.{is_overlap, refusal, refusal_in, shares_byte, window, window_of, with_line, with_window, with_words};
 
 use crate::fault::RamFault;
 use crate::window::Window;
@@ -199,12 +199,11 @@ impl Ram {
 
     /// Borrows all words for writing, in the order of their places.
     pub fn as_mut_slice(&mut self) -> &mut [u64]
-        ensures* writes_back { sem 𝓛 (Lends the_row (Array u64 0) self.entry result (with_line 0 self.old)) }
+        ensures* writes_back { sem 𝓛 (Lends the_row (Array u64 0) self.entry result (with_words self.old)) }
         ensures value { result.now ≡ self.old.words }
         ensures whole { length result.now ≡ length self.old.words }
     {
-        let count = self.words.len();
-        self.words.slice_mut(0..count)
+        self.words.as_mut_slice()
     }
 
     /// The word at a place.
