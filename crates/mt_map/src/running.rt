@@ -156,8 +156,8 @@ fn draw_input<S: Source, K: Sink>(
     }
 }
 
-/// Does all that the program does, and answers its status. For a picture it reads a dump to its end, unless the source
-/// fails or gives more than 16,777,216 bytes; then nothing is written. Where the words ask for nothing it writes `usage`.
+/// Does all that the program does, and returns its status. For a picture it reads a dump to its end, unless the source
+/// fails or gives more than 16,777,216 bytes; then nothing is written. If the words ask for nothing it writes `usage`.
 pub fn map<S: Source, K: Sink>(
     alloc: Global,
     asked: Option<Asked>,

@@ -21,7 +21,7 @@ use crate::caller::Caller;
 use crate::fault::PrivateFault;
 use crate::gathering::{Gathering, Queue};
 use crate::host::{Host, Yard};
-use crate::job::{Job, Part, JobAnswers, op_at};
+use crate::job::{Job, JobAnswers, Part, op_at};
 use crate::leaving::leave;
 use crate::pages::shared_page;
 use crate::threads::{Ended, visit_on_threads};
@@ -234,10 +234,11 @@ pub fn run_private_with<R: Threads + Wait + Sync, G: Gate>(
     Ok(told)
 }
 
-/// Runs a job for each processor and one update, on a thread for each processor, which goes on with its accesses up to the
-/// update and again once it is released. The core and the answers are those of the accesses before, processor by
-/// processor, the whole update, and the accesses after, processor by processor. Where a thread isn't started, what is left
-/// is done on the calling one. Memory for the answers and for each processor's own is taken before the first access.
+/// Runs a job for each processor and one update, with a thread for each processor. Each does its accesses before the
+/// update, and those after it once it is released. The core and the answers are those of the accesses before, processor
+/// by processor, the whole update, and the accesses after, processor by processor. If a thread isn't started, the rest
+/// is done on the calling one. Memory for the answers and for each processor's own is allocated before the first
+/// access.
 ///
 /// # Errors
 ///

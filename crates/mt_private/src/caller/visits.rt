@@ -135,9 +135,9 @@ pub(super) fn visit_with<R: Wait, G: Gate>(
     }
 }
 
-/// Does the accesses of the job before the update, the processor's events of one update, and where that is done the
+/// Does the job's accesses before the update, the processor's events of one update, and, if that completes, the
 /// accesses after it. Others may wait meanwhile, or access pages of their own. It tells the gate once that its
-/// processor has arrived, where it has taken. It waits for the others, and for the host.
+/// processor has arrived, if it has taken. It waits for the others, and for the host.
 ///
 /// Complete comes only after a load of the second count that showed all processors, and Cancelled only after a load of
 /// the first count that showed the host's cancel; the pass's view then says so.

@@ -12,8 +12,8 @@ use mt_core::Core;
 use mt_ports::Gate;
 use mt_rendezvous::{Heard, Pauses, Started};
 use std::sync::Wait;
-use std::thread::{Promise, Scope, Threads};
 use std::thread;
+use std::thread::{Promise, Scope, Threads};
 
 // The runtime of a call. A loop without a measure needs one.
 #[derive(Drop)]

@@ -13,8 +13,8 @@ use mt_cpu::Cpu;
 use mt_machine::Event;
 use mt_ports::Gate;
 use std::sync::Wait;
-use std::thread::{Promise, Scope, Threads};
 use std::thread;
+use std::thread::{Promise, Scope, Threads};
 
 // The runtime of a call. A loop without a measure needs one.
 #[derive(Drop)]
