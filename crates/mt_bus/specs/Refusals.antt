@@ -1,4 +1,4 @@
--- Where an access and a control instruction are refused, and what they leave then.
+-- When an access and a control instruction are refused, and what then changes.
 use Rattle.std.specs.Prelude.{◌≡◌, ◌↔◌, ℕ, ◌/◌, Bool, true, false, None, Some, slice_get}
 use Rattle.mt_kinds.specs.Sizes.{page_bytes}
 use Rattle.mt_tlb.specs.declared.entry.Entry.{Entry}

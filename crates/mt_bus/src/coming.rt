@@ -81,12 +81,12 @@ fn hand_over(cpus: &mut [Cpu], ram: &mut Ram, holders: &mut Holders, k: usize)
 }
 
 impl System {
-    /// One processor more comes up, behind the others, with their width, capabilities and era: its registers are
-    /// blank, its cache is in no-fill mode, and it runs and holds nothing. The answer is its number.
+    /// Brings one processor up, behind the others, with their width, capabilities and era. Its registers are blank, its
+    /// cache is in no-fill mode, and it runs and holds nothing. Returns its number.
     ///
     /// # Errors
     ///
-    /// There is no memory for it; nothing then changes.
+    /// Fails if an allocation fails; nothing then changes.
     pub fn come_up(&mut self) -> Result<u32, NoMemory>
         requires some { 0 < length self.old.processors }
         requires few { length self.old.processors ≤ 15 }
@@ -107,8 +107,8 @@ impl System {
         }
     }
 
-    /// The last processor goes: its buffers are emptied, the oldest first, its dirty words are written to memory,
-    /// and it is taken away. The answer is its number.
+    /// Takes the last processor away. Its buffers are emptied, the oldest first, and its dirty words are written to
+    /// memory. Returns its number.
     pub fn go_down(&mut self) -> u32
         requires more { 1 < length self.old.processors }
         requires few { length self.old.processors ≤ 16 }

@@ -10,7 +10,7 @@ use mt_ports::NoMemory;
 use std::alloc::Global;
 use std::marker::Model;
 
-/// The processors that have a bit in a mask.
+/// The number of processors that have a bit in a mask.
 pub(crate) const BITS: usize = 16;
 
 // The bit of a processor.
@@ -67,7 +67,7 @@ impl Holders {
         }
     }
 
-    /// The masks of caches that have no line. The error comes only where the allocator has no room.
+    /// The masks of caches that have no line. Fails only if an allocation fails.
     pub fn new(alloc: Global) -> Result<Holders, NoMemory>
         ensures { IfOk result (λ h. h ≡ replicate modulus 0) }
     {
@@ -113,7 +113,7 @@ impl Holders {
         }
     }
 
-    /// Answers true only where none of the first sixteen caches may have a line.
+    /// Returns true only if none of the first sixteen caches may have a line.
     #[inline(always)]
     pub fn none(&self, number: u64) -> bool
         ensures { IsTrue result → (j : ℕ) → j < 16 → may_hold self.now j number ≡ false }
@@ -121,7 +121,7 @@ impl Holders {
         self.mask(number) == 0
     }
 
-    /// Answers true only where none of the first sixteen caches but that of one processor may have a line.
+    /// Returns true only if none of the first sixteen caches, except that of one processor, may have a line.
     #[inline(always)]
     pub fn only(&self, k: usize, number: u64) -> bool
         requires { k < 16 }
@@ -154,7 +154,7 @@ impl Holders {
         }
     }
 
-    /// Takes away no bit but that of a processor for a line and those whose numbers have the same residue.
+    /// Clears at most the bit of a processor for a line and those whose numbers have the same residue.
     pub fn remove(&mut self, k: usize, number: u64)
         ensures { CoversBut k number self.new self.old }
     {
@@ -164,7 +164,7 @@ impl Holders {
         }
     }
 
-    /// Takes away no bit but those of one processor.
+    /// Clears at most the bits of one processor.
     pub fn remove_all(&mut self, k: usize)
         ensures { CoversOthers k self.new self.old }
     {

@@ -11,12 +11,12 @@ pub fn a_system_is_sound(system: &System)
     let _ = &system.ram; // a fact for the proof
 }
 
-/// When each refusal of an access comes, and what it leaves.
+/// Specifies when each refusal of an access is returned, and what then changes.
 pub fn accesses_refuse_in_order()
     ensures { AccessesRefuseInOrder }
 {}
 
-/// When each refusal of a control instruction comes, and that it leaves everything.
+/// Specifies when each refusal of a control instruction is returned, and that nothing then changes.
 pub fn controls_refuse_in_order()
     ensures { ControlsRefuseInOrder }
 {}

@@ -27,10 +27,10 @@ use mt_types::KindTable;
 use std::alloc::Global;
 use std::marker::Model;
 
-/// Processors over one memory. Caches and memory agree, and each cached or buffered line lies in
-/// a window. There is one table of types for each processor, by which it translates; it has the types of the
-/// processor's registers but while these are written. The holders say of each line of each cache that this cache
-/// may have it. The tables and the holders are no part of the system's value.
+/// Processors over one memory. Caches and memory agree, and each cached or buffered line lies in a window. Each
+/// processor translates by its own table of types. The table has the types of the processor's registers, except while
+/// these are written. The holders say of each line of each cache that this cache may have it. Tables and holders are no
+/// part of the system's value.
 #[derive(Drop)]
 pub struct System {
     pub(crate) cpus: Vec<Cpu>,
@@ -93,8 +93,7 @@ fn start_holders(alloc: Global, count: usize) -> Result<Holders, NoMemory>
 }
 
 impl System {
-    /// A processor for each file, which runs with it, over memory without windows. The error comes
-    /// only where the allocator has no room.
+    /// A processor for each file, which runs with it, over memory without windows. Fails only if an allocation fails.
     pub fn new(alloc: Global, files: &[RegFile]) -> Result<System, NoMemory>
         requires some { 0 < length files.now }
         requires few { length files.now ≤ 16 }

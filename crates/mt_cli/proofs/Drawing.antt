@@ -13,7 +13,7 @@ use Rattle.mt_core.specs.Rounds.{ascending}
 use Rattle.mt_private.specs.declared.job.Job.{Job}
 use Rattle.mt_private.specs.declared.job.Part.{Part}
 use Rattle.mt_private.specs.declared.job.Part.TheVariants.{After, Before}
-use Rattle.mt_private.specs.declared.job.Told.{Told}
+use Rattle.mt_private.specs.declared.job.JobAnswers.{JobAnswers}
 use Rattle.mt_private.specs.Jobs.{answers_in, ops_in}
 use Rattle.mt_private.specs.OneByOne.{AreOneByOne, jobs_one_by_one, one_by_one}
 use Rattle.mt_cli.specs.Measured.{all_values_from, behind_op, behind_ops, drawn_op, drawn_ops, file_of, measured, measured_machine, measured_text, ops_after, ops_before, sums_text, text_of, values_from, words_sum}
@@ -37,7 +37,7 @@ unfolding behind_ops
 behind_end x end so_far = so_far
 
 -- the answers of a part, and then of the other
-pub sums : (s : System) (jobs : List Job) (told : List Told) (after : Machine) (count n accesses first last : ℕ)
+pub sums : (s : System) (jobs : List Job) (told : List JobAnswers) (after : Machine) (count n accesses first last : ℕ)
     → AreOneByOne (jobs_one_by_one s (file_of 4) jobs) after told → s ≡ (measured_machine count).system → map (ops_in Before) jobs ≡ map (ops_before n accesses) (ascending count) → map (ops_in After) jobs ≡ map (ops_after n accesses) (ascending count)
     → first ≡ fold (λ v t. values_from v (answers_in Before t)) 0 told → last ≡ fold (λ v t. values_from v (answers_in After t)) first told
     → sums_text last (words_sum after.system.memory.words) ≡ measured_text count n accesses

@@ -18,7 +18,7 @@ use mt_core::Core;
 use mt_machine::{Control, Done, Op};
 use mt_output::{LineBuffer, append, append_value};
 use mt_ports::{Gate, NoMemory};
-use mt_private::{Caller, Job, Part, PrivateFault, Told, run_private_with};
+use mt_private::{Caller, Job, Part, PrivateFault, JobAnswers, run_private_with};
 use mt_ram::{Ram, RamFault};
 use mt_regs::{RegFile, Register};
 use mt_tlb::Mapping;
@@ -112,14 +112,14 @@ fn values_from(sum: u64, answers: &[Done]) -> u64
 }
 
 // With the values of one part of each job.
-fn all_values_from(sum: u64, part: Part, told: &[Told]) -> u64
+fn all_values_from(sum: u64, part: Part, told: &[JobAnswers]) -> u64
     ensures { result ≡ fold (λ s t. values_from s (answers_in part t)) sum told.now }
 {
     told.iter()
         .fold(sum, |sum, told| values_of_part(sum, part, told))
 }
 
-fn values_of_part(sum: u64, part: Part, told: &Told) -> u64
+fn values_of_part(sum: u64, part: Part, told: &JobAnswers) -> u64
     ensures { result ≡ values_from sum (answers_in part told.now) }
 {
     match part {
@@ -248,7 +248,7 @@ fn run_jobs<R: Threads + Wait + Sync, G: Gate>(
     alloc: Global,
     core: &mut Core,
     jobs: Vec<Job>,
-) -> Result<Vec<Told>, NoMemory>
+) -> Result<Vec<JobAnswers>, NoMemory>
     requires some { 0 < vec_len jobs }
     requires set_up { IsSetUp (vec_len jobs) core.old }
     requires private { IsPrivate core.old.system }
@@ -269,7 +269,7 @@ fn memory_sum(core: &Core) -> u64
 }
 
 // The sums of these answers, and of the memory's words.
-fn told_text(core: &Core, told: &[Told]) -> LineBuffer
+fn told_text(core: &Core, told: &[JobAnswers]) -> LineBuffer
     ensures { let before = fold (λ s t. values_from s (answers_in Before t)) 0 told.now in
         result.items ≡ sums_text (fold (λ s t. values_from s (answers_in After t)) before told.now) (words_sum core.now.system.memory.words) }
 {

@@ -92,8 +92,7 @@ impl Core {
         }
     }
 
-    /// A processor for each file, which runs with it, over memory without windows. The error comes
-    /// only where the allocator has no room.
+    /// A processor for each file, which runs with it, over memory without windows. Fails only if an allocation fails.
     pub fn start(alloc: Global, files: &[RegFile]) -> Result<Core, NoMemory>
         requires some { 0 < length files.now }
         requires few { length files.now ≤ 16 }
@@ -118,14 +117,14 @@ impl Core {
         self.order.as_ref()
     }
 
-    /// Hands the processors and the memory out as they stand.
+    /// Returns the processors and the memory, and drops the update under way, if there is one.
     pub fn into_system(self) -> System
         ensures { result ≡ self.system }
     {
         self.system
     }
 
-    /// The same out of a loan. It leaves a core without processors and windows.
+    /// Takes the processors and the memory out of a borrowed core, which then has no processors and no windows.
     pub fn take_system(&mut self, alloc: Global) -> System
         ensures taken { result ≡ self.old.system }
         ensures left { self.new ≡ record { system = system [] (record { windows = []; words = [] }); order = None } }
@@ -154,8 +153,8 @@ impl Core {
         self.system.control(k, c)
     }
 
-    /// Makes a processor a self-snooping one, which leaves out the first flush of an update. All else stays.
-    /// No event takes it back.
+    /// Makes a processor a self-snooping one, which leaves out the first flush of the caches in an update. All else
+    /// stays. No event takes it back.
     pub fn self_snoop(&mut self, k: u32)
         requires processor { k < length self.old.system.processors }
         requires idle { self.old.order ≡ None }
@@ -164,8 +163,7 @@ impl Core {
         self.system.self_snoop(k);
     }
 
-    /// Gives the go. It is false, and nothing changes, where no update is under way or its go isn't
-    /// pending.
+    /// Gives the go. Returns false, and changes nothing, if no update is under way or its go isn't pending.
     pub fn go(&mut self) -> bool
         ensures given { IsTrue result ↔ (go_of self.old ≡ Some Go.Pending) }
         ensures after { IsTrue result → self.new ≡ next self.old Goes }
@@ -174,8 +172,7 @@ impl Core {
         self.decide(Go::Given)
     }
 
-    /// Gives the update up. It is false, and nothing changes, where no update is under way or its
-    /// go isn't pending.
+    /// Gives the update up. Returns false, and changes nothing, if no update is under way or its go isn't pending.
     pub fn cancel(&mut self) -> bool
         ensures given { IsTrue result ↔ (go_of self.old ≡ Some Go.Pending) }
         ensures after { IsTrue result → self.new ≡ next self.old Cancels }

@@ -138,8 +138,8 @@ impl Cpu {
         self.state.era
     }
 
-    /// Whether the processor snoops its own cache, which is CPUID.1:EDX bit 27. It leaves out the first of an
-    /// update's two flushes (Intel SDM, volume 3A, section "MTRR Considerations in MP Systems", step 5).
+    /// Whether the processor snoops its own cache, which is CPUID.1:EDX bit 27. It leaves out the first of an update's
+    /// two cache flushes (Intel SDM, volume 3A, section "MTRR Considerations in MP Systems", step 5).
     pub fn self_snoop(&self) -> bool
         ensures { result ≡ self.now.self_snoop }
     {

@@ -6,7 +6,7 @@ use crate::cpu::Cpu;
 pub fn a_processor_is_whole(cpu: &Cpu)
     ensures { IsProcessor cpu.now }
 {
-    let state = &*cpu.state;
+    let state = &*cpu.state; // a fact for the proof
     state.regs.is_register_file(); // a fact for the proof
     let _ = state.maps.list(); // a fact for the proof
     let _ = state.tlb.entries(); // a fact for the proof

@@ -6,7 +6,7 @@ use Rattle.std.proofs.KnownBytes.{Consumes-nil, Consumes-trans}
 use Rattle.std.proofs.lemmas.Bool.{cases_lt}
 use Rattle.std.proofs.lemmas.List.{length-take-le}
 use Rattle.mt_ports.specs.Causes.{Rose}
-use Rattle.mt_text.specs.Feed.{Feeding, IsLong, Lines, at_start, taken}
+use Rattle.mt_text.specs.Feed.{Feeding, IsLong, Lines, at_start, draw, taken}
 use Rattle.mt_text.specs.declared.line.Line.{Line}
 use Rattle.mt_text.specs.declared.fault.FeedFault.{FeedFault}
 use Rattle.mt_text.proofs.Lent.{counted, moves_on, within_limit}
@@ -41,11 +41,11 @@ counts_more {left_first} {left} {after} counts (more, consumes, gives, sum) =
 
 module _ {left_first left : Option (List ℕ)} {given_first given : ℕ} {feed : Feeding} (fed : IsFed left_first left given_first given feed) (new : Feeding) (after : Option (List ℕ)) (given_after : ℕ) where
   -- a call that asks for a line
-  pub counts_line : (result : Result (Option Line) FeedFault) → Lines feed new left after given given_after result → Counts left_first after given_first given_after (taken new)
+  pub counts_line : (result : Result (Option Line) FeedFault) → Lines feed new (draw left after given given_after) result → Counts left_first after given_first given_after (taken new)
   counts_line result lines = counts_more fed.counts (lines.0, lines.1, lines.2, omega (arith, lines.2, counted feed new left after given given_after result lines))
 
   -- a line that is lent
-  module _ (line : Line) (lines : Lines feed new left after given given_after (Ok (Some line))) where
+  module _ (line : Line) (lines : Lines feed new (draw left after given given_after) (Ok (Some line))) where
     pub still_on : new.fault ≡ None
     still_on = ap (λ f. f.fault) lines.3.0.0.2 ∙ fed.still
 

@@ -6,7 +6,7 @@ use Rattle.std.proofs.lemmas.Bool.{cases_lt}
 use Rattle.std.proofs.lemmas.Bool.Decides.{nat_tests}
 use Rattle.std.proofs.lemmas.List.{append-nil, length-take-le, take_all}
 use Rattle.mt_text.specs.Text.{end_of, lines_of}
-use Rattle.mt_text.specs.Feed.{Feeding, LendsFirst, Lines, at_start}
+use Rattle.mt_text.specs.Feed.{Feeding, LendsFirst, Lines, at_start, draw}
 use Rattle.mt_text.specs.declared.line.Line.{Line}
 use Rattle.mt_text.proofs.Lent.{lends_lines, passes, told_next}
 use Rattle.mt_dump.specs.Dumps.{Dump}
@@ -63,7 +63,7 @@ said_lent : (old new : Feeding) (before after : List ℕ) (line : Line) (lent : 
 said_lent old new before after line lent = ap (said_of line.number) lent.bytes ∙ said_cut line.number lent.first ∙ ap (λ n. said_of n lent.first) lent.number
 
 module _ (left_first left after : Option (List ℕ)) (given_first given given_after : ℕ) (feed new : Feeding) (reader : State) (reading : IsReading left_first left given_first given feed reader)
-    (line : Line) (lines : Lines feed new left after given given_after (Ok (Some line))) where
+    (line : Line) (lines : Lines feed new (draw left after given given_after) (Ok (Some line))) where
   -- the line that is lent is the next of all
   next_of : (bytes : List ℕ) (told : IsPartway bytes left feed reading.before) → (later : List ℕ) × (after ≡ Some later) × LendsFirst feed new told.after later line
   next_of bytes told = lends_lines feed new told.after after given given_after (Ok (Some line)) (rw told.left_is at lines)
@@ -107,7 +107,7 @@ module _ (left_first left after : Option (List ℕ)) (given_first given given_af
 
 -- at the end of all lines
 module _ (left_first left after : Option (List ℕ)) (given_first given given_after : ℕ) (feed new : Feeding) (reader : State) (reading : IsReading left_first left given_first given feed reader)
-    (lines : Lines feed new left after given given_after (Ok None)) where
+    (lines : Lines feed new (draw left after given given_after) (Ok None)) where
   pub ends : (bytes : List ℕ) (answer : Result Dump DumpFault) → left_first ≡ Some bytes
       → ((before : List Reading) → HasRead reader before → answer ≡ read_from new.place before [])
       → MatchResult answer (λ dump. Shown bytes dump) (λ fault. dump_offence bytes ≡ Some fault)

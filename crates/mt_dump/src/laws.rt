@@ -22,7 +22,7 @@ pub fn a_text_is_read_as_what_it_shows()
     ensures { (text : List ℕ) (dump : Dump) → (read_text text ≡ Ok dump) ↔ Shown text dump }
 {}
 
-/// A text shows a dump exactly where it has no offence.
+/// A text shows a dump if and only if it has no offence.
 pub fn a_text_shows_a_dump_or_has_an_offence()
     ensures shown { (text : List ℕ) (dump : Dump) → Shown text dump → dump_offence text ≡ None }
     ensures decided { (text : List ℕ) → ((dump : Dump) × Shown text dump) ⊎ ((fault : DumpFault) × (dump_offence text ≡ Some fault)) }
@@ -43,7 +43,7 @@ pub fn the_canonical_text_shows_its_dump()
     ensures { (dump : Dump) → IsDump dump → AllByRecursion HasWords dump.files → Shown (canon dump) dump }
 {}
 
-/// Canonical texts are equal exactly where the dumps are.
+/// Canonical texts are equal if and only if the dumps are.
 pub fn canonical_texts_are_equal_where_dumps_are()
     ensures { (dump other : Dump) → IsDump dump → IsDump other → AllByRecursion HasWords dump.files → AllByRecursion HasWords other.files → ((canon dump ≡ canon other) ↔ (dump ≡ other)) }
 {}

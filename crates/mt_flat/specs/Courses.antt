@@ -60,4 +60,4 @@ CoursesKeepFlat =
 abbrev pub CoursesHideCaches : Type 0
 CoursesHideCaches =
     (s : Machine) (f : Flat) (ts : List Turn) (k address value : ℕ) (kind : MemType) → IsStart s → IsFlatOf s.system f → IsCourse s ts
-    → (access (course s ts).system k (Load address)).answer ≡ Value value kind → IsFlatAnswer (course s ts) (flat_course s ts f) k address value kind
+    → (access (course s ts).system k (Load address)).answer ≡ Value value kind → IsFlatAnswer (course s ts) (flat_course s ts f) k address (value, kind)

@@ -91,21 +91,21 @@ RunsKeepFlat =
     (m : Machine) (es : List MachineEvent) (f : Flat) → IsSound m.system → IsFlatOf m.system f → AreEnabled m es → IsFlatOf (run m es).system (flat_run m es f)
 
 -- what a load of processor k is answered is what the flat machine answers it
-pub record IsFlatAnswer (m : Machine) (f : Flat) (k address value : ℕ) (kind : MemType) : Type 0 where
+pub record IsFlatAnswer (m : Machine) (f : Flat) (k address : ℕ) (seen : ℕ × MemType) : Type 0 where
   pub word : ℕ
   pub physical : physical_of m.system k address ≡ Some word
-  pub answer : value ≡ flat_answer f k kind word
+  pub answer : seen.0 ≡ flat_answer f k seen.1 word
 
 abbrev pub AnswersAreFlat : Type 0
 AnswersAreFlat =
     (m : Machine) (f : Flat) (k address value : ℕ) (kind : MemType) → IsSound m.system → IsFlatOf m.system f
-    → (access m.system k (Load address)).answer ≡ Value value kind → IsFlatAnswer m f k address value kind
+    → (access m.system k (Load address)).answer ≡ Value value kind → IsFlatAnswer m f k address (value, kind)
 
 -- caches are never seen: after any list of enabled events each load is answered as by the flat machine that was given the same
 abbrev pub CachesAreNeverSeen : Type 0
 CachesAreNeverSeen =
     (s : Machine) (f : Flat) (es : List MachineEvent) (k address value : ℕ) (kind : MemType) → IsSound s.system → IsFlatOf s.system f → AreEnabled s es
-    → (access (run s es).system k (Load address)).answer ≡ Value value kind → IsFlatAnswer (run s es) (flat_run s es f) k address value kind
+    → (access (run s es).system k (Load address)).answer ≡ Value value kind → IsFlatAnswer (run s es) (flat_run s es f) k address (value, kind)
 
 abbrev pub AreFew : List PendingLine → Type 0
 AreFew ps = length ps ≤ 4

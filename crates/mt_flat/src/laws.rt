@@ -9,13 +9,13 @@ pub fn starts_are_flat()
     ensures no_buffers { NoBuffersIsFlat }
 {}
 
-/// Each enabled event, and each list of them, keeps the words' values and the pending lines alike.
+/// In a sound system each enabled event, and each list of them, keeps the words' values and the pending lines alike.
 pub fn events_are_flat()
     ensures event { EventsKeepFlat }
     ensures run { RunsKeepFlat }
 {}
 
-/// Each value that a load is answered is the flat machine's, in a state and after a list of events:
+/// Each value that a load in a sound system returns is the flat machine's, in a state and after a list of events:
 /// caches are never seen.
 pub fn caches_are_never_seen()
     ensures answer { AnswersAreFlat }
@@ -36,8 +36,8 @@ pub fn updates_are_flat()
     ensures outright { UpdatedIsFlat }
 {}
 
-/// The same over courses, in which whole updates stand as one turn beside events: each value that a load is
-/// answered after one is the flat machine's.
+/// Courses keep the flat machine alike too, and each load after one returns the flat machine's value. A whole update is
+/// one turn of a course, beside events.
 pub fn courses_are_flat()
     ensures keep { CoursesKeepFlat }
     ensures answer { CoursesHideCaches }

@@ -23,9 +23,9 @@ pub fn worked_flat_of()
 
 /// An answer to a load, and what fails in one part.
 pub fn worked_flat_answers()
-    ensures cached { IsFlatAnswer (alone whole) (beside (alone whole).system) 0 0x1008 6 WB }
-    ensures not_yet_seen { IsFlatAnswer palette (flat_of (store 0 0x3008 7 ∷ [])) 1 0x3008 7 WC → ⊥ }
-    ensures not_mapped { IsFlatAnswer palette flat_start 0 0x6000 0 WB → ⊥ }
+    ensures cached { IsFlatAnswer (alone whole) (beside (alone whole).system) 0 0x1008 (6, WB) }
+    ensures not_yet_seen { IsFlatAnswer palette (flat_of (store 0 0x3008 7 ∷ [])) 1 0x3008 (7, WC) → ⊥ }
+    ensures not_mapped { IsFlatAnswer palette flat_start 0 0x6000 (0, WB) → ⊥ }
 {}
 
 /// Words that are held after the first release of an update, and what fails in one part.
@@ -59,7 +59,7 @@ pub fn worked_coming_turns()
 /// A store and a load in a sound state with a line and a buffer.
 pub fn worked_flat_laws()
     ensures run { RunsKeepFlat → IsFlatOf (run (alone whole) (store 0 0x1008 9 ∷ [])).system (flat_run (alone whole) (store 0 0x1008 9 ∷ []) (beside (alone whole).system)) }
-    ensures answer { CachesAreNeverSeen → IsFlatAnswer (run (alone whole) (store 0 0x1008 9 ∷ [])) (flat_run (alone whole) (store 0 0x1008 9 ∷ []) (beside (alone whole).system)) 0 0x1008 9 WB }
+    ensures answer { CachesAreNeverSeen → IsFlatAnswer (run (alone whole) (store 0 0x1008 9 ∷ [])) (flat_run (alone whole) (store 0 0x1008 9 ∷ []) (beside (alone whole).system)) 0 0x1008 (9, WB) }
     ensures few { PendingStaysFew → AreFew ((flat_run (alone whole) (store 0 0x1008 9 ∷ []) (beside (alone whole).system)).pending 0) }
     ensures no_buffers { NoBuffersIsFlat → IsFlatOf palette.system (record (beside palette.system) { pending = λ k. [] }) }
 {}
@@ -67,7 +67,7 @@ pub fn worked_flat_laws()
 /// A take and a load while an update is under way.
 pub fn worked_laws_under_way()
     ensures event { EventsKeepFlat → IsFlatOf (next called_whole (Steps 0 Take)).system (flat_after called_whole (Steps 0 Take) (beside called_whole.system)) }
-    ensures answer { AnswersAreFlat → IsFlatAnswer called_whole (beside called_whole.system) 0 0x1008 6 WB }
+    ensures answer { AnswersAreFlat → IsFlatAnswer called_whole (beside called_whole.system) 0 0x1008 (6, WB) }
 {}
 
 /// A whole update of two that combine one word.
@@ -78,7 +78,7 @@ pub fn worked_laws_of_takes()
 /// A state in which all have taken: a cancelled update, and the first release.
 pub fn worked_laws_of_broadcasts()
     ensures course { CoursesKeepFlat → IsFlatOf (course dirty_taken cancelled_turns).system (flat_course dirty_taken cancelled_turns (beside dirty_taken.system)) }
-    ensures answer { CoursesHideCaches → IsFlatAnswer (course dirty_taken cancelled_turns) (flat_course dirty_taken cancelled_turns (beside dirty_taken.system)) 0 0x1008 6 WB }
+    ensures answer { CoursesHideCaches → IsFlatAnswer (course dirty_taken cancelled_turns) (flat_course dirty_taken cancelled_turns (beside dirty_taken.system)) 0 0x1008 (6, WB) }
     ensures held { HeldIsFlat → IsHeldFlat (flat_run dirty_taken to_pass (beside dirty_taken.system)) dirty_released [] }
 {}
 

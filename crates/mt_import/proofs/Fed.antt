@@ -5,7 +5,7 @@ use Rattle.std.proofs.lemmas.Bool.{cases_lt}
 use Rattle.std.proofs.lemmas.Bool.Decides.{nat_tests}
 use Rattle.std.proofs.lemmas.List.{length-take-le, take_all}
 use Rattle.mt_text.specs.Text.{lines_of, past_limit}
-use Rattle.mt_text.specs.Feed.{Feeding, LendsFirst, Lines, at_start}
+use Rattle.mt_text.specs.Feed.{Feeding, LendsFirst, Lines, at_start, draw}
 use Rattle.mt_text.specs.declared.line.Line.{Line}
 use Rattle.mt_text.proofs.Lent.{lends_lines, told_next}
 use Rattle.mt_dump.proofs.Counted.{IsFed, fed_at_first, fed_on, few_first}
@@ -109,7 +109,7 @@ module _ (old new : Feeding) (before after : List ℕ) (line : Line) (lent : Len
   context_lent = ap (context_behind context line.number) lent.bytes ∙ context_cut context line.number lent.first ∙ ap (λ n. context_behind context n lent.first) lent.number
 
 module _ (left_first left after : Option (List ℕ)) (given_first given given_after : ℕ) (feed new : Feeding) (choice : Choice) (supplied : Supplied) (reader : State) (reading : IsReading choice supplied left_first left given_first given feed reader)
-    (line : Line) (lines : Lines feed new left after given given_after (Ok (Some line))) where
+    (line : Line) (lines : Lines feed new (draw left after given given_after) (Ok (Some line))) where
   abbrev facts : List Fact
   facts = facts_of_line reader.context line.number line.bytes.now
 
@@ -160,7 +160,7 @@ module _ (left_first left after : Option (List ℕ)) (given_first given given_af
 
 -- at the end of all lines
 module _ (left_first left after : Option (List ℕ)) (given_first given given_after : ℕ) (feed new : Feeding) (choice : Choice) (supplied : Supplied) (reader : State) (reading : IsReading choice supplied left_first left given_first given feed reader)
-    (lines : Lines feed new left after given given_after (Ok None)) where
+    (lines : Lines feed new (draw left after given given_after) (Ok None)) where
   pub ends : (bytes : List ℕ) → left_first ≡ Some bytes → ended_with (is_auto choice) supplied (slots_of reader) reader.processors (known_in reader) reader.tally ≡ log_outcome choice supplied bytes
   ends bytes is =
       let told = reading.told bytes is in

@@ -1,6 +1,6 @@
 ghost use Rattle.mt_admit.specs.Laws.{CancelledNewcomersStayBlank, NewcomersAgree, NewcomersKeepWords, RetiredLeaveTheOthers, UpsArise};
 
-/// What `up` leaves arises, so each law on what arises speaks of all processors, the newcomer among them.
+/// The state after `up` arises, so each law on what arises speaks of all processors, the newcomer among them.
 pub fn ups_arise()
     ensures { UpsArise }
 {}
@@ -18,13 +18,13 @@ pub fn newcomers_keep_words()
     ensures { NewcomersKeepWords }
 {}
 
-/// Where that update is cancelled, and since its call nothing came but its steps and the cancel, it leaves what fences of
-/// those that took leave, and the newcomer has the blank file.
+/// If that update is cancelled, by its steps and the cancel alone, the state is that after fences of those that took.
+/// The newcomer has the blank file.
 pub fn cancelled_newcomers_stay_blank()
     ensures { CancelledNewcomersStayBlank }
 {}
 
-/// What `retire` leaves has each word as it was once the buffers of the last processor were emptied, and the others'
+/// After `retire` each word is as it was once the buffers of the last processor were emptied. The others keep their
 /// registers, phases, mappings and entries.
 pub fn retired_leave_the_others()
     ensures { RetiredLeaveTheOthers }

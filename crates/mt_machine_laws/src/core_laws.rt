@@ -2,14 +2,14 @@ ghost use Rattle.mt_core.specs.Headline.{BarriersHoldThroughout, ErasRise, HeldF
 ghost use Rattle.mt_core.specs.Rounds.{TurnsEnd, UpdatedWordsAreHeld, UpdatesAreReached, UpdatesSettle};
 ghost use Rattle.mt_core.specs.Stops.{StopsOutside};
 
-/// In a state that arises a step answers `NoUpdate` exactly where the processor runs, and either no update is
-/// under way, or it is cancelled, or the processor has released already.
+/// In a state that arises a step returns `NoUpdate` if and only if the processor runs outside an update: none is under
+/// way, or it is cancelled, or the processor has released already.
 pub fn steps_stop()
     ensures { StopsOutside }
 {}
 
-/// A step answers `Waits` exactly at the first barrier of an update that isn't cancelled and at the
-/// second, where fewer have arrived than are awaited, and names both.
+/// A step returns `Waits` if and only if the processor waits at a barrier where fewer have arrived than are awaited. It
+/// names both. At the first barrier the update isn't cancelled.
 pub fn steps_wait()
     ensures { WaitsAtBarriers }
 {}
@@ -32,10 +32,10 @@ pub fn rests_quiet()
     ensures { IsQuietWithoutOrder }
 {}
 
-/// What the laws say of each reached state holds of each state of a core, to which windows may have
-/// been added since the start, and whose processors may have come up and gone: the barriers hold, no processor runs or acts while another changes
-/// its registers, an order's goal is whole and the registers before a writer's place have its values,
-/// no event of an update but Take changes a word's value, and events are as many as the laws count.
+/// Each state that arises has what the laws say of each reached state. Windows may have been added, and processors may
+/// have come up and gone. The barriers hold, and no processor runs or acts while another changes its registers. An
+/// order's goal is whole, and the registers before a writer's place have its values. No event of an update but Take
+/// changes a word's value, and events are as many as the laws count.
 pub fn states_hold()
     ensures barriers { BarriersHoldThroughout }
     ensures exclusive { NoneRunsThroughout }
@@ -45,14 +45,14 @@ pub fn states_hold()
     ensures counts { StepsCountThroughout }
 {}
 
-/// An enabled event leaves the number of processors, and raises no era by more than one.
+/// An enabled event keeps the number of processors, and raises no era by more than one.
 pub fn eras_rise()
     ensures { ErasRise }
 {}
 
-/// Once the go is given where it is pending, turns of steps end whatever state arose, and the state after a whole update is reached by events:
-/// the call, the go and steps, of which a release is the last. So each law on reached states holds
-/// from a whole update on too.
+/// In each state that arises turns of steps end, once a pending go is given. The state after a whole update is reached
+/// by events: the call, the go and steps, the last of which is a release. So each law on reached states holds from a
+/// whole update on too.
 pub fn updates_are_reached()
     ensures ends { TurnsEnd }
     ensures reached { UpdatesAreReached }

@@ -2,11 +2,12 @@
 -- processor 0's file beside that of the first processor whose registers aren't processor 0's, or of processor 1 where all have the same.
 --     MapOf dump text status      the picture of a dump, or the line of the fault for which there is none
 --     Output asked bytes text status      what is written for what the words ask and for an input
---     Maps asked bytes left old new result      what a run leaves in the source and the sink
+--     Maps asked source sink result      what a run leaves in the source and the sink
 use Rattle.std.specs.Prelude.{ℕ, ◌≡◌, ◌<◌, ◌⊎◌, codes, List, [], ◌∷◌, length, Option, Some, None, slice_get}
 use Rattle.std.specs.List.{All}
 use Rattle.mt_text.specs.Text.{longest_input}
 use Rattle.mt_ports.specs.declared.status.Status.{Status}
+use Rattle.mt_output.specs.Ports.{Held, Port}
 use Rattle.mt_ports.specs.declared.status.Status.TheVariants.{Done, Refused, Usage, BadText, ReadFault, NoMemory, TooLong}
 use Rattle.mt_regs.specs.declared.fault.Fault.{Fault}
 use Rattle.mt_regs.specs.RegisterFile.{RegisterFile}
@@ -69,10 +70,10 @@ pub data Tells (output : List ℕ → Status → Type 0) (old new : Option (List
   no_memory : result ≡ NoMemory → new ≡ old → Tells output old new result
 
 -- The output for all bytes of the source was written, or nothing where the source failed or gave too much.
-pub data Maps (asked : Option Asked) (bytes : List ℕ) (left old new : Option (List ℕ)) (result : Status) : Type 0 where
-  told : left ≡ Some (left_of asked bytes) → Tells (Output asked bytes) old new result → Maps asked bytes left old new result
-  unread : new ≡ old → (result ≡ ReadFault) ⊎ ((result ≡ TooLong) × (longest_input < length bytes)) → Maps asked bytes left old new result
+pub data Maps (asked : Option Asked) (source : Held) (sink : Port) (result : Status) : Type 0 where
+  told : source.left ≡ Some (left_of asked source.bytes) → Tells (Output asked source.bytes) sink.old sink.new result → Maps asked source sink result
+  unread : sink.new ≡ sink.old → (result ≡ ReadFault) ⊎ ((result ≡ TooLong) × (longest_input < length source.bytes)) → Maps asked source sink result
 
 -- the same where the arguments may have found no memory: then nothing is read or written
-abbrev pub Runs : Option Asked → List ℕ → Option (List ℕ) → Option (List ℕ) → Option (List ℕ) → Status → Type 0
-Runs asked bytes left old new result = Maps asked bytes left old new result ⊎ ((result ≡ NoMemory) × (left ≡ Some bytes) × (new ≡ old))
+abbrev pub IsMapRun : Option Asked → Held → Port → Status → Type 0
+IsMapRun asked source sink result = Maps asked source sink result ⊎ ((result ≡ NoMemory) × (source.left ≡ Some source.bytes) × (sink.new ≡ sink.old))

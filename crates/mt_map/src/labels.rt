@@ -8,7 +8,7 @@ const LONGEST_TITLE: usize = 80;
 /// What the words of the command line add to a picture.
 #[derive(Clone, Copy, Default)]
 pub struct Labels<'a> {
-    /// The caption, in UTF-8: 1 to 80 bytes, without control characters.
+    /// The caption, in UTF-8: 1 to 80 bytes, without control characters, U+FFFE and U+FFFF.
     pub title: Option<&'a [u8]>,
     /// Whether the two sections of a dump are two files, and not two processors.
     pub are_files: bool,

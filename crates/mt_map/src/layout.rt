@@ -1,7 +1,7 @@
 ghost use Rattle.std.specs.Prelude.{◌≤◌, ◌^◌};
 
-/// Where the parts of a picture stand, in pixels: the bottom of the rows, the left edges of the bars of each file, the width and height
-/// of the whole without its caption, and the room for that.
+/// Where the parts of a picture are, in pixels: the bottom of the rows and the left edges of the bars of each file. The
+/// width and height are those of the whole without its caption. `has_caption` says whether it has one.
 #[derive(Clone, Copy)]
 pub(crate) struct Layout {
     pub bottom: u64,

@@ -27,7 +27,8 @@ pub struct Picture {
     pub shapes: Vec<Shape>,
 }
 
-/// The picture of a file beside a second one, if there is one. Its address space is as large. `NoMemory` is the one error.
+/// The picture of a file beside a second one, if there is one. Both have address spaces of one size. `NoMemory` is the
+/// one error.
 pub fn picture_of_files(alloc: Global, f: &RegFile, others: &[RegFile]) -> Result<Picture, NoMemory>
     requires checked { register_fault f.now ≡ None }
     requires others_checked { All (λ g. register_fault g ≡ None) others.now }

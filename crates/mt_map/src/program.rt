@@ -5,8 +5,9 @@ ghost use Rattle.mt_ports.specs.Causes.{StatusHasCause};
 ghost use Rattle.mt_ports.specs.Exit.{code};
 ghost use Rattle.mt_text.specs.Feed.{GaveTooMuch};
 ghost use Rattle.mt_output.specs.Program.{Exits};
+ghost use Rattle.mt_output.specs.Ports.{held, port};
 ghost use Rattle.mt_map.specs.Asked.{asked_in};
-ghost use Rattle.mt_map.specs.Map.{Runs};
+ghost use Rattle.mt_map.specs.Map.{IsMapRun};
 
 use crate::{Labels, asked_by, labels_of, map};
 use mt_output::{exit_code, words_behind_name};
@@ -23,7 +24,7 @@ fn run<R: AllocGlobal, S: Source, K: Sink>(
     sink: &mut K,
 ) -> Status
     ensures runs { (bytes : List ℕ) → S.left source.old ≡ Some bytes →
-        Runs (asked_in args) bytes (S.left source.new) (K.taken sink.old) (K.taken sink.new) result }
+        IsMapRun (asked_in args) (held bytes (S.left source.new)) (port K.taken sink.old sink.new) result }
     ensures read_fault { StatusHasCause Status.ReadFault (S.faults source.old) (S.faults source.new) result }
     ensures write_fault { StatusHasCause Status.WriteFault (K.faults sink.old) (K.faults sink.new) result }
     ensures too_long { (result ≡ Status.TooLong) ↔ GaveTooMuch (S.given source.old) (S.given source.new) }
@@ -54,7 +55,7 @@ pub fn program_status<R: AllocGlobal, S: Source, K: Sink>(
     sink: &mut K,
 ) -> ExitCode
     ensures runs { (bytes : List ℕ) → S.left source.old ≡ Some bytes →
-        Exits result (Runs (asked_in args) bytes (S.left source.new) (K.taken sink.old) (K.taken sink.new)) }
+        Exits result (IsMapRun (asked_in args) (held bytes (S.left source.new)) (port K.taken sink.old sink.new)) }
     ensures read_fault { Exits result (StatusHasCause Status.ReadFault (S.faults source.old) (S.faults source.new)) }
     ensures write_fault { Exits result (StatusHasCause Status.WriteFault (K.faults sink.old) (K.faults sink.new)) }
     ensures too_long { Exits result (λ status. (status ≡ Status.TooLong) ↔ GaveTooMuch (S.given source.old) (S.given source.new)) }

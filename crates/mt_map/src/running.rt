@@ -4,6 +4,7 @@ ghost use Rattle.mt_ports.specs.Causes.{StatusHasCause};
 ghost use Rattle.mt_text.specs.Feed.{GaveTooMuch};
 ghost use Rattle.mt_regs.specs.Agreement.{first_refusal};
 ghost use Rattle.mt_regs.specs.Faults.{register_fault};
+ghost use Rattle.mt_output.specs.Ports.{held, port};
 ghost use Rattle.mt_map.specs.declared.asked.Asked.TheVariants.{Picture};
 ghost use Rattle.mt_map.specs.Map.{CanBeDrawn, MapOf, Maps, Tells, beside, others, status_of};
 
@@ -142,7 +143,7 @@ fn draw_input<S: Source, K: Sink>(
     sink: &mut K,
 ) -> Status
     ensures maps { (bytes : List ℕ) → S.left source.old ≡ Some bytes →
-        Maps (Some Picture) bytes (S.left source.new) (K.taken sink.old) (K.taken sink.new) result }
+        Maps (Some Picture) (held bytes (S.left source.new)) (port K.taken sink.old sink.new) result }
     ensures read_fault { StatusHasCause Status.ReadFault (S.faults source.old) (S.faults source.new) result }
     ensures write_fault { StatusHasCause Status.WriteFault (K.faults sink.old) (K.faults sink.new) result }
     ensures too_long { (result ≡ Status.TooLong) ↔ GaveTooMuch (S.given source.old) (S.given source.new) }
@@ -155,8 +156,8 @@ fn draw_input<S: Source, K: Sink>(
     }
 }
 
-/// Does all that the program does, and answers its status. For a picture it reads a dump to its end, unless the source
-/// fails or gives more than 16,777,216 bytes; then nothing is written. Where the words ask for nothing it writes `usage`.
+/// Does all that the program does, and returns its status. For a picture it reads a dump to its end, unless the source
+/// fails or gives more than 16,777,216 bytes; then nothing is written. If the words ask for nothing it writes `usage`.
 pub fn map<S: Source, K: Sink>(
     alloc: Global,
     asked: Option<Asked>,
@@ -165,7 +166,7 @@ pub fn map<S: Source, K: Sink>(
     sink: &mut K,
 ) -> Status
     ensures maps { (bytes : List ℕ) → S.left source.old ≡ Some bytes →
-        Maps asked bytes (S.left source.new) (K.taken sink.old) (K.taken sink.new) result }
+        Maps asked (held bytes (S.left source.new)) (port K.taken sink.old sink.new) result }
 
     // Nothing is read but for a picture.
     ensures unread { asked ≢ Some Picture → source.new ≡ source.old }

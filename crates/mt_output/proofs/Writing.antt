@@ -3,6 +3,7 @@ use Rattle.std.proofs.Common.{◌≡◌, ℕ, List, [], ◌++◌, Option, Result
 use Rattle.std.proofs.KnownBytes.{Appends-nil, Appends-trans}
 use Rattle.mt_ports.specs.Puts.{AppendsFront}
 use Rattle.mt_output.specs.Writing.{Adds, Passes}
+use Rattle.mt_output.specs.Ports.{change}
 
 -- nothing was written
 pub passes_nothing : (waiting : List ℕ) (known : Option (List ℕ)) → Passes waiting [] waiting known known
@@ -45,7 +46,7 @@ fails_after waiting first middle second rest a b c p (front, back, cut, taken) =
 
 -- a text was passed, and then another was added or failed
 pub adds_after : {T E : Type 0} (waiting first middle second left : List ℕ) (a b c : Option (List ℕ)) (result : Result T E)
-    → Passes waiting first middle a b → Adds middle second left b c result → Adds waiting (first ++ second) left a c result
+    → Passes waiting first middle a b → Adds second (change middle left) (change b c) result → Adds (first ++ second) (change waiting left) (change a c) result
 adds_after waiting first middle second left a b c (Ok done) p q = passes_both waiting first middle second left a b c p q
 adds_after waiting first middle second left a b c (Err error) p q =
     subst (AppendsFront a c) (append-nil (waiting ++ first ++ second) ∙ append_assoc waiting first second) (fails_after waiting first middle second [] a b c p q)

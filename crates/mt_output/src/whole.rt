@@ -4,7 +4,7 @@ ghost use Rattle.mt_output.specs.Written.{Writes};
 
 use mt_ports::{Sink, Status, put};
 
-/// Writes a text, and answers this status unless the sink fails.
+/// Writes a text, and returns this status unless the sink fails.
 pub fn written<K: Sink>(sink: &mut K, text: &[u8], status: Status) -> Status
     requires { status ≢ Status.WriteFault }
     ensures bytes { Writes text.now status (K.taken sink.old) (K.taken sink.new) result }

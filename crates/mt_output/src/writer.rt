@@ -1,6 +1,7 @@
 ghost use Rattle.std.specs.Prelude.{◌≡◌, ◌≤◌, ◌+◌, [], ◌++◌, length, IfOk, OnErr};
 ghost use Rattle.mt_ports.specs.Causes.{HasCause};
 ghost use Rattle.mt_output.specs.Writing.{Adds};
+ghost use Rattle.mt_output.specs.Ports.{change, port};
 
 use crate::line::LINE_ROOM;
 use mt_ports::{Failed, NoMemory, Sink, put};
@@ -38,7 +39,7 @@ impl Writer {
 
     /// Hands all that waits to the sink. Nothing waits then, even if the sink failed.
     pub fn flush<K: Sink>(&mut self, sink: &mut K) -> Result<(), Failed>
-        ensures bytes { Adds self.old [] self.new (K.taken sink.old) (K.taken sink.new) result }
+        ensures bytes { Adds [] (change self.old self.new) (port K.taken sink.old sink.new) result }
         ensures waiting { self.new ≡ [] }
         ensures cause { HasCause (K.faults sink.old) (K.faults sink.new) result }
     {
@@ -51,7 +52,7 @@ impl Writer {
     /// for more. After a failure nothing waits.
     pub fn write<K: Sink>(&mut self, sink: &mut K, text: &[u8]) -> Result<(), Failed>
         requires { length text.now ≤ WRITER_ROOM }
-        ensures bytes { Adds self.old text.now self.new (K.taken sink.old) (K.taken sink.new) result }
+        ensures bytes { Adds text.now (change self.old self.new) (port K.taken sink.old sink.new) result }
         ensures room { length self.new ≤ WRITER_ROOM }
         ensures failed { OnErr result (self.new ≡ []) }
         ensures cause { HasCause (K.faults sink.old) (K.faults sink.new) result }
@@ -66,7 +67,7 @@ impl Writer {
     /// Sees to it that a line has room behind the bytes that wait: where there isn't, they go to the
     /// sink. After a failure nothing waits.
     pub fn make_room<K: Sink>(&mut self, sink: &mut K) -> Result<(), Failed>
-        ensures bytes { Adds self.old [] self.new (K.taken sink.old) (K.taken sink.new) result }
+        ensures bytes { Adds [] (change self.old self.new) (port K.taken sink.old sink.new) result }
         ensures room { length self.new + LINE_ROOM ≤ WRITER_ROOM }
         ensures failed { OnErr result (self.new ≡ []) }
         ensures cause { HasCause (K.faults sink.old) (K.faults sink.new) result }

@@ -12,7 +12,7 @@ use Rattle.mt_laws.proofs.Barrier.Stages.{access_stages}
 use Rattle.mt_laws.proofs.Clearing.Follows.{follows_access}
 use Rattle.mt_bus.proofs.Tables.{same_length}
 use Rattle.mt_private.specs.declared.job.Job.{Job}
-use Rattle.mt_private.specs.declared.job.Told.{Told}
+use Rattle.mt_private.specs.declared.job.JobAnswers.{JobAnswers}
 use Rattle.mt_private.specs.declared.job.Part.{Part}
 use Rattle.mt_private.specs.Jobs.{AreOpen, IsOpen, answers_in, ops_in, room_in}
 use Rattle.mt_private.specs.OneByOne.{ran, ran_each}
@@ -31,7 +31,7 @@ length_access s k op = same_length s (access s k op).after (access_stages s k op
 -- ---- room
 
 -- the other part's room stays where one part's answers came
-pub stays_open : (part : Part) (jobs : List Job) (told : List Told) (k : ℕ) (j : Job) (t x : Told) → slice_get jobs k ≡ Some j → slice_get told k ≡ Some t
+pub stays_open : (part : Part) (jobs : List Job) (told : List JobAnswers) (k : ℕ) (j : Job) (t x : JobAnswers) → slice_get jobs k ≡ Some j → slice_get told k ≡ Some t
     → answers_in part x ≡ answers_in part t → room_in part x ≡ room_in part t → AreOpen part jobs told → AreOpen part jobs (slice_set told k x)
 stays_open part jobs told k j t x at_j at_t answers room all i job y at_job at_y =
     ⊎_elim
@@ -39,27 +39,27 @@ stays_open part jobs told k j t x at_j at_t answers room all i job y at_job at_y
     let job_is : job ≡ j = let here : Some job ≡ Some j = sym at_job ∙ ap (slice_get jobs) e.0 ∙ at_j in cc in
     let was = all k j t at_j at_t in
     let open_x : IsOpen part j x = (answers ∙ was.0, (let low = was.1 in omega arith)) in
-    subst (λ (z : Told). IsOpen part job z) e.1 (subst (λ (z : Job). IsOpen part z x) (sym job_is) open_x))
+    subst (λ (z : JobAnswers). IsOpen part job z) e.1 (subst (λ (z : Job). IsOpen part z x) (sym job_is) open_x))
     (λ (e : (i ≢ k) × (slice_get told i ≡ Some y)). all i job y at_job e.1)
     (at_put told k i x y at_y)
 
 -- and those behind stay as they are
-pub open_behind : (part : Part) (jobs : List Job) (told : List Told) (k : ℕ) (x : Told)
-    → ((i : ℕ) (j : Job) (t : Told) → k ≤ i → slice_get jobs i ≡ Some j → slice_get told i ≡ Some t → IsOpen part j t)
-    → (i : ℕ) (j : Job) (t : Told) → k + 1 ≤ i → slice_get jobs i ≡ Some j → slice_get (slice_set told k x) i ≡ Some t → IsOpen part j t
+pub open_behind : (part : Part) (jobs : List Job) (told : List JobAnswers) (k : ℕ) (x : JobAnswers)
+    → ((i : ℕ) (j : Job) (t : JobAnswers) → k ≤ i → slice_get jobs i ≡ Some j → slice_get told i ≡ Some t → IsOpen part j t)
+    → (i : ℕ) (j : Job) (t : JobAnswers) → k + 1 ≤ i → slice_get jobs i ≡ Some j → slice_get (slice_set told k x) i ≡ Some t → IsOpen part j t
 open_behind part jobs told k x all i j t low at_j at_t =
     ⊎_elim
     (λ (e : (i ≡ k) × (x ≡ t)). let same = e.0 in absurd (omega arith))
     (λ (e : (i ≢ k) × (slice_get told i ≡ Some t)). all i j t (omega arith) at_j e.1)
     (at_put told k i x t at_t)
 
-pub open_more : (jobs : List Job) (told : List Told) (k : ℕ) (j : Job) (x : Told) → slice_get jobs k ≡ Some j → length told ≡ k → ((part : Part) → IsOpen part j x)
+pub open_more : (jobs : List Job) (told : List JobAnswers) (k : ℕ) (j : Job) (x : JobAnswers) → slice_get jobs k ≡ Some j → length told ≡ k → ((part : Part) → IsOpen part j x)
     → ((part : Part) → AreOpen part jobs told) → (part : Part) → AreOpen part jobs (told ++ x ∷ [])
 open_more jobs told k j x at_j size new all part i job y at_job at_y =
     ⊎_elim
     (λ (e : (i ≡ length told) × (x ≡ y)).
     let job_is : job ≡ j = let here : Some job ≡ Some j = sym at_job ∙ ap (slice_get jobs) (e.0 ∙ size) ∙ at_j in cc in
-    subst (λ (z : Told). IsOpen part job z) e.1 (subst (λ (z : Job). IsOpen part z x) (sym job_is) (new part)))
+    subst (λ (z : JobAnswers). IsOpen part job z) e.1 (subst (λ (z : Job). IsOpen part z x) (sym job_is) (new part)))
     (λ (e : slice_get told i ≡ Some y). all part i job y at_job e)
     (at_end told x i y at_y)
 

@@ -31,7 +31,7 @@ use Rattle.mt_rendezvous.specs.Calls.{PassOf, SeatOf}
 use Rattle.mt_rendezvous.specs.Station.{cpu_of, in_second, order_of, rise}
 use Rattle.mt_rendezvous.specs.Update.{decided}
 use Rattle.mt_private.specs.declared.job.Job.{Job}
-use Rattle.mt_private.specs.declared.job.Told.{Told}
+use Rattle.mt_private.specs.declared.job.JobAnswers.{JobAnswers}
 use Rattle.mt_private.specs.declared.job.Part.TheVariants.{After, Before}
 use Rattle.mt_private.specs.declared.view.Resident.{Resident}
 use Rattle.mt_private.specs.declared.visiting.Visited.{Visited}
@@ -118,7 +118,7 @@ told_before : (v : Visited) (pass : PassOf YardSat) (stay : Stay) → VisitEnds 
 told_before Complete pass stay w = w.3
 told_before Cancelled pass stay w = w.3
 
-module _ (host : SeatOf YardSat) (jobs : List Job) (owns : List (Option System)) (told : List Told) (r : Returned host jobs owns told) (size : length jobs ≡ length host.start.cpus) (long : length told ≡ length jobs)
+module _ (host : SeatOf YardSat) (jobs : List Job) (owns : List (Option System)) (told : List JobAnswers) (r : Returned host jobs owns told) (size : length jobs ≡ length host.start.cpus) (long : length told ≡ length jobs)
     (s : System) (leaves : Leaves host.start host.me.0 s) (owned : AreOwnsOf host.start owns s) where
   abbrev t : Start
   t = host.start
@@ -129,7 +129,7 @@ module _ (host : SeatOf YardSat) (jobs : List Job) (owns : List (Option System))
   job_of : (k : ℕ) → k < length t.cpus → (j : Job) × (slice_get jobs k ≡ Some j)
   job_of k low = got jobs k (omega arith)
 
-  told_of : (k : ℕ) → k < length t.cpus → (x : Told) × (slice_get told k ≡ Some x)
+  told_of : (k : ℕ) → k < length t.cpus → (x : JobAnswers) × (slice_get told k ≡ Some x)
   told_of k low = got told k (omega arith)
 
   came : (k : ℕ) (low : k < length t.cpus) → CameBack host (job_of k low).0 k owns (told_of k low).0
@@ -294,12 +294,12 @@ module _ (host : SeatOf YardSat) (jobs : List Job) (owns : List (Option System))
         let c = came k low in
         let a : (job_of k low).0 ≡ job = one_job (job_of k low).0 job (sym (job_of k low).1 ∙ at_job) in
         let b : (told_of k low).0 ≡ x = one_told (told_of k low).0 x (sym (told_of k low).1 ∙ at_x) in
-        subst (λ (z : Job × Told). IsOpen After z.0 z.1) (λ i. (a i, b i)) (c.has_room (gone k low).0)
+        subst (λ (z : Job × JobAnswers). IsOpen After z.0 z.1) (λ i. (a i, b i)) (c.has_room (gone k low).0)
       where
         one_job : (a b : Job) → Some a ≡ Some b → a ≡ b
         one_job a b e = cc
 
-        one_told : (a b : Told) → Some a ≡ Some b → a ≡ b
+        one_told : (a b : JobAnswers) → Some a ≡ Some b → a ≡ b
         one_told a b e = cc
 
     -- the goal may be called then
@@ -381,7 +381,7 @@ module _ (host : SeatOf YardSat) (jobs : List Job) (owns : List (Option System))
       has_places = open_after;
     }
 
-    pub all_stopped : (m : Machine) (later : List Told) → m ≡ at_rest (ran_each 0 afters done).after → map (answers_in After) later ≡ (ran_each 0 afters done).answers → map (answers_in Before) later ≡ map (answers_in Before) told
+    pub all_stopped : (m : Machine) (later : List JobAnswers) → m ≡ at_rest (ran_each 0 afters done).after → map (answers_in After) later ≡ (ran_each 0 afters done).answers → map (answers_in Before) later ≡ map (answers_in Before) told
         → AreOneByOne one_by m later
     all_stopped m later left told_after told_before = record { left = left ∙ left_stopped; before = told_before ∙ answers_before; after = told_after ∙ answers_stopped }
 

@@ -13,7 +13,7 @@ use Rattle.mt_rendezvous.specs.declared.view.Start.{Start}
 use Rattle.mt_rendezvous.specs.Calls.{SeatOf}
 use Rattle.mt_private.specs.declared.job.Job.{Job}
 use Rattle.mt_private.specs.declared.job.Part.{Part}
-use Rattle.mt_private.specs.declared.job.Told.{Told}
+use Rattle.mt_private.specs.declared.job.JobAnswers.{JobAnswers}
 use Rattle.mt_private.specs.declared.visiting.Guest.{Guest}
 use Rattle.mt_private.specs.Gathered.{AreGathered}
 use Rattle.mt_private.specs.Jobs.{AreOpen, FitsJob}
@@ -27,7 +27,7 @@ runs_is : (ph : Phase) → is_running ph ≡ true → ph ≡ Running
 runs_is Running h = refl
 runs_is other h = absurd (cc)
 
-pub waiting : (table : TableId) (t : Start) (jobs : List Job) (guests : List Guest) (told : List Told) → Opens t → AreGathered table t guests → length guests ≡ length t.cpus → length jobs ≡ length t.cpus → length told ≡ length jobs → All FitsJob jobs → ((part : Part) → AreOpen part jobs told)
+pub waiting : (table : TableId) (t : Start) (jobs : List Job) (guests : List Guest) (told : List JobAnswers) → Opens t → AreGathered table t guests → length guests ≡ length t.cpus → length jobs ≡ length t.cpus → length told ≡ length jobs → All FitsJob jobs → ((part : Part) → AreOpen part jobs told)
     → AreWaiting table t jobs guests told
 waiting table t jobs guests told opens gathered count size long fits opened = record {
   gathered = gathered;
@@ -44,7 +44,7 @@ waiting table t jobs guests told opens gathered count size long fits opened = re
 }
 
 -- all visitors came back
-pub all_back : (host : SeatOf YardSat) (jobs : List Job) (owns : List (Option System)) (told : List Told) → Returned host jobs owns told → length jobs ≡ length host.start.cpus → length told ≡ length jobs → (count : ℕ) → length host.start.cpus ≡ count
+pub all_back : (host : SeatOf YardSat) (jobs : List Job) (owns : List (Option System)) (told : List JobAnswers) → Returned host jobs owns told → length jobs ≡ length host.start.cpus → length told ≡ length jobs → (count : ℕ) → length host.start.cpus ≡ count
     → AreBack count host.me.0 owns
 all_back host jobs owns told r size long count is = record {
   size = r.size ∙ is;

@@ -11,7 +11,7 @@ use Rattle.mt_rendezvous.specs.declared.view.Added.TheVariants.{Twice}
 use Rattle.mt_rendezvous.specs.Calls.{IsRoot, PassOf, SeatOf}
 use Rattle.mt_private.specs.Gathered.{pass_of}
 use Rattle.mt_private.specs.declared.job.Job.{Job}
-use Rattle.mt_private.specs.declared.job.Told.{Told}
+use Rattle.mt_private.specs.declared.job.JobAnswers.{JobAnswers}
 use Rattle.mt_private.specs.declared.view.Resident.{Resident}
 use Rattle.mt_private.specs.declared.view.YardView.{YardView}
 use Rattle.mt_private.specs.declared.visiting.Visited.{Visited}
@@ -36,12 +36,12 @@ none_kept (suc n) zero o at = cc
 none_kept (suc n) (suc k) o at = none_kept n k o at
 
 module _ (host : SeatOf YardSat) (jobs : List Job) where
-  pub returned_none : (owns : List (Option System)) (told : List Told) → IsRoot (as_seat host) → IsFresh host.start host.me.0 owns → told ≡ [] → Returned host jobs owns told
+  pub returned_none : (owns : List (Option System)) (told : List JobAnswers) → IsRoot (as_seat host) → IsFresh host.start host.me.0 owns → told ≡ [] → Returned host jobs owns told
   returned_none owns told root fresh nothing = record {
     root = root;
     size = ap (λ (l : List (Option System)). length l) fresh.1 ∙ length-replicate (length host.start.cpus) None;
     keeps = λ k o at. absurd (none_kept (length host.start.cpus) k o (ap (λ (l : List (Option System)). slice_get l k) (sym fresh.1) ∙ at));
-    each = λ k job r at_job at_r. absurd (let e : None ≡ Some r = ap (λ (l : List Told). slice_get l k) (sym nothing) ∙ at_r in cc);
+    each = λ k job r at_job at_r. absurd (let e : None ≡ Some r = ap (λ (l : List JobAnswers). slice_get l k) (sym nothing) ∙ at_r in cc);
   }
 
   -- ---- one more
@@ -70,7 +70,7 @@ module _ (host : SeatOf YardSat) (jobs : List Job) where
     now_held : me.0.held ≡ y ∷ host.me.0.held
     now_held = ap (λ (u : YardView). u.held) view ∙ ap (λ (ys : List Resident). ys ++ host.me.0.held) held
 
-    came_later : (i : ℕ) (job : Job) (r : Told) → i ≢ k → CameBack host job i owns r → CameBack (record host { its = its; me = me }) job i after r
+    came_later : (i : ℕ) (job : Job) (r : JobAnswers) → i ≢ k → CameBack host job i owns r → CameBack (record host { its = its; me = me }) job i after r
     came_later i job r apart c = record {
       visited = c.visited;
       own = c.own;
@@ -84,7 +84,7 @@ module _ (host : SeatOf YardSat) (jobs : List Job) where
       shown = λ told. ap (λ (u : YardView). u.cancel) view ∙ or_left host.me.0.cancel w.cancel (c.shown told);
     }
 
-  module _ (owns : List (Option System)) (told : List Told) (old : Returned host jobs owns told) (v : Visitor) (low : length told < length host.start.cpus) (is_job : length told < length jobs)
+  module _ (owns : List (Option System)) (told : List JobAnswers) (old : Returned host jobs owns told) (v : Visitor) (low : length told < length host.start.cpus) (is_job : length told < length jobs)
       (come : (job : Job) → slice_get jobs (length told) ≡ Some job → HasCome host.table host.start job (length told) v) where
     a_job : (job : Job) × (slice_get jobs (length told) ≡ Some job)
     a_job = got jobs (length told) is_job
@@ -98,7 +98,7 @@ module _ (host : SeatOf YardSat) (jobs : List Job) where
     pub numbered : v.pass.number ≡ length told
     numbered = its_end.numbered
 
-    pub returned_more : (its : TableId) (me : YardSat) (after : List (Option System)) (later : List Told) → IsRoot (as_seat (record host { its = its; me = me })) → me.0 ≡ yard_both host.me.0 v.pass.seat.me.0 → after ≡ set owns v.pass.number (Some v.core.system)
+    pub returned_more : (its : TableId) (me : YardSat) (after : List (Option System)) (later : List JobAnswers) → IsRoot (as_seat (record host { its = its; me = me })) → me.0 ≡ yard_both host.me.0 v.pass.seat.me.0 → after ≡ set owns v.pass.number (Some v.core.system)
         → Keeps me.0 after → later ≡ told ++ v.told ∷ [] → Returned (record host { its = its; me = me }) jobs after later
     returned_more its me after later root view set_is keeps more =
         let at_k : after ≡ set owns (length told) (Some v.core.system) = set_is ∙ ap (λ (n : ℕ). set owns n (Some v.core.system)) numbered in
@@ -111,7 +111,7 @@ module _ (host : SeatOf YardSat) (jobs : List Job) where
               (λ (e : (i ≡ length told) × (v.told ≡ r)).
               let ended = come job (ap (slice_get jobs) (sym e.0) ∙ at_job) in
               let size = old.size in
-              subst (λ (z : ℕ × Told). CameBack (record host { its = its; me = me }) job z.0 after z.1) (λ j. (sym e.0 j, e.1 j))
+              subst (λ (z : ℕ × JobAnswers). CameBack (record host { its = its; me = me }) job z.0 after z.1) (λ j. (sym e.0 j, e.1 j))
               (record {
                 visited = v.visited;
                 own = v.core.system;
@@ -127,5 +127,5 @@ module _ (host : SeatOf YardSat) (jobs : List Job) where
               (λ (e : slice_get told i ≡ Some r).
               let within = slice_get_within told i r e in
               came_later its me v.pass.seat.me.0 _ lodged.1.holds view owns after (length told) v.core.system at_k i job r (λ same. absurd (omega arith)) (old.each i job r at_job e))
-              (at_end told v.told i r (ap (λ (l : List Told). slice_get l i) (sym more) ∙ at_r));
+              (at_end told v.told i r (ap (λ (l : List JobAnswers). slice_get l i) (sym more) ∙ at_r));
         }

@@ -18,7 +18,7 @@ use Rattle.mt_rendezvous.specs.Update.{decided}
 use Rattle.mt_private.specs.declared.host.Host.{Host}
 use Rattle.mt_private.specs.declared.host.Yard.{Yard}
 use Rattle.mt_private.specs.declared.job.Job.{Job}
-use Rattle.mt_private.specs.declared.job.Told.{Told}
+use Rattle.mt_private.specs.declared.job.JobAnswers.{JobAnswers}
 use Rattle.mt_private.specs.declared.gathering.Queue.{Queue}
 use Rattle.mt_private.specs.declared.gathering.Gathering.{Gathering}
 use Rattle.mt_private.specs.declared.view.Resident.{Resident}
@@ -218,5 +218,5 @@ abbrev pub HasRoom : Queue → Type 0
 HasRoom queue = length queue.waiting.items ≤ vec_capacity queue.told
 
 -- the first visitors have come back, as many as there are answers
-abbrev pub ReturnedIn : Gathering → Host → List Told → Type 0
+abbrev pub ReturnedIn : Gathering → Host → List JobAnswers → Type 0
 ReturnedIn gathering host told = Returned (seat_in gathering.yard host.seat) gathering.jobs.items host.owns.items told

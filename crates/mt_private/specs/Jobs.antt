@@ -5,7 +5,7 @@ use Rattle.mt_machine.specs.declared.op.Op.{Op}
 use Rattle.mt_machine.specs.declared.done.Done.{Done}
 use Rattle.mt_machine.specs.Machine.{FitsOp}
 use Rattle.mt_private.specs.declared.job.Job.{Job}
-use Rattle.mt_private.specs.declared.job.Told.{Told}
+use Rattle.mt_private.specs.declared.job.JobAnswers.{JobAnswers}
 use Rattle.mt_private.specs.declared.job.Part.{Part}
 use Rattle.mt_private.specs.declared.job.Part.TheVariants.{Before, After}
 
@@ -15,11 +15,11 @@ ops_in Before j = j.before.items
 ops_in After j = j.after.items
 
 -- and their answers
-abbrev pub answers_in : Part → Told → List Done
+abbrev pub answers_in : Part → JobAnswers → List Done
 answers_in Before t = t.before.items
 answers_in After t = t.after.items
 
-abbrev pub room_in : Part → Told → ℕ
+abbrev pub room_in : Part → JobAnswers → ℕ
 room_in Before t = vec_capacity t.before
 room_in After t = vec_capacity t.after
 
@@ -29,12 +29,12 @@ pub record FitsJob (j : Job) : Type 0 where
   pub after : All FitsOp j.after.items
 
 -- it has no answer yet, and room for those of one part
-abbrev pub IsOpen : Part → Job → Told → Type 0
+abbrev pub IsOpen : Part → Job → JobAnswers → Type 0
 IsOpen part j t = (answers_in part t ≡ []) × (length (ops_in part j) ≤ room_in part t)
 
 -- for each job so
-abbrev pub AreOpen : Part → List Job → List Told → Type 0
-AreOpen part js ts = (k : ℕ) (j : Job) (t : Told) → slice_get js k ≡ Some j → slice_get ts k ≡ Some t → IsOpen part j t
+abbrev pub AreOpen : Part → List Job → List JobAnswers → Type 0
+AreOpen part js ts = (k : ℕ) (j : Job) (t : JobAnswers) → slice_get js k ≡ Some j → slice_get ts k ≡ Some t → IsOpen part j t
 
 abbrev pub other_part : Part → Part
 other_part Before = After

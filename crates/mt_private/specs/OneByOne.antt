@@ -10,7 +10,7 @@ use Rattle.mt_machine.specs.Update.{updated}
 use Rattle.mt_core.specs.Rounds.{in_order}
 use Rattle.mt_private.specs.declared.job.Job.{Job}
 use Rattle.mt_private.specs.declared.job.Part.TheVariants.{Before, After}
-use Rattle.mt_private.specs.declared.job.Told.{Told}
+use Rattle.mt_private.specs.declared.job.JobAnswers.{JobAnswers}
 use Rattle.mt_private.specs.Jobs.{answers_in, ops_in}
 
 -- answers, and the system after them
@@ -59,7 +59,7 @@ abbrev pub jobs_one_by_one : System → RegisterFile → List Job → OneByOne
 jobs_one_by_one s goal jobs = one_by_one s goal (map (ops_in Before) jobs) (map (ops_in After) jobs)
 
 -- the machine and the answers are those
-pub record AreOneByOne (all : OneByOne) (m : Machine) (told : List Told) : Type 0 where
+pub record AreOneByOne (all : OneByOne) (m : Machine) (told : List JobAnswers) : Type 0 where
   pub left : m ≡ all.left
   pub before : map (answers_in Before) told ≡ all.before
   pub after : map (answers_in After) told ≡ all.after

@@ -15,7 +15,7 @@ use Rattle.mt_rendezvous.specs.Calls.{IsRoot, PassOf, SeatOf}
 use Rattle.mt_private.specs.declared.job.Job.{Job}
 use Rattle.mt_private.specs.declared.job.Part.{Part}
 use Rattle.mt_private.specs.declared.job.Part.TheVariants.{After, Before}
-use Rattle.mt_private.specs.declared.job.Told.{Told}
+use Rattle.mt_private.specs.declared.job.JobAnswers.{JobAnswers}
 use Rattle.mt_private.specs.declared.view.Resident.{Resident}
 use Rattle.mt_private.specs.declared.view.YardView.{YardView}
 use Rattle.mt_private.specs.declared.visiting.Guest.{Guest}
@@ -36,7 +36,7 @@ abbrev pub own_at : Start → ℕ → System
 own_at t k = own_system (pages_at t k) k (system_of t)
 
 -- a stay of guest k from then on
-abbrev pub stay_at : Start → ℕ → Job → System → Told → Stay
+abbrev pub stay_at : Start → ℕ → Job → System → JobAnswers → Stay
 stay_at t k job last told = record { job = job; first = own_at t k; last = last; told = told }
 
 -- ---- one visitor
@@ -59,7 +59,7 @@ pub record HasCome (table : TableId) (t : Start) (job : Job) (k : ℕ) (v : Visi
 -- ---- all of them
 
 -- guests as they were gathered, each with room for the answers to its job
-pub record AreWaiting (table : TableId) (t : Start) (jobs : List Job) (waiting : List Guest) (told : List Told) : Type 0 where
+pub record AreWaiting (table : TableId) (t : Start) (jobs : List Job) (waiting : List Guest) (told : List JobAnswers) : Type 0 where
   pub gathered : AreGathered table t waiting
   pub running : (k : ℕ) (g : Guest) → slice_get waiting k ≡ Some g → AreIn Running g.own
   pub few : length waiting ≤ length jobs
@@ -76,7 +76,7 @@ abbrev pub pass_to : SeatOf YardSat → ℕ → TableId → YardSat → PassOf Y
 pass_to host k its me = record { table = host.table; start = host.start; its = its; me = me; number = k }
 
 -- visitor k came back with these answers: its visit ended so, the host keeps its own system and holds its resident, and knows whether it was shown the cancel
-pub record CameBack (host : SeatOf YardSat) (job : Job) (k : ℕ) (owns : List (Option System)) (told : Told) : Type 0 where
+pub record CameBack (host : SeatOf YardSat) (job : Job) (k : ℕ) (owns : List (Option System)) (told : JobAnswers) : Type 0 where
   pub visited : Visited
   pub own : System
   pub its : TableId
@@ -89,14 +89,14 @@ pub record CameBack (host : SeatOf YardSat) (job : Job) (k : ℕ) (owns : List (
   pub shown : me.0.cancel ≡ true → host.me.0.cancel ≡ true
 
 -- the first ones came back, as many as there are answers
-pub record Returned (host : SeatOf YardSat) (jobs : List Job) (owns : List (Option System)) (told : List Told) : Type 0 where
+pub record Returned (host : SeatOf YardSat) (jobs : List Job) (owns : List (Option System)) (told : List JobAnswers) : Type 0 where
   pub root : IsRoot (as_seat host)
   pub size : length owns ≡ length host.start.cpus
   pub keeps : Keeps host.me.0 owns
-  pub each : (k : ℕ) (job : Job) (r : Told) → slice_get jobs k ≡ Some job → slice_get told k ≡ Some r → CameBack host job k owns r
+  pub each : (k : ℕ) (job : Job) (r : JobAnswers) → slice_get jobs k ≡ Some job → slice_get told k ≡ Some r → CameBack host job k owns r
 
 -- the whole update can be done in one piece, and then the accesses after it, for whose answers there are places
-pub record CanGoOn (m : Machine) (goal : RegisterFile) (jobs : List Job) (told : List Told) : Type 0 where
+pub record CanGoOn (m : Machine) (goal : RegisterFile) (jobs : List Job) (told : List JobAnswers) : Type 0 where
   pub quiet : IsQuiet m
   pub callable : IsEnabled m (Calls goal)
   pub some : 0 < length m.system.processors
@@ -112,7 +112,7 @@ pub record CanGoOn (m : Machine) (goal : RegisterFile) (jobs : List Job) (told :
 -- where the first ones came back as many as there are processors, and the go was given, the system left and all answers are those of the jobs and the update one by one
 abbrev pub EndsOneByOne : Type 0
 EndsOneByOne =
-    (host : SeatOf YardSat) (jobs : List Job) (owns : List (Option System)) (told : List Told) (s : System)
+    (host : SeatOf YardSat) (jobs : List Job) (owns : List (Option System)) (told : List JobAnswers) (s : System)
     → Returned host jobs owns told → length jobs ≡ length host.start.cpus → length told ≡ length jobs → Leaves host.start host.me.0 s → AreOwnsOf host.start owns s → host.me.0.go ≡ Given
     → (s ≡ (jobs_one_by_one (system_of host.start) host.start.goal jobs).left.system)
     × (map (answers_in Before) told ≡ (jobs_one_by_one (system_of host.start) host.start.goal jobs).before)

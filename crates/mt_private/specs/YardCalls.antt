@@ -22,7 +22,7 @@ use Rattle.mt_rendezvous.specs.Station.{held, in_second, order_of}
 use Rattle.mt_private.specs.declared.view.Resident.{Resident}
 use Rattle.mt_private.specs.declared.view.YardView.{YardView}
 use Rattle.mt_private.specs.declared.job.Job.{Job}
-use Rattle.mt_private.specs.declared.job.Told.{Told}
+use Rattle.mt_private.specs.declared.job.JobAnswers.{JobAnswers}
 use Rattle.mt_private.specs.declared.visiting.Visited.{Visited}
 use Rattle.mt_private.specs.declared.visiting.Visited.TheVariants.{Cancelled, Complete}
 use Rattle.mt_private.specs.OneByOne.{Ran, at_rest, ran}
@@ -98,7 +98,7 @@ pub record Stay : Type 0 where
   pub job : Job
   pub first : System
   pub last : System
-  pub told : Told
+  pub told : JobAnswers
 
 -- its system after the accesses before the update
 abbrev pub after_first : Stay → System

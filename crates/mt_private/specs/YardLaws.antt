@@ -163,9 +163,19 @@ DecisionIsOneEvent =
 
 -- ---- every step at once
 
--- the state after a step of the seat id, which is left as `new` says
-abbrev pub after_step : YardState → ℕ → Step Op → YardSat → YardState
-after_step s id st new = record { words = slice_set s.words st.word (word_after st.word st.said st (slice_index s.words st.word)); homes = s.homes; views = slice_set s.views id new.0 }
+-- a step of a seat: which seat, what it did, and what the seat is after it
+pub record YardStep : Type 0 where
+  pub id : ℕ
+  pub step : Step Op
+  pub new : YardSat
+
+abbrev pub yard_step : ℕ → Step Op → YardSat → YardStep
+yard_step id st new = record { id = id; step = st; new = new }
+
+-- the state after it
+abbrev pub after_step : YardState → YardStep → YardState
+after_step s t =
+    record { words = slice_set s.words t.step.word (word_after t.step.word t.step.said t.step (slice_index s.words t.step.word)); homes = s.homes; views = slice_set s.views t.id t.new.0 }
 
 -- a load of this count
 abbrev pub IsLoad : Step Op → ℕ → Type 0
@@ -195,16 +205,16 @@ ComesOf st (Some (Accesses k op)) = (2 ≤ st.word) × (st.said ≡ some op)
 ComesOf st (Some other) = ⊥
 
 -- such a step keeps the rule, and is one event of the yard's machine that comes of it, or none
-pub record IsOneStep (key : Key) (s : YardState) (m : MeetsYard key s) (id : ℕ) (st : Step Op) (new : YardSat) : Type 0 where
+pub record IsOneStep (key : Key) (s : YardState) (m : MeetsYard key s) (t : YardStep) : Type 0 where
   pub event : Option MachineEvent
-  pub follows : IsOneEvent key s (after_step s id st new) m event
-  pub comes : ComesOf st event
+  pub follows : IsOneEvent key s (after_step s t) m event
+  pub comes : ComesOf t.step event
 
 -- so it is with each step that the play lets a seat make in a yard that meets the rule, whatever the word, the operands and the seat
 abbrev pub EachStepFollows : Type 0
 EachStepFollows =
     (key : Key) (s : YardState) (m : MeetsYard key s) (id : ℕ) (st : Step Op) (me new : YardSat) → get_elem? s.views id ≡ some me.0 → Tells st me (slice_index s.words st.word) new
-    → IsOneStep key s m id st new
+    → IsOneStep key s m (yard_step id st new)
 
 -- a load of the second count by a pass shows its seat what it found, and no other step shows it anything
 abbrev pub ShownIsFound : Type 0

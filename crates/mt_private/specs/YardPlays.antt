@@ -71,13 +71,21 @@ pub record PassMoves (t : Start) (y w : Resident) (e : Option MachineEvent) : Ty
   pub later : ℕ × ℕ
   pub follows : Follows t (scene all go system) (move_of y.held.number w e) later.0 later.1
 
--- the view becomes the one with w, and that is what the step was
-abbrev pub Turns : YardView → YardView → Resident → Resident → Option ℕ → Bool → Option MachineEvent → Type 0
-Turns v new y w shown cancel e = (new ≡ with_one v w shown cancel) × PassMoves v.start y w e
+-- what a step leaves in a view: its resident, the second count that it was shown, and whether it was shown the cancel
+pub record LeftAs : Type 0 where
+  pub resident : Resident
+  pub shown : Option ℕ
+  pub cancel : Bool
 
--- so, and the view says as before what it was shown
+abbrev pub left_as : Resident → Option ℕ → Bool → LeftAs
+left_as w shown cancel = record { resident = w; shown = shown; cancel = cancel }
+
+-- the view becomes the one with this, and that is what the step was
+abbrev pub Turns : YardView → YardView → Resident → LeftAs → Option MachineEvent → Type 0
+Turns v new y l e = (new ≡ with_one v l.resident l.shown l.cancel) × PassMoves v.start y l.resident e
+
 abbrev pub TurnsUnshown : YardSat → YardSat → Resident → Resident → Option MachineEvent → Type 0
-TurnsUnshown me new y w e = Turns me.0 new.0 y w me.0.shown me.0.cancel e
+TurnsUnshown me new y w e = Turns me.0 new.0 y (left_as w me.0.shown me.0.cancel) e
 
 -- its processor fits the goal, and has the era of all
 abbrev pub IsCallable : Start → Resident → Type 0
@@ -88,7 +96,7 @@ abbrev pub TakesYard : Step Op → YardSat → ℕ → YardSat → Type 0
 TakesYard st me found new =
     (new.1 ≡ me.1)
     × (found < 4294967296 → Opens me.0.start × OfOne me.0 (λ y. TurnsUnshown me new y (stepped_by me.0.start Take y) (Some (Steps y.held.number Take)) × IsCallable me.0.start y))
-    × (4294967296 ≤ found → OfOne me.0 (λ y. Turns me.0 new.0 y y me.0.shown true None))
+    × (4294967296 ≤ found → OfOne me.0 (λ y. Turns me.0 new.0 y (left_as y me.0.shown true) None))
     × HasOne me.0 (λ phase. phase ≡ Running)
 
 -- an addition to the first count: Arrive, or none where the count held the cancel before
@@ -104,7 +112,7 @@ abbrev pub PassesYard : Step Op → YardSat → ℕ → YardSat → Type 0
 PassesYard st me found new =
     (new.1 ≡ me.1)
     × (found ≡ length me.0.start.cpus + 1 → OfOne me.0 (λ y. TurnsUnshown me new y (with_held y (does me.0.start Pass y.held)) (Some (Steps y.held.number Pass)) × (y.held.cpu.phase ≡ Arrived)))
-    × (4294967296 ≤ found → OfOne me.0 (λ y. Turns me.0 new.0 y (with_held y (does me.0.start Leave y.held)) me.0.shown true (Some (Steps y.held.number Leave))))
+    × (4294967296 ≤ found → OfOne me.0 (λ y. Turns me.0 new.0 y (left_as (with_held y (does me.0.start Leave y.held)) me.0.shown true) (Some (Steps y.held.number Leave))))
     × (found < 4294967296 → found ≢ length me.0.start.cpus + 1 → OfOne me.0 (λ y. TurnsUnshown me new y y None))
     × HasOne me.0 (λ phase. (phase ≡ Taken) ⊎ (phase ≡ Arrived))
 
@@ -142,8 +150,8 @@ ArrivesAgainYard st me found new =
 abbrev pub ReleasesYard : Step Op → YardSat → ℕ → YardSat → Type 0
 ReleasesYard st me found new =
     (new.1 ≡ me.1)
-    × (found ≡ length me.0.start.cpus → OfOne me.0 (λ y. Turns me.0 new.0 y (with_held y (does me.0.start Release y.held)) (Some found) me.0.cancel (Some (Steps y.held.number Release))))
-    × (found ≢ length me.0.start.cpus → OfOne me.0 (λ y. Turns me.0 new.0 y y (Some found) me.0.cancel None))
+    × (found ≡ length me.0.start.cpus → OfOne me.0 (λ y. Turns me.0 new.0 y (left_as (with_held y (does me.0.start Release y.held)) (Some found) me.0.cancel) (Some (Steps y.held.number Release))))
+    × (found ≢ length me.0.start.cpus → OfOne me.0 (λ y. Turns me.0 new.0 y (left_as y (Some found) me.0.cancel) None))
     × HasOne me.0 (λ phase. phase ≡ Arrived2)
 
 -- ---- all steps

@@ -255,7 +255,7 @@ impl Yard {
     ///
     /// # Errors
     ///
-    /// There is no memory for it; the system comes back. No clause says that the error comes of nothing else.
+    /// An allocation fails; the system comes back. No clause excludes an error for another reason.
     pub fn gather(
         alloc: Global,
         system: System,

@@ -1,7 +1,7 @@
 ghost use Rattle.std.specs.Prelude.{◌≡◌, ◌<◌, Some, length, slice_get};
 
 use crate::host::Yard;
-use crate::job::{Job, Told};
+use crate::job::{Job, JobAnswers};
 use crate::visiting::Guest;
 use mt_regs::RegFile;
 
@@ -20,7 +20,7 @@ pub struct Gathering {
 #[derive(Drop)]
 pub struct Queue {
     pub waiting: Vec<Guest>,
-    pub told: Vec<Told>,
+    pub told: Vec<JobAnswers>,
 }
 
 // The job of processor k.

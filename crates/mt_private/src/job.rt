@@ -18,7 +18,7 @@ pub struct Job {
 
 /// The answers to a job's accesses, in order.
 #[derive(Drop)]
-pub struct Told {
+pub struct JobAnswers {
     pub before: Vec<Done>,
     pub after: Vec<Done>,
 }
@@ -32,13 +32,13 @@ pub enum Part {
     After,
 }
 
-impl Told {
+impl JobAnswers {
     /// No answers, and room for those of a job.
     ///
     /// # Errors
     ///
     /// The allocator has no room.
-    pub fn new(alloc: Global, job: &Job) -> Result<Told, NoMemory>
+    pub fn new(alloc: Global, job: &Job) -> Result<JobAnswers, NoMemory>
         ensures { IfOk result (λ told. (part : JobPart) → IsOpen part job.now told) }
     {
         let Ok(before) = Vec::with_capacity(alloc, job.before.len()) else {
@@ -47,7 +47,7 @@ impl Told {
         let Ok(after) = Vec::with_capacity(alloc, job.after.len()) else {
             return Err(NoMemory);
         };
-        Ok(Told { before, after })
+        Ok(JobAnswers { before, after })
     }
 }
 

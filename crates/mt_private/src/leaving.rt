@@ -72,9 +72,9 @@ fn assembled(mut rest: SystemParts) -> System
     System::from_parts(rest)
 }
 
-/// Ends the yard, whose guests have all come back, and leaves the system that its words and views stand for. Its
-/// processors and the words of their pages are those of the guests' own systems; all other words are as they were
-/// gathered. It takes no memory.
+/// Ends the yard, whose guests have all come back, and returns the system that its words and views stand for. Its
+/// processors and the words of their pages are those of the guests' own systems. All other words are as they were
+/// gathered. Allocates nothing.
 pub fn leave(yard: Yard, host: Host) -> System
     requires hosts { IsHostOf yard host }
     requires back { AllBackIn yard host }

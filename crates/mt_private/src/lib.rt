@@ -19,7 +19,7 @@ mod visitor;
 pub use caller::{Caller, visit};
 pub use fault::PrivateFault;
 pub use host::{Host, Yard};
-pub use job::{Job, Part, Told};
+pub use job::{Job, JobAnswers, Part};
 pub use leaving::leave;
 pub use pages::shared_page;
 pub use runs::{run_private, run_private_with};

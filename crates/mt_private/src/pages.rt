@@ -170,8 +170,8 @@ fn over_core(core: &Core) -> Option<u64>
     over_all(core.system().cpus())
 }
 
-/// The least physical page, an address divided by 4,096, that two processors name: in which a mapping, a TLB entry, a
-/// cached line or a buffer of each lies. There is none exactly where no page is named by two.
+/// The least physical page that two processors name, as an address divided by 4,096. A processor names the pages of its
+/// mappings, TLB entries, cached lines and buffers. Returns `None` if and only if no two name one page.
 pub fn shared_page(core: &Core) -> Option<u64>
     ensures none { (result ≡ None) ↔ IsPrivate core.now.system }
     ensures least { (page : ℕ) → (result ≡ Some page) ↔ IsLeastShared core.now.system page }

@@ -21,7 +21,7 @@ use crate::caller::Caller;
 use crate::fault::PrivateFault;
 use crate::gathering::{Gathering, Queue};
 use crate::host::{Host, Yard};
-use crate::job::{Job, Part, Told, op_at};
+use crate::job::{Job, JobAnswers, Part, op_at};
 use crate::leaving::leave;
 use crate::pages::shared_page;
 use crate::threads::{Ended, visit_on_threads};
@@ -52,7 +52,7 @@ fn do_ops(core: &mut Core, k: u32, ops: &[Op], told: &mut Vec<Done>)
 }
 
 // Those of one part of its job.
-fn do_part(core: &mut Core, k: u32, part: Part, job: &Job, told: &mut Told)
+fn do_part(core: &mut Core, k: u32, part: Part, job: &Job, told: &mut JobAnswers)
     requires processor { k < length core.old.system.processors }
     requires fits { FitsJob job.now }
     requires open { IsOpen part job.now told.old }
@@ -68,7 +68,7 @@ fn do_part(core: &mut Core, k: u32, part: Part, job: &Job, told: &mut Told)
 }
 
 // Those of one part of all jobs, processor by processor.
-fn do_parts(core: &mut Core, part: Part, jobs: &[Job], told: &mut [Told])
+fn do_parts(core: &mut Core, part: Part, jobs: &[Job], told: &mut [JobAnswers])
     requires processors { length jobs.now ≡ length core.old.system.processors }
     requires few { length jobs.now ≤ 16 }
     requires one_each { length told.old ≡ length jobs.now }
@@ -87,7 +87,7 @@ fn do_parts(core: &mut Core, part: Part, jobs: &[Job], told: &mut [Told])
 }
 
 // A place for the answers of each job.
-fn answers_for(alloc: Global, jobs: &[Job]) -> Result<Vec<Told>, NoMemory>
+fn answers_for(alloc: Global, jobs: &[Job]) -> Result<Vec<JobAnswers>, NoMemory>
     ensures count { IfOk result (λ told. length told.items ≡ length jobs.now) }
     ensures open { IfOk result (λ told. (part : JobPart) → AreOpen part jobs.now told.items) }
 {
@@ -95,7 +95,7 @@ fn answers_for(alloc: Global, jobs: &[Job]) -> Result<Vec<Told>, NoMemory>
         return Err(NoMemory);
     };
     for k in 0..jobs.len() {
-        let Ok(answers) = Told::new(alloc, &jobs[k]) else {
+        let Ok(answers) = JobAnswers::new(alloc, &jobs[k]) else {
             return Err(NoMemory);
         };
         told.push_reserved(answers);
@@ -135,7 +135,7 @@ fn update_and_access(
     core: &mut Core,
     goal: &RegFile,
     jobs: &Vec<Job>,
-    told: &mut Vec<Told>,
+    told: &mut Vec<JobAnswers>,
 )
     requires { CanGoOn core.old goal.now jobs.now.items told.old.items }
     ensures left { core.new ≡ at_rest (ran_each 0 (map (ops_in After) jobs.now.items) (updated core.old.system (in_order core.old) goal.now).system).after }
@@ -153,8 +153,8 @@ fn visit_all<R: Threads + Wait + Sync, G: Gate>(
     core: &mut Core,
     goal: RegFile,
     jobs: Vec<Job>,
-    told: Vec<Told>,
-) -> Option<Vec<Told>>
+    told: Vec<JobAnswers>,
+) -> Option<Vec<JobAnswers>>
     requires none { core.old.order ≡ None }
     requires opens { Opens (gathered core.old.system.processors core.old.system.memory goal) }
     requires processors { length jobs.items ≡ length core.old.system.processors }
@@ -199,7 +199,7 @@ pub fn run_private_with<R: Threads + Wait + Sync, G: Gate>(
     core: &mut Core,
     goal: RegFile,
     jobs: Vec<Job>,
-) -> Result<Vec<Told>, PrivateFault>
+) -> Result<Vec<JobAnswers>, PrivateFault>
     requires some { 0 < length core.old.system.processors }
     requires one_each { vec_len jobs ≡ length core.old.system.processors }
     requires addresses { All FitsJob jobs.items }
@@ -234,10 +234,11 @@ pub fn run_private_with<R: Threads + Wait + Sync, G: Gate>(
     Ok(told)
 }
 
-/// Runs a job for each processor and one update, on a thread for each processor, which goes on with its accesses up to the
-/// update and again once it is released. The core and the answers are those of the accesses before, processor by
-/// processor, the whole update, and the accesses after, processor by processor. Where a thread isn't started, what is left
-/// is done on the calling one. Memory for the answers and for each processor's own is taken before the first access.
+/// Runs a job for each processor and one update, with a thread for each processor. Each does its accesses before the
+/// update, and those after it once it is released. The core and the answers are those of the accesses before, processor
+/// by processor, the whole update, and the accesses after, processor by processor. If a thread isn't started, the rest
+/// is done on the calling one. Memory for the answers and for each processor's own is allocated before the first
+/// access.
 ///
 /// # Errors
 ///
@@ -250,7 +251,7 @@ pub fn run_private<R: Threads + Wait + Sync, G: Gate>(
     goal: RegFile,
     jobs: Vec<Job>,
     gate: &G,
-) -> Result<Vec<Told>, PrivateFault>
+) -> Result<Vec<JobAnswers>, PrivateFault>
     requires some { 0 < length core.old.system.processors }
     requires one_each { vec_len jobs ≡ length core.old.system.processors }
     requires addresses { All FitsJob jobs.items }

@@ -8,7 +8,7 @@ ghost use Rattle.mt_private.specs.InYard.{AreWaitingIn, HasComeIn, HasRoom, Host
 use crate::caller::{Caller, come_here, core_of, start};
 use crate::gathering::{Gathering, Queue};
 use crate::host::Host;
-use crate::job::Told;
+use crate::job::JobAnswers;
 use crate::visiting::{Guest, Visited};
 use crate::visitor::Visitor;
 use mt_ports::Gate;
@@ -17,7 +17,7 @@ use std::sync::Wait;
 use std::thread::{Scope, Threads};
 
 // The visitor's guest comes back, and its answers go behind those of the ones before it.
-fn take_back(gathering: &Gathering, visitor: Visitor, host: &mut Host, told: &mut Vec<Told>)
+fn take_back(gathering: &Gathering, visitor: Visitor, host: &mut Host, told: &mut Vec<JobAnswers>)
     requires returned { ReturnedIn gathering.now host.old told.old.items }
     requires come { HasComeIn gathering.now (length told.old.items) visitor }
     requires room { vec_len told.old < vec_capacity told.old }
@@ -129,7 +129,7 @@ fn run_all<'s, E, R: Threads + Wait + Sync, G: Gate>(
 pub(crate) struct Ended {
     pub(crate) outcome: Result<(), Refusal>,
     pub(crate) host: Host,
-    pub(crate) told: Vec<Told>,
+    pub(crate) told: Vec<JobAnswers>,
 }
 
 // All visits, in the scope of their threads.

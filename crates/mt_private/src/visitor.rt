@@ -1,4 +1,4 @@
-use crate::job::Told;
+use crate::job::JobAnswers;
 use crate::visiting::{Visited, YardPass};
 use mt_core::Core;
 
@@ -8,6 +8,6 @@ use mt_core::Core;
 pub struct Visitor {
     pub core: Core,
     pub pass: YardPass,
-    pub told: Told,
+    pub told: JobAnswers,
     pub visited: Visited,
 }

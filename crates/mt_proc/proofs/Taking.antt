@@ -10,7 +10,7 @@ use Rattle.mt_machine.specs.Machine.{Machine}
 use Rattle.mt_dump.specs.Line.{Reading}
 use Rattle.mt_dump.specs.Reader.{HasRead, State}
 use Rattle.mt_stream.specs.Lines.{AtLine, Fails, GoesOn, Leads, Takes, at_line, stop_status}
-use Rattle.mt_output.specs.Ports.{Port, Waiting}
+use Rattle.mt_output.specs.Ports.{Port, Waiting, change}
 use Rattle.mt_stream.specs.Transcript.{transcript_with}
 use Rattle.mt_stream.proofs.Taking.{takes_last}
 use Rattle.mt_proc.specs.declared.running.Run.{Run}
@@ -33,7 +33,7 @@ module _ (cpus : ℕ) (here : AtLine) where
         → GoesOn (StandsAt cpus now) here writer sink
     goes text next leads at quiet each passed = record { next = path_from cpus next; at = (next, at, quiet, refl, each); text = text; goes = leads; passed = passed }
 
-    pub ends : (text : List ℕ) (stop : Stop) (result : Result (Option Stop) Failed) → LeadsBy cpus here (Err (transcript_with text (stop_status stop))) → stop ≢ NoMemory → Adds writer.old text writer.new sink.old sink.new result
+    pub ends : (text : List ℕ) (stop : Stop) (result : Result (Option Stop) Failed) → LeadsBy cpus here (Err (transcript_with text (stop_status stop))) → stop ≢ NoMemory → Adds text (change writer.old writer.new) (change sink.old sink.new) result
         → IfOk result (λ ended. ended ≡ Some stop) → Takes (StandsAt cpus now) here writer sink result
     ends text stop result leads other adds is = takes_last (StandsAt cpus now) here text writer sink stop result (λ end lines. ap (λ (x : Leads). x.tells) (leads end lines)) other adds is
 

@@ -173,7 +173,7 @@ fn take_line<R: Threads + Wait + Sync, K: Sink, G: Gate>(
 // Writes the lines of the valid pairs.
 fn write_listing<K: Sink>(file: &RegFile, writer: &mut Writer, sink: &mut K) -> Result<(), Failed>
     requires { IsAccepted file.now }
-    ensures bytes { Adds writer.old (listing file.now) writer.new (K.taken sink.old) (K.taken sink.new) result }
+    ensures bytes { Adds (listing file.now) (change writer.old writer.new) (port K.taken sink.old sink.new) result }
     ensures cause { HasCause (K.faults sink.old) (K.faults sink.new) result }
 {
     'pairs: for n in 0..file.pairs.len() {

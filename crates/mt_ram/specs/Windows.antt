@@ -48,6 +48,10 @@ with_window w m = record { windows = m.windows ++ w ∷ []; words = m.words ++ r
 abbrev pub with_line : ℕ → machine.Memory → List ℕ → machine.Memory
 with_line i m ws = record m { words = take (length m.words) (take i m.words ++ ws ++ drop (i + length ws) m.words) }
 
+-- the memory with these words, as many as before
+abbrev pub with_words : machine.Memory → List ℕ → machine.Memory
+with_words m ws = record m { words = take (length m.words) (ws ++ drop (length ws) m.words) }
+
 -- what a memory of windows keeps
 pub record IsRam (m : machine.Memory) : Type 0 where
   pub memory : machine.IsMemory m

@@ -5,7 +5,7 @@ ghost use Rattle.mt_kinds.specs.Sizes.{most_lines};
 ghost use Rattle.mt_machine.specs.Memory.{IsMemory, Memory, place, place_in, put_word, window_end, word_at, word_count};
 ghost use Rattle.mt_machine.specs.Update.{addresses};
 ghost use Rattle.mt_ram.specs.contracts.ram.Ram.{the_row};
-ghost use Rattle.mt_ram.specs.Windows.{is_overlap, refusal, refusal_in, shares_byte, window, window_of, with_line, with_window};
+ghost use Rattle.mt_ram.specs.Windows.{is_overlap, refusal, refusal_in, shares_byte, window, window_of, with_line, with_window, with_words};
 
 use crate::fault::RamFault;
 use crate::window::Window;
@@ -146,9 +146,9 @@ impl Ram {
     ///
     /// # Errors
     ///
-    /// Misaligned where the address is no multiple of 64; else Overlaps where an earlier window
-    /// has a byte of it; else TooMuch where there would be more than 4,096 lines or 16 windows.
-    /// NoMemory where none of these holds and the allocator has no room. Nothing then changes.
+    /// Misaligned if the address is no multiple of 64; else Overlaps if an earlier window has a byte of it. Else
+    /// TooMuch if there would be more than 4,096 lines or 16 windows; else NoMemory if an allocation fails. Nothing
+    /// then changes.
     pub fn add(&mut self, base: u64, lines: u32) -> Result<(), RamFault>
         requires some { 0 < lines }
         requires few { lines ≤ most_lines }
@@ -168,9 +168,9 @@ impl Ram {
         Ok(())
     }
 
-    /// The place of the word at this address, in bytes: none exactly where the address is no
-    /// multiple of 8 or lies in no window. Places count through the windows in the order in which
-    /// they were added, and through each by address.
+    /// The place of the word at this address, in bytes. There is none if and only if the address is no multiple of 8 or
+    /// lies in no window. Places count through the windows in the order in which they were added, and through each by
+    /// address.
     pub fn place(&self, address: u64) -> Option<usize>
         ensures value { result ≡ place self.now address }
         ensures within { IfSome result (λ i. i < length self.now.words) }
@@ -188,6 +188,22 @@ impl Ram {
         ensures memory { IsMemory self.now }
     {
         self.words.len()
+    }
+
+    /// Borrows all words, in the order of their places.
+    pub fn as_slice(&self) -> &[u64]
+        ensures { result.now ≡ self.now.words }
+    {
+        self.words.as_slice()
+    }
+
+    /// Borrows all words for writing, in the order of their places.
+    pub fn as_mut_slice(&mut self) -> &mut [u64]
+        ensures* writes_back { sem 𝓛 (Lends the_row (Array u64 0) self.entry result (with_words self.old)) }
+        ensures value { result.now ≡ self.old.words }
+        ensures whole { length result.now ≡ length self.old.words }
+    {
+        self.words.as_mut_slice()
     }
 
     /// The word at a place.
@@ -217,7 +233,7 @@ impl Ram {
         }
     }
 
-    /// Lends the eight words of a line, from the place of the first on, for writing.
+    /// Borrows the eight words of a line for writing, from the place of the first on.
     pub fn line_mut(&mut self, i: usize) -> &mut [u64]
         requires line { i % 8 ≡ 0 }
         requires within { i < length self.old.words }

@@ -16,22 +16,22 @@ use Rattle.mt_rendezvous.specs.declared.view.Start.{Start}
 use Rattle.mt_rendezvous.specs.declared.view.View.{View}
 use Rattle.mt_rendezvous.specs.declared.view.Key.{Key}
 use Rattle.mt_rendezvous.specs.Station.{Meets, code, first_memory_word, held, with_held}
-use Rattle.mt_rendezvous.specs.Plays.{Arrives, GoesTo, IsWaiting, Passes, Sat, Tells, TellsAt, arrive, does, late, own_event, written}
+use Rattle.mt_rendezvous.specs.Plays.{Arrives, GoesTo, IsWaiting, Passes, Sat, Tells, TellsAt, TellsFirst, TellsSecond, arrive, does, late, own_event, written}
 use Rattle.mt_rendezvous.proofs.Steps.{IsDue, arrives, arrives_again, own_is, passes, releases, works, writes_back}
 use Rattle.mt_rendezvous.specs.declared.view.Added.TheVariants.{Never, Once, Twice}
 use Rattle.mt_rendezvous.proofs.RootSteps.{cancels, gives}
 
 -- ---- a store goes behind the counts
 
-pub at_store : (i n : ℕ) (st : Step (Unit {0})) (me new : Sat) (found : ℕ) → 2 ≤ i → TellsAt 2 n st me found new → TellsAt i n st me found new
-at_store zero n st me new found high t = absurd (omega arith)
-at_store (suc zero) n st me new found high t = absurd (omega arith)
-at_store (suc (suc i)) n st me new found high t = t
+pub at_store : (i : ℕ) (st : Step (Unit {0})) (me new : Sat) (found : ℕ) → 2 ≤ i → TellsAt 2 st me found new → TellsAt i st me found new
+at_store zero st me new found high t = absurd (omega arith)
+at_store (suc zero) st me new found high t = absurd (omega arith)
+at_store (suc (suc i)) st me new found high t = t
 
-pub of_store : (i n : ℕ) (st : Step (Unit {0})) (me new : Sat) (found : ℕ) → 2 ≤ i → TellsAt i n st me found new → TellsAt 2 n st me found new
-of_store zero n st me new found high t = absurd (omega arith)
-of_store (suc zero) n st me new found high t = absurd (omega arith)
-of_store (suc (suc i)) n st me new found high t = t
+pub of_store : (i : ℕ) (st : Step (Unit {0})) (me new : Sat) (found : ℕ) → 2 ≤ i → TellsAt i st me found new → TellsAt 2 st me found new
+of_store zero st me new found high t = absurd (omega arith)
+of_store (suc zero) st me new found high t = absurd (omega arith)
+of_store (suc (suc i)) st me new found high t = t
 
 -- ---- what a step leaves of its seat's view
 
@@ -62,25 +62,33 @@ module _ (st : Step (Unit {0})) (me new : Sat) (found : ℕ) where
   by_keeps k = (ap (λ (v : View). v.shown) k.1, ap (λ (v : View). v.root) k.1)
 
   -- an addition of 1 to word 0, by the root or by a pass
-  on_first : (b : Bool) → me.0.root ≡ b → TellsAt 0 1 st me found new → (new.0.shown ≡ me.0.shown) × (new.0.root ≡ me.0.root)
+  on_first : (b : Bool) → me.0.root ≡ b → TellsFirst 1 st me found new → (new.0.shown ≡ me.0.shown) × (new.0.root ≡ me.0.root)
   on_first true is t = let g = ((t.0 is).1).1 in (ap (λ (v : View). v.shown) g, ap (λ (v : View). v.root) g)
   on_first false is t = by_keeps (arrived st me new found (t.1 is).1)
 
   -- a load of word 1
-  pub loaded_again : TellsAt 1 0 st me found new → (new.0.shown ≡ Some found) × (new.0.root ≡ me.0.root)
+  pub loaded_again : TellsSecond 0 st me found new → (new.0.shown ≡ Some found) × (new.0.root ≡ me.0.root)
   loaded_again t = dite (ℕ_discrete found (length me.0.start.cpus))
       (λ (full : found ≡ length me.0.start.cpus). let v = (t.1.2 full).0 in (ap (λ (v : View). v.shown) v, ap (λ (v : View). v.root) v))
       (λ (not_full : found ≢ length me.0.start.cpus). let v = (t.1.3 not_full).0 in (ap (λ (v : View). v.shown) v, ap (λ (v : View). v.root) v))
 
-  -- any other step
-  pub unshown : (i a : ℕ) → (i ≢ 1) ⊎ (a ≢ 0) → TellsAt i a st me found new → (new.0.shown ≡ me.0.shown) × (new.0.root ≡ me.0.root)
-  unshown zero zero apart t = by_keeps (passed st me new found t.1)
-  unshown zero (suc zero) apart t = on_first me.0.root refl t
-  unshown zero (suc (suc more)) apart t = (ap (λ (v : View). v.shown) t.2.1, ap (λ (v : View). v.root) t.2.1)
-  unshown (suc zero) zero apart t = absurd (⊎_elim (λ (n : 1 ≢ 1). n refl) (λ (n : 0 ≢ 0). n refl) apart)
-  unshown (suc zero) (suc zero) apart t = (ap (λ (v : View). v.shown) t.1.1, ap (λ (v : View). v.root) t.1.1)
-  unshown (suc zero) (suc (suc more)) apart t = absurd t
-  unshown (suc (suc i)) a apart t = (ap (λ (v : View). v.shown) t.2.1, ap (λ (v : View). v.root) t.2.1)
+  -- any step of word 0
+  first_unshown : (a : ℕ) → TellsFirst a st me found new → (new.0.shown ≡ me.0.shown) × (new.0.root ≡ me.0.root)
+  first_unshown zero t = by_keeps (passed st me new found t.1)
+  first_unshown (suc zero) t = on_first me.0.root refl t
+  first_unshown (suc (suc more)) t = (ap (λ (v : View). v.shown) t.2.1, ap (λ (v : View). v.root) t.2.1)
+
+  -- an addition to word 1
+  second_unshown : (a : ℕ) → a ≢ 0 → TellsSecond a st me found new → (new.0.shown ≡ me.0.shown) × (new.0.root ≡ me.0.root)
+  second_unshown zero added t = absurd (added refl)
+  second_unshown (suc zero) added t = (ap (λ (v : View). v.shown) t.1.1, ap (λ (v : View). v.root) t.1.1)
+  second_unshown (suc (suc more)) added t = absurd t
+
+  -- any but a load of word 1
+  pub unshown : (i : ℕ) → (i ≢ 1) ⊎ (st.first ≢ 0) → TellsAt i st me found new → (new.0.shown ≡ me.0.shown) × (new.0.root ≡ me.0.root)
+  unshown zero apart t = first_unshown st.first t
+  unshown (suc zero) apart t = second_unshown st.first (⊎_elim (λ (n : 1 ≢ 1). absurd (n refl)) (λ (n : st.first ≢ 0). n) apart) t
+  unshown (suc (suc i)) apart t = (ap (λ (v : View). v.shown) t.2.1, ap (λ (v : View). v.root) t.2.1)
 
 -- ---- where the event between the barriers is stored
 
@@ -129,7 +137,7 @@ module _ (key : Key) (slots id k : ℕ) (me : Sat) (c : Processor) where
         r.1,
         r.2,
         r.3,
-        at_store (k + 2) n (step slots (k + 2) n 0 none) me (r.0, carried_after me.1 r.1) n (omega arith) (record { number = k; cpu = c; holds = d.is; phase = d.here }, goes, r.4),
+        at_store (k + 2) (step slots (k + 2) n 0 none) me (r.0, carried_after me.1 r.1) n (omega arith) (record { number = k; cpu = c; holds = d.is; phase = d.here }, goes, r.4),
       )
 
   pub writes_back_told : (i j address value : ℕ) (e : Event) → IsDue key me (held k c Once) e → written e ≡ Some (address, value) → place me.0.start.ram address ≡ Some j → i ≡ first_memory_word me.0.start + j
@@ -141,7 +149,7 @@ module _ (key : Key) (slots id k : ℕ) (me : Sat) (c : Processor) where
         r.1,
         r.2,
         r.3,
-        at_store i value (step slots i value 0 none) me (r.0, carried_after me.1 r.1) value (omega arith) (record { number = k; cpu = c; holds = d.is; phase = d.here }, goes, r.4),
+        at_store i (step slots i value 0 none) me (r.0, carried_after me.1 r.1) value (omega arith) (record { number = k; cpu = c; holds = d.is; phase = d.here }, goes, r.4),
       )
 
 module _ (key : Key) (slots id : ℕ) (me : Sat) (root : me.0.root ≡ true) (unsaid : me.0.go ≡ Pending) where

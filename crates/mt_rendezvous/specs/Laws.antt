@@ -177,9 +177,19 @@ left_at zero a words = (slice_index words 0 + a) % 2 ^ 64
 left_at (suc zero) a words = (slice_index words 1 + a) % 2 ^ 64
 left_at (suc (suc i)) a words = a
 
--- the station after such a step of the seat id
-abbrev pub after_step : Station → ℕ → ℕ → ℕ → Sat → Station
-after_step s id i a new = stepped s i (left_at i a s.words) id new.1 new.0 keeps
+-- a step of a seat: which seat, the word, the operand, and what the seat is after it
+pub record SeatStep : Type 0 where
+  pub id : ℕ
+  pub word : ℕ
+  pub operand : ℕ
+  pub new : Sat
+
+abbrev pub seat_step : ℕ → ℕ → ℕ → Sat → SeatStep
+seat_step id i a new = record { id = id; word = i; operand = a; new = new }
+
+-- the station after it
+abbrev pub after_step : Station → SeatStep → Station
+after_step s t = stepped s t.word (left_at t.word t.operand s.words) t.id t.new.1 t.new.0 keeps
 
 -- the steps that an event comes of: a barrier is reached by an addition, and passed or left by a load of the same word; what lies between them is stored
 abbrev pub OfStep : ℕ → ℕ → Event → Type 0
@@ -198,16 +208,16 @@ ComesOf i a (Some (Steps k e)) = OfStep i a e
 ComesOf i a (Some other) = ⊥
 
 -- such a step keeps the rule, and is one event of the station's machine that comes of it, or none
-pub record IsOneStep (key : Key) (s : Station) (m : Meets key s) (id i a : ℕ) (new : Sat) : Type 0 where
+pub record IsOneStep (key : Key) (s : Station) (m : Meets key s) (t : SeatStep) : Type 0 where
   pub event : Option MachineEvent
-  pub follows : Follows key s (after_step s id i a new) m event
-  pub comes : ComesOf i a event
+  pub follows : Follows key s (after_step s t) m event
+  pub comes : ComesOf t.word t.operand event
 
 -- so it is with each step that the play lets a seat make on a station that meets the rule, whatever the word, the operand and the seat
 abbrev pub EachStepFollows : Type 0
 EachStepFollows =
     (key : Key) (s : Station) (m : Meets key s) (id i a : ℕ) (me new : Sat) → get_elem? s.views id ≡ some me.0 → Tells (step 0 i a 0 none) me (told_at i a s.words) new
-    → IsOneStep key s m id i a new
+    → IsOneStep key s m (seat_step id i a new)
 
 -- a load of word 1 shows its seat what it found, and no other step shows it anything
 abbrev pub ShownIsFound : Type 0

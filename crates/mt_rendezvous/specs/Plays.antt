@@ -225,22 +225,30 @@ pub record IsPass (me : Sat) (added : Added) (P : Phase → Type 0) : Type 0 whe
   pub holds : me.0.held ≡ held number cpu added ∷ []
   pub phase : P cpu.phase
 
--- The one play of all steps, by word and operand: a load of a count has 0 there, an addition what it adds, and a store of another word what it stores.
--- The seat has to be one whose turn it is. What stands in no line is no step of this crate.
-abbrev pub TellsAt : ℕ → ℕ → Step (Unit {0}) → Sat → ℕ → Sat → Type 0
-TellsAt zero zero st me found new = IsPass me Once IsWaiting × Passes st me found new
-TellsAt zero (suc zero) st me found new =
+-- on the first count, by the operand
+abbrev pub TellsFirst : ℕ → Step (Unit {0}) → Sat → ℕ → Sat → Type 0
+TellsFirst zero st me found new = IsPass me Once IsWaiting × Passes st me found new
+TellsFirst (suc zero) st me found new =
     (me.0.root ≡ true → IsUndecided me × Gives st me found new)
     × (me.0.root ≡ false → IsPass me Never (λ p. p ≡ Taken) × Arrives st me found new)
-TellsAt zero (suc (suc more)) st me found new = (st.first ≡ 4294967296) × IsUndecided me × Cancels st me found new
-TellsAt (suc zero) zero st me found new = IsPass me Twice (λ p. p ≡ Arrived2) × Releases st me found new
-TellsAt (suc zero) (suc zero) st me found new = IsPass me Once (λ p. p ≡ Restored) × ArrivesAgain st me found new
-TellsAt (suc zero) (suc (suc more)) st me found new = ⊥
-TellsAt (suc (suc i)) n st me found new =
+TellsFirst (suc (suc more)) st me found new = (st.first ≡ 4294967296) × IsUndecided me × Cancels st me found new
+
+-- on the second
+abbrev pub TellsSecond : ℕ → Step (Unit {0}) → Sat → ℕ → Sat → Type 0
+TellsSecond zero st me found new = IsPass me Twice (λ p. p ≡ Arrived2) × Releases st me found new
+TellsSecond (suc zero) st me found new = IsPass me Once (λ p. p ≡ Restored) × ArrivesAgain st me found new
+TellsSecond (suc (suc more)) st me found new = ⊥
+
+-- The one play of all steps, by word and operand: a load of a count has 0 there, an addition what it adds, and a store of another word what it stores.
+-- The seat has to be one whose turn it is. What stands in no line is no step of this crate.
+abbrev pub TellsAt : ℕ → Step (Unit {0}) → Sat → ℕ → Sat → Type 0
+TellsAt zero st = TellsFirst st.first st
+TellsAt (suc zero) st = TellsSecond st.first st
+TellsAt (suc (suc i)) st = λ me found new.
     (p : IsPass me Once (λ p. IsTrue (is_local p))) × GoesTo me.0.start (held p.number p.cpu Once) (written (own_event me.0.start p.cpu)) st × Works st me found new
 
 abbrev pub Tells : Step (Unit {0}) → Sat → ℕ → Sat → Type 0
-Tells st = TellsAt st.word st.first st
+Tells st = TellsAt st.word st
 
 -- the seat becomes the other by a step of word i with this operand
 abbrev pub Made : ℕ → ℕ → Sat → Sat → Type 0

@@ -79,7 +79,8 @@ pub trait OfProcessor {
     ghost number: { Self → ℕ };
 }
 
-/// The work of a thread that wasn't started. Only this module can make one or take one apart, and it isn't `Drop`.
+/// The work of a thread that wasn't started. Only this module and `crew/memory.rt` can make one or take one apart. It
+/// isn't `Drop`.
 pub struct Unstarted<F> {
     work: F,
     /// The work, as `Crew::start` got it.

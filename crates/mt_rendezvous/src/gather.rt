@@ -1,5 +1,6 @@
 // A station is made, and closed.
-ghost use Rattle.std.specs.Prelude.{◌≡◌, ℕ, ◌+◌, ◌<◌, ◌≤◌, [], length, slice_get, None, Some, IfOk, IfErr, vec_len, vec_capacity};
+ghost use Rattle.std.specs.Prelude.{◌≡◌, ℕ, ◌+◌, ◌<◌, ◌≤◌, [], drop, length, slice_get, None, Some, IfOk, IfErr, vec_len, vec_capacity};
+ghost use Rattle.std.specs.Mem.Slots.{IsFull, slots_items, slots_len};
 ghost use Rattle.mt_machine.specs.declared.go.Go.TheVariants.{Pending};
 ghost use Rattle.mt_rendezvous.specs.Station.{Begins, both};
 ghost use Rattle.mt_rendezvous.specs.Calls.{gathered};
@@ -9,6 +10,7 @@ ghost use Rattle.mt_rendezvous.specs.InStation.{held_by, pass_view, root_view, s
 use crate::crew::{Refusal, open, room};
 use crate::station::{Attendee, Pass, Root, Station};
 use crate::view::HandsOver;
+use atomic_table::Closed;
 use mt_cpu::Cpu;
 use mt_ram::Ram;
 use mt_regs::RegFile;
@@ -139,6 +141,17 @@ impl Root {
     }
 }
 
+// Puts the words from a place on into memory.
+fn put_back(words: &mut [u64], closed: &Closed<(), Global>, first: usize)
+    requires full { IsFull closed.now.words }
+    requires all { first + length words.old ≡ slots_len closed.now.words }
+    ensures { words.new ≡ drop first (slots_items closed.now.words) }
+{
+    for i in 0..words.len() {
+        words[i] = closed.word(first + i);
+    }
+}
+
 /// Ends the station and puts its words into memory. The clause says where the machine then is.
 pub fn disband(station: Station, root: Root, ram: &mut Ram)
     requires root { IsRootIn station root }
@@ -148,8 +161,7 @@ pub fn disband(station: Station, root: Root, ram: &mut Ram)
     let Station { table, count } = station;
     let Root { seat } = root;
     let closed = table.close_with(seat);
-    for i in 0..ram.words() {
-        ram.put(i, closed.word(count as usize + 2 + i));
-    }
+    let _all = ram.words(); // a fact for the proof
+    put_back(ram.as_mut_slice(), &closed, count as usize + 2);
     closed.free();
 }

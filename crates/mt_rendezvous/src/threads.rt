@@ -263,8 +263,8 @@ pub fn update_with<R: Threads + Wait + Sync, G: Gate>(
     Ok(())
 }
 
-/// Updates the range registers of all processors, on a thread for each. If one isn't started, or an allocation fails, the
-/// update is done on this thread.
+/// Updates the range registers of all processors, on a thread for each, or on this thread if one isn't started or an allocation
+/// fails.
 ///
 /// # Errors
 ///

@@ -58,7 +58,7 @@ fn tell_offence<K: Sink>(
     sink: &mut K,
     offence: &Offence,
 ) -> Result<Option<Stop>, Failed>
-    ensures bytes { Adds writer.old (offence_line offence.now) writer.new (K.taken sink.old) (K.taken sink.new) result }
+    ensures bytes { Adds (offence_line offence.now) (change writer.old writer.new) (port K.taken sink.old sink.new) result }
     ensures stop { IfOk result (λ ended. ended ≡ Some Stop.BadText) }
     ensures answer { (answer : Stop) → result ≡ Ok (Some answer) → answer ≡ Stop.BadText }
     ensures cause { HasCause (K.faults sink.old) (K.faults sink.new) result }
@@ -119,7 +119,7 @@ fn form<R: Threads + Wait + Sync, K: Sink, G: Gate>(
     requires fits { Fits replayer.old.now c.now }
     requires asked { task_of c.now ≡ Task.Act asked }
     requires room { HasEraRoom replayer.old.machine }
-    ensures bytes { Adds writer.old (command_text replayer.old c.now) writer.new (K.taken sink.old) (K.taken sink.new) result }
+    ensures bytes { Adds (command_text replayer.old c.now) (change writer.old writer.new) (port K.taken sink.old sink.new) result }
     ensures after { OnOk result (replayer.new ≡ state_after replayer.old c.now) }
     ensures cause { HasCause (K.faults sink.old) (K.faults sink.new) result }
 {

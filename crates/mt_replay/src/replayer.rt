@@ -10,6 +10,7 @@ ghost use Rattle.mt_script.specs.Stages.{is_in_dump};
 ghost use Rattle.mt_script.specs.Accept.{Fits, accepted};
 ghost use Rattle.mt_ports.specs.Causes.{HasCause};
 ghost use Rattle.mt_output.specs.Writing.{Adds};
+ghost use Rattle.mt_output.specs.Ports.{change, port};
 ghost use Rattle.mt_replay.specs.Kept.{IsReplayState};
 ghost use Rattle.mt_replay.specs.Doing.{CanAct};
 ghost use Rattle.mt_replay.specs.declared.task.Task.{Task};
@@ -281,7 +282,7 @@ impl Replayer {
     #[inline(never)]
     pub fn report<K: Sink>(&mut self, writer: &mut Writer, sink: &mut K) -> Result<(), Failed>
         requires { Fits self.old.now Command.Report }
-        ensures bytes { Adds writer.old (command_text self.old Command.Report) writer.new (K.taken sink.old) (K.taken sink.new) result }
+        ensures bytes { Adds (command_text self.old Command.Report) (change writer.old writer.new) (port K.taken sink.old sink.new) result }
         ensures after { self.new ≡ state_after self.old Command.Report }
         ensures cause { HasCause (K.faults sink.old) (K.faults sink.new) result }
     {

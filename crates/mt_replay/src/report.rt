@@ -1,6 +1,7 @@
 ghost use Rattle.std.specs.Prelude.{◌≡◌, ◌<◌, ◌≤◌, length, slice_get, Some};
 ghost use Rattle.mt_ports.specs.Causes.{HasCause};
 ghost use Rattle.mt_output.specs.Writing.{Adds};
+ghost use Rattle.mt_output.specs.Ports.{change, port};
 ghost use Rattle.mt_replay.specs.Texts.{processor_lines, report_text};
 
 use crate::texts::{have_one_file, processor_line, registers_line};
@@ -18,7 +19,7 @@ fn cpu_at(cpus: &[Cpu], k: usize) -> &Cpu
 // Writes a line for each processor, in order.
 fn write_processors<K: Sink>(cpus: &[Cpu], writer: &mut Writer, sink: &mut K) -> Result<(), Failed>
     requires { length cpus.now ≤ 16 }
-    ensures bytes { Adds writer.old (processor_lines 0 cpus.now) writer.new (K.taken sink.old) (K.taken sink.new) result }
+    ensures bytes { Adds (processor_lines 0 cpus.now) (change writer.old writer.new) (port K.taken sink.old sink.new) result }
     ensures cause { HasCause (K.faults sink.old) (K.faults sink.new) result }
 {
     'processors: for k in 0..cpus.len() {
@@ -38,7 +39,7 @@ pub(crate) fn write_report<K: Sink>(
     sink: &mut K,
 ) -> Result<(), Failed>
     requires { length cpus.now ≤ 16 }
-    ensures bytes { Adds writer.old (report_text cpus.now) writer.new (K.taken sink.old) (K.taken sink.new) result }
+    ensures bytes { Adds (report_text cpus.now) (change writer.old writer.new) (port K.taken sink.old sink.new) result }
     ensures cause { HasCause (K.faults sink.old) (K.faults sink.new) result }
 {
     match write_processors(cpus, writer, sink) {

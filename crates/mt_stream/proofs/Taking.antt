@@ -18,7 +18,7 @@ use Rattle.mt_stream.specs.declared.ending.Stop.TheVariants.{NoMemory}
 
 -- a last text was written, or failed
 pub takes_last : (At : List ℕ → Path → Type 0) (here : AtLine) (text : List ℕ) (writer : Waiting) (sink : Port) (stop : Stop) (result : Result (Option Stop) Failed)
-    → ((end : Option Place) (lines : List (List ℕ)) → (here.leads end lines).tells ≡ transcript_with text (stop_status stop)) → stop ≢ NoMemory → Adds writer.old text writer.new sink.old sink.new result
+    → ((end : Option Place) (lines : List (List ℕ)) → (here.leads end lines).tells ≡ transcript_with text (stop_status stop)) → stop ≢ NoMemory → Adds text (change writer.old writer.new) (change sink.old sink.new) result
     → IfOk result (λ ended. ended ≡ Some stop) → Takes At here writer sink result
 takes_last At here text writer sink stop (Ok None) stops last adds is = absurd (cc is)
 takes_last At here text writer sink stop (Ok (Some answer)) stops last adds is =

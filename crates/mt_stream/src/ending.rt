@@ -15,7 +15,7 @@ pub enum Stop {
     NoMemory,
 }
 
-/// How a run ends whose ports don't fail.
+/// How a run ends if no port fails and the input isn't too long.
 #[derive(Clone, Copy)]
 pub enum Ended {
     /// All of its lines were taken.
@@ -24,7 +24,7 @@ pub enum Ended {
     Line(Stop),
 }
 
-/// Why a run ends before its text does.
+/// Why a run is cut off: the source failed or gave too much, or the sink failed.
 #[derive(Clone, Copy)]
 pub enum Cut {
     Feed(FeedFault),

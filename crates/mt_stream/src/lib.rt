@@ -1,4 +1,4 @@
-//! Texts that are run line by line out of a feed, and what is told of their lines.
+//! Texts that are run line by line out of a feed, and the output for their lines.
 #![tactic(auto)]
 
 mod ending;

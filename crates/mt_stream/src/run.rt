@@ -12,19 +12,19 @@ use mt_text::Place;
 
 /// A run over the lines of a text, as it is between two of them.
 pub trait LineRun {
-    /// It stands where this text was written and the lines that come lead to this.
+    /// This text was written so far, and the lines that follow lead to this.
     ghost at: { Self → List ℕ → Path → Type 0 };
 
-    /// What is told where the text ends at a place.
+    /// The output at the end of the text, which is at this place.
     ghost ends: { Self → Place → Transcript };
 
-    /// It may ask for memory at a line of this number, where it and those behind it tell this.
+    /// It may allocate at a line of this number, if this is the output from that line on.
     ghost asks: { Self → Telling → ℕ → List ℕ → Type 0 };
 
     /// It can take a line behind this many.
     ghost ready: { ℕ → Self → Type 0 };
 
-    /// Writes what is told where the text ends, with all that waits, and returns how it ends.
+    /// Writes the output at the end of the text, with all that waits, and returns how it ends.
     fn write_end<K: Sink>(
         &self,
         end: Place,

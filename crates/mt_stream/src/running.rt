@@ -1,6 +1,6 @@
 ghost use Rattle.std.specs.Prelude.{◌≡◌, ◌≢◌, ◌≤◌, ◌<◌, ◌+◌, ◌↔◌, ℕ, [], length, None, Some, Ok, IfOk};
 ghost use Rattle.mt_text.specs.Text.{longest_input};
-ghost use Rattle.mt_text.specs.Feed.{GaveTooMuch, IsLong, TakesMore, taken};
+ghost use Rattle.mt_text.specs.Feed.{GaveTooMuch, IsLong, TakesMore, drawn, taken};
 ghost use Rattle.mt_ports.specs.Causes.{HasCause, StatusHasCause};
 ghost use Rattle.mt_output.specs.Writing.{Adds};
 ghost use Rattle.mt_stream.specs.Handling.{MayTake, RefusesFrom, ResultsFrom, TakesEach};
@@ -43,7 +43,7 @@ fn next_line<S: Source, K: Sink>(
     sink: &mut K,
 ) -> Result<bool, Cut>
     requires { feed.old.fault ≡ None }
-    ensures bytes { TakesMore (S.left source.old) (S.left source.new) (S.given source.old) (S.given source.new)
+    ensures bytes { TakesMore (drawn S.left S.given source.old source.new)
         (λ more. Next (change feed.old feed.new) (read more (S.left source.new)) (change writer.old writer.new) (port K.taken sink.old sink.new) result) }
     ensures long { IsLong feed.new }
     ensures source { SourceHasCause (S.faults source.old) (S.faults source.new) result }
@@ -70,7 +70,7 @@ pub fn tell<K: Sink>(
     stop: Stop,
 ) -> Result<Option<Stop>, Failed>
     requires { length text.now ≤ 224 }
-    ensures bytes { Adds writer.old text.now writer.new (K.taken sink.old) (K.taken sink.new) result }
+    ensures bytes { Adds text.now (change writer.old writer.new) (port K.taken sink.old sink.new) result }
     ensures stop { IfOk result (λ ended. ended ≡ Some stop) }
     ensures answer { (answer : Stop) → result ≡ Ok (Some answer) → answer ≡ stop }
     ensures cause { HasCause (K.faults sink.old) (K.faults sink.new) result }
@@ -122,7 +122,7 @@ fn leave<S: Source, K: Sink>(
     sink: &mut K,
 ) -> Result<Ended, Cut>
     requires { feed.old.fault ≡ None }
-    ensures bytes { TakesMore (S.left source.old) (S.left source.new) (S.given source.old) (S.given source.new)
+    ensures bytes { TakesMore (drawn S.left S.given source.old source.new)
         (λ more. (taken feed.new ≡ taken feed.old + length more)
         × Leaves (last_line stop last) (read more (S.left source.new)) writer.old (port K.taken sink.old sink.new) (run_status result)) }
     ensures long { (run_status result ≡ Status.TooLong) ↔ (longest_input < taken feed.new) }

@@ -6,7 +6,7 @@ use Rattle.std.proofs.Math.Seq.{drop-length, take-length}
 use Rattle.std.proofs.lemmas.List.{append-nil, drop-append-le, length-append, length-drop, take-append-drop, length-take-le, take-append-le, take-take, take_all}
 use Rattle.std.proofs.lemmas.Bool.{cases_lt}
 use Rattle.mt_text.specs.Text.{end_of, is_line_end, lines_of}
-use Rattle.mt_text.specs.Feed.{Feeding, IsFront, IsLent, IsLong, LendsFirst, LendsLines, Lines, LinesAre, known_front, moved_on, place_after, taken, with_end}
+use Rattle.mt_text.specs.Feed.{Feeding, IsFront, IsLent, IsLong, LendsFirst, LendsLines, Lines, LinesAre, draw, known_front, moved_on, place_after, taken, with_end}
 use Rattle.mt_text.specs.declared.line.Line.{Line}
 use Rattle.mt_text.specs.declared.fault.FeedFault.{FeedFault}
 use Rattle.mt_text.proofs.Feeding.{front_within, unknown_few}
@@ -95,7 +95,7 @@ lends old new before seen after (Ok None) same are =
 lends old new before seen after (Ok (Some line)) same are = moves_first old new before seen after line are.0.0 same are.0.1 are.0.2 are.1
 lends old new before seen after (Err fault) same are = ap (λ l. l ++ after) are.0 ∙ sym same
 
-pub lends_lines : (old new : Feeding) (before : List ℕ) (left : Option (List ℕ)) (given_before given_after : ℕ) (result : Result (Option Line) FeedFault) → Lines old new (Some before) left given_before given_after result
+pub lends_lines : (old new : Feeding) (before : List ℕ) (left : Option (List ℕ)) (given_before given_after : ℕ) (result : Result (Option Line) FeedFault) → Lines old new (draw (Some before) left given_before given_after) result
     → (after : List ℕ) × (left ≡ Some after) × LendsLines old new before after result
 lends_lines old new before None given_before given_after result lines = absurd lines.1
 lends_lines old new before (Some after) given_before given_after result lines =
@@ -118,7 +118,7 @@ some_front seen left front (inl known) = by front known
 some_front seen left front (inr end) = rw end.3 (omega (arith, end.2))
 
 -- each line that is lent moves a feed on
-pub moves_on : (old new : Feeding) (before left : Option (List ℕ)) (given_before given_after : ℕ) (line : Line) → Lines old new before left given_before given_after (Ok (Some line)) → old.offset < new.offset
+pub moves_on : (old new : Feeding) (before left : Option (List ℕ)) (given_before given_after : ℕ) (line : Line) → Lines old new (draw before left given_before given_after) (Ok (Some line)) → old.offset < new.offset
 moves_on old new before left given_before given_after line lines =
     let is : new.offset ≡ old.offset + with_end lines.3.0.0.0 = ap (λ f. f.offset) lines.3.0.0.2 in
     omega (arith, is, some_front (old.pending ++ lines.0) left lines.3.0.0.0 lines.3.0.0.1)
@@ -137,7 +137,7 @@ counts old new seen left (Ok (Some line)) are = counts_moved old new seen left a
 counts old new seen left (Err fault) are = omega (arith, ap length are.0, are.1)
 
 -- what a feed has taken goes up with what the source has given
-pub counted : (old new : Feeding) (before left : Option (List ℕ)) (given_before given_after : ℕ) (result : Result (Option Line) FeedFault) → Lines old new before left given_before given_after result
+pub counted : (old new : Feeding) (before left : Option (List ℕ)) (given_before given_after : ℕ) (result : Result (Option Line) FeedFault) → Lines old new (draw before left given_before given_after) result
     → given_before + taken new ≡ given_after + taken old
 counted old new before left given_before given_after result lines =
     omega (arith, lines.2, counts old new (old.pending ++ lines.0) left result lines.3.0, length-append old.pending lines.0)
@@ -161,7 +161,7 @@ passes_seen old new before seen after (Ok None) same are = ([], passes_none old 
 passes_seen old new before seen after (Ok (Some line)) same are = (take (with_end are.0.0) seen, passes_front old new before seen after are.0.0 same are.0.1 are.0.2)
 passes_seen old new before seen after (Err fault) same are = ([], passes_none old new before after (same ∙ ap (λ l. l ++ after) (sym are.0)) are.2)
 
-pub passes : (old new : Feeding) (before after : List ℕ) (given_before given_after : ℕ) (result : Result (Option Line) FeedFault) → Lines old new (Some before) (Some after) given_before given_after result
+pub passes : (old new : Feeding) (before after : List ℕ) (given_before given_after : ℕ) (result : Result (Option Line) FeedFault) → Lines old new (draw (Some before) (Some after) given_before given_after) result
     → (gone : List ℕ) × Passes old new before after gone
 passes old new before after given_before given_after result lines =
     passes_seen old new before (old.pending ++ lines.0) after result (ap (λ l. old.pending ++ l) lines.1 ∙ sym (append_assoc old.pending lines.0 after)) lines.3.0

@@ -117,14 +117,26 @@ LinesAre old new seen left result = MatchResult result
     (λ answer. MatchOption answer (Moves old new seen left false) (λ line. Moves old new seen left true × IsLent new line))
     (Stops old new seen)
 
+-- what a source has left, where it tells it, and how many bytes it has given, before a call and after it
+pub record Draw : Type 0 where
+  pub left : Option (List ℕ)
+  pub after : Option (List ℕ)
+  pub given_before : ℕ
+  pub given_after : ℕ
+
+abbrev pub draw : Option (List ℕ) → Option (List ℕ) → ℕ → ℕ → Draw
+draw left after given_before given_after = record { left = left; after = after; given_before = given_before; given_after = given_after }
+
+abbrev pub drawn : {A : Type 0} → (A → Option (List ℕ)) → (A → ℕ) → A → A → Draw
+drawn left given old new = draw (left old) (left new) (given old) (given new)
+
 -- A call takes bytes off what the source has left, which has given as many more, and this holds of them.
-abbrev pub TakesMore : Option (List ℕ) → Option (List ℕ) → ℕ → ℕ → (List ℕ → Type 0) → Type 0
-TakesMore left after given_before given_after Holds = (more : List ℕ) × Consumes left after more × (given_after ≡ given_before + length more) × Holds more
+abbrev pub TakesMore : Draw → (List ℕ → Type 0) → Type 0
+TakesMore d Holds = (more : List ℕ) × Consumes d.left d.after more × (d.given_after ≡ d.given_before + length more) × Holds more
 
 -- A call that asks for the next line: what it has taken from the source, and what the feed is then.
-abbrev pub Lines : Feeding → Feeding → Option (List ℕ) → Option (List ℕ) → ℕ → ℕ → Result (Option Line) FeedFault → Type 0
-Lines old new left after given_before given_after result =
-    TakesMore left after given_before given_after (λ more. LinesAre old new (old.pending ++ more) after result × IsLong new)
+abbrev pub Lines : Feeding → Feeding → Draw → Result (Option Line) FeedFault → Type 0
+Lines old new d result = TakesMore d (λ more. LinesAre old new (old.pending ++ more) d.after result × IsLong new)
 
 -- A line that is lent is the first of all bytes that are left, which are those that are pending and those that the source has left behind them. A line too long is lent in its first
 -- 4,097 bytes, and a reader stops there. Behind any other the next lines are those of the bytes that are left then, and the next number is one more.

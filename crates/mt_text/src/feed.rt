@@ -3,7 +3,7 @@ ghost use Rattle.std.specs.Borrow.{sem};
 ghost use Rattle.std.specs.Io.KnownBytes.{IsAtEnd};
 ghost use Rattle.std.specs.Io.BufRead.{Rests};
 ghost use Rattle.mt_ports.specs.Causes.{Rose};
-ghost use Rattle.mt_text.specs.Feed.{Advances, Fills, IsLong, Lines, MovesPending, TakesMore, at_start, is_last, known_front, moved_on, taken, with_end};
+ghost use Rattle.mt_text.specs.Feed.{Advances, Fills, IsLong, Lines, MovesPending, TakesMore, at_start, drawn, is_last, known_front, moved_on, taken, with_end};
 ghost use Rattle.mt_text.specs.Text.{longest_input, longest_line};
 ghost use Rattle.mt_text.specs.contracts.feed.Feed.{the_row};
 ghost use Rattle.mt_text.specs.declared.fault.FeedFault.{FeedFault};
@@ -119,7 +119,7 @@ impl Feed {
     fn fill<S: Source>(&mut self, source: &mut S) -> Result<bool, FeedFault>
         requires fault { self.old.fault ≡ None }
         requires room { length self.old.pending ≤ longest_line }
-        ensures bytes { TakesMore (S.left source.old) (S.left source.new) (S.given source.old) (S.given source.new) (λ more. Fills self.old self.new more (S.left source.new) result) }
+        ensures bytes { TakesMore (drawn S.left S.given source.old source.new) (λ more. Fills self.old self.new more (S.left source.new) result) }
         ensures long { IsLong self.new }
         ensures failed { IsErrOf result FeedFault.ReadFault → Rose (S.faults source.old) (S.faults source.new) × (self.new.pending ≡ self.old.pending) }
         ensures stands { (IsErrOf result FeedFault.ReadFault → ⊥) → S.faults source.new ≡ S.faults source.old }
@@ -161,7 +161,7 @@ impl Feed {
     /// fault, and the source isn't asked.
     #[inline(always)]
     pub fn advance<S: Source>(&mut self, source: &mut S) -> Result<bool, FeedFault>
-        ensures bytes { TakesMore (S.left source.old) (S.left source.new) (S.given source.old) (S.given source.new) (λ more. Advances self.old self.new more (S.left source.new) result) }
+        ensures bytes { TakesMore (drawn S.left S.given source.old source.new) (λ more. Advances self.old self.new more (S.left source.new) result) }
         ensures long { IsLong self.new }
         ensures stays { (fault : FeedFault) → self.old.fault ≡ Some fault → (result ≡ Err fault) × (self.new ≡ self.old) × (source.new ≡ source.old) }
         ensures unasked { (front : ℕ × Bool) → known_front self.old.pending ≡ Some front → source.new ≡ source.old }
@@ -189,7 +189,7 @@ impl Feed {
     /// answers that fault, and the source isn't asked.
     #[inline(always)]
     pub fn line<S: Source>(&mut self, source: &mut S) -> Result<Option<Line<'_>>, FeedFault>
-        ensures* after_borrow { sem 𝓛 (Rests the_row self.entry (λ new. Lines self.old new (S.left source.old) (S.left source.new) (S.given source.old) (S.given source.new) result)) }
+        ensures* after_borrow { sem 𝓛 (Rests the_row self.entry (λ new. Lines self.old new (drawn S.left S.given source.old source.new) result)) }
         ensures stays { (fault : FeedFault) → self.old.fault ≡ Some fault → (result ≡ Err fault) × (source.new ≡ source.old) }
         ensures unasked { (front : ℕ × Bool) → known_front self.old.pending ≡ Some front → source.new ≡ source.old }
         ensures failed { IsErrOf result FeedFault.ReadFault → self.old.fault ≡ None → Rose (S.faults source.old) (S.faults source.new) }
@@ -204,7 +204,7 @@ impl Feed {
 
     /// Drops the pending bytes and all that the source has left.
     pub fn drain<S: Source>(&mut self, source: &mut S) -> Result<(), FeedFault>
-        ensures bytes { TakesMore (S.left source.old) (S.left source.new) (S.given source.old) (S.given source.new) (λ more. taken self.new ≡ taken self.old + length more) }
+        ensures bytes { TakesMore (drawn S.left S.given source.old source.new) (λ more. taken self.new ≡ taken self.old + length more) }
         ensures end { IfOk result (λ _. IsAtEnd (S.left source.new) × (self.new.pending ≡ []) × (self.new.fault ≡ None)) }
         ensures fault { IfErr result (λ fault. self.new.fault ≡ Some fault) }
         ensures long { IsLong self.new }

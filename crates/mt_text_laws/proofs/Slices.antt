@@ -4,7 +4,7 @@ use Rattle.std.specs.Prelude.{Result, Ok, Err}
 use Rattle.std.specs.Io.KnownBytes.{Consumes}
 use Rattle.std.proofs.Math.Seq.{drop-append_seam}
 use Rattle.std.proofs.lemmas.List.{length-append, length-take-le, take-append-drop}
-use Rattle.mt_text.specs.Feed.{Feeding, HasTaken, IsFront, IsLent, LendsSlice, LendsSlices, Lines, LinesAre, Moves, taken, with_end}
+use Rattle.mt_text.specs.Feed.{Feeding, HasTaken, IsFront, IsLent, LendsSlice, LendsSlices, Lines, LinesAre, Moves, draw, taken, with_end}
 use Rattle.mt_text.specs.Text.{StandInOrder, words_at}
 use Rattle.mt_text.specs.declared.fault.FeedFault.{FeedFault}
 use Rattle.mt_text.specs.declared.line.Line.{Line}
@@ -50,7 +50,7 @@ slices old new gone bytes more left (Ok None) has are = stays old new gone bytes
 slices old new gone bytes more left (Ok (Some line)) has are = moved_slice old new gone bytes more left line has are.0 are.1
 slices old new gone bytes more left (Err fault) has are = stays old new gone bytes more has are.0 are.1
 
-pub lends_slices : (old new : Feeding) (gone bytes : List ℕ) (before left : Option (List ℕ)) (given_before given_after : ℕ) (result : Result (Option Line) FeedFault) → HasTaken old gone bytes → Lines old new before left given_before given_after result
+pub lends_slices : (old new : Feeding) (gone bytes : List ℕ) (before left : Option (List ℕ)) (given_before given_after : ℕ) (result : Result (Option Line) FeedFault) → HasTaken old gone bytes → Lines old new (draw before left given_before given_after) result
     → (more : List ℕ) × Consumes before left more × (given_after ≡ given_before + length more) × LendsSlices new gone (bytes ++ more) result
 lends_slices old new gone bytes before left given_before given_after result has lines = (lines.0, lines.1, lines.2, slices old new gone bytes lines.0 left result has lines.3.0)
 

@@ -14,8 +14,8 @@ use Rattle.mt_machine.proofs.Rows.{due_row, is_row}
 use Rattle.mt_cpu.specs.Steps.{is_local}
 use Rattle.mt_rendezvous.specs.declared.view.Key.{Key}
 use Rattle.mt_rendezvous.specs.Station.{Meets, added_of, again_of, held, order_of, in_first, in_second}
-use Rattle.mt_rendezvous.specs.Plays.{Arrives, Cancels, IsPass, IsUndecided, IsWaiting, Passes, Releases, Sat, TellsAt, own_event}
-use Rattle.mt_rendezvous.specs.Laws.{ComesOf, EachStepFollows, Follows, HasPass, IsOneStep, OfStep, ShownIsFound, Station, loaded}
+use Rattle.mt_rendezvous.specs.Plays.{Arrives, Cancels, IsPass, IsUndecided, IsWaiting, Passes, Releases, Sat, TellsAt, TellsSecond, own_event}
+use Rattle.mt_rendezvous.specs.Laws.{ComesOf, EachStepFollows, Follows, HasPass, IsOneStep, OfStep, ShownIsFound, Station, loaded, seat_step}
 use Rattle.mt_rendezvous.proofs.Keeps.{total_small, weight_small}
 use Rattle.mt_rendezvous.proofs.Local.{due_alone}
 use Rattle.mt_rendezvous.proofs.Steps.{Arrival, Passing, Releasing, arrival, go_small, passing, releasing}
@@ -71,64 +71,64 @@ module _ (key : Key) (s : Station) (m : Meets key s) (id : ℕ) (me new : Sat) (
       let small = total_small again_of (λ g. weight_small (in_second g.added)) m.all in
       omega arith
 
-  of_load : (e : Option MachineEvent) → Follows key s (loaded s id new 0) m e → ComesOf 0 0 e → IsOneStep key s m id 0 0 new
+  of_load : (e : Option MachineEvent) → Follows key s (loaded s id new 0) m e → ComesOf 0 0 e → IsOneStep key s m (seat_step id 0 0 new)
   of_load e f comes = record { event = e; follows = subst (λ (n : ℕ). Follows key s (stepped s 0 n id new.1 new.0 keeps) m e) first_stays f; comes = comes }
 
-  of_second_load : (e : Option MachineEvent) → Follows key s (loaded s id new 1) m e → ComesOf 1 0 e → IsOneStep key s m id 1 0 new
+  of_second_load : (e : Option MachineEvent) → Follows key s (loaded s id new 1) m e → ComesOf 1 0 e → IsOneStep key s m (seat_step id 1 0 new)
   of_second_load e f comes = record { event = e; follows = subst (λ (n : ℕ). Follows key s (stepped s 1 n id new.1 new.0 keeps) m e) second_stays f; comes = comes }
 
-  by_load : IsPass me Once IsWaiting → Passes (step 0 0 0 0 none) me (slice_index s.words 0) new → IsOneStep key s m id 0 0 new
+  by_load : IsPass me Once IsWaiting → Passes (step 0 0 0 0 none) me (slice_index s.words 0) new → IsOneStep key s m (seat_step id 0 0 new)
   by_load p t = by_case (passing key s m id me.0 (held p.number p.cpu Once) at p.holds refl p.phase)
     where
       its : HasPass s id me (held p.number p.cpu Once)
       its = record { at = at; holds = p.holds }
 
-      by_case : Passing key s m id me.0 (held p.number p.cpu Once) → IsOneStep key s m id 0 0 new
+      by_case : Passing key s m id me.0 (held p.number p.cpu Once) → IsOneStep key s m (seat_step id 0 0 new)
       by_case (inl x) = of_load (Some (Steps p.number Leave)) ((pass_follows key s m id p.number p.cpu me new its p.phase t).1 x.0) (refl, refl)
       by_case (inr (inl x)) = of_load (Some (Steps p.number Pass)) ((pass_follows key s m id p.number p.cpu me new its p.phase t).0 x.0) (refl, refl)
       by_case (inr (inr x)) = of_load None ((pass_follows key s m id p.number p.cpu me new its p.phase t).2 x.0 x.1) tt
 
-  by_arrival : IsPass me Never (λ p. p ≡ Taken) → Arrives (step 0 0 1 0 none) me (slice_index s.words 0) new → IsOneStep key s m id 0 1 new
+  by_arrival : IsPass me Never (λ p. p ≡ Taken) → Arrives (step 0 0 1 0 none) me (slice_index s.words 0) new → IsOneStep key s m (seat_step id 0 1 new)
   by_arrival p t = by_case (arrival key s m id me.0 (held p.number p.cpu Never) at p.holds refl p.phase)
     where
       its : HasPass s id me (held p.number p.cpu Never)
       its = record { at = at; holds = p.holds }
 
-      by_case : Arrival key s m id me.0 (held p.number p.cpu Never) → IsOneStep key s m id 0 1 new
+      by_case : Arrival key s m id me.0 (held p.number p.cpu Never) → IsOneStep key s m (seat_step id 0 1 new)
       by_case (inl x) = record { event = None; follows = (arrive_follows key s m id p.number p.cpu me new its p.phase t).1 x.0; comes = tt }
       by_case (inr x) = record { event = Some (Steps p.number Arrive); follows = (arrive_follows key s m id p.number p.cpu me new its p.phase t).0 x.0; comes = (refl, refl) }
 
-  by_addition : (b : Bool) → me.0.root ≡ b → TellsAt 0 1 (step 0 0 1 0 none) me (slice_index s.words 0) new → IsOneStep key s m id 0 1 new
+  by_addition : (b : Bool) → me.0.root ≡ b → TellsAt 0 (step 0 0 1 0 none) me (slice_index s.words 0) new → IsOneStep key s m (seat_step id 0 1 new)
   by_addition true is t =
       let g = t.0 is in
       record { event = Some Goes; follows = go_follows key s m id me new (record { at = at; root = g.0.0; unsaid = g.0.1 }) g.1; comes = (refl, refl) }
   by_addition false is t = let g = t.1 is in by_arrival g.0 g.1
 
-  by_cancel : (a : ℕ) → a ≡ 4294967296 → IsUndecided me → Cancels (step 0 0 a 0 none) me (slice_index s.words 0) new → IsOneStep key s m id 0 a new
-  by_cancel a is u t = subst (λ (n : ℕ). IsOneStep key s m id 0 n new) (sym is) (record {
+  by_cancel : (a : ℕ) → a ≡ 4294967296 → IsUndecided me → Cancels (step 0 0 a 0 none) me (slice_index s.words 0) new → IsOneStep key s m (seat_step id 0 a new)
+  by_cancel a is u t = subst (λ (n : ℕ). IsOneStep key s m (seat_step id 0 n new)) (sym is) (record {
     event = Some CancelsUpdate;
     follows = cancel_follows key s m id me new (record { at = at; root = u.0; unsaid = u.1 }) (subst (λ (n : ℕ). Cancels (step 0 0 n 0 none) me (slice_index s.words 0) new) is t);
     comes = (refl, refl);
   })
 
-  by_second_load : IsPass me Twice (λ p. p ≡ Arrived2) → Releases (step 0 1 0 0 none) me (slice_index s.words 1) new → IsOneStep key s m id 1 0 new
+  by_second_load : IsPass me Twice (λ p. p ≡ Arrived2) → Releases (step 0 1 0 0 none) me (slice_index s.words 1) new → IsOneStep key s m (seat_step id 1 0 new)
   by_second_load p t = by_case (releasing key s m id me.0 (held p.number p.cpu Twice) at p.holds refl p.phase)
     where
       its : HasPass s id me (held p.number p.cpu Twice)
       its = record { at = at; holds = p.holds }
 
-      by_case : Releasing key s m id me.0 (held p.number p.cpu Twice) → IsOneStep key s m id 1 0 new
+      by_case : Releasing key s m id me.0 (held p.number p.cpu Twice) → IsOneStep key s m (seat_step id 1 0 new)
       by_case (inl x) = of_second_load (Some (Steps p.number Release)) ((release_follows key s m id p.number p.cpu me new its p.phase t).0 x.0) (refl, refl)
       by_case (inr x) = of_second_load None ((release_follows key s m id p.number p.cpu me new its p.phase t).1 x.0) tt
 
-  by_second_addition : TellsAt 1 1 (step 0 1 1 0 none) me (slice_index s.words 1) new → IsOneStep key s m id 1 1 new
+  by_second_addition : TellsAt 1 (step 0 1 1 0 none) me (slice_index s.words 1) new → IsOneStep key s m (seat_step id 1 1 new)
   by_second_addition t = let p = t.0 in record {
     event = Some (Steps p.number ArriveAgain);
     follows = arrive_again_follows key s m id p.number p.cpu me new (record { at = at; holds = p.holds }) p.phase t.1;
     comes = (refl, refl);
   }
 
-  by_store : (i n : ℕ) → TellsAt (suc (suc i)) n (step 0 (suc (suc i)) n 0 none) me n new → IsOneStep key s m id (suc (suc i)) n new
+  by_store : (i n : ℕ) → TellsAt (suc (suc i)) (step 0 (suc (suc i)) n 0 none) me n new → IsOneStep key s m (seat_step id (suc (suc i)) n new)
   by_store i n t =
       let p = t.0 in
       let e = own_event me.0.start p.cpu in
@@ -151,6 +151,6 @@ each_step_follows key s m id (suc (suc i)) n me new at t = by_store key s m id m
 pub shown_is_found : ShownIsFound
 shown_is_found i a found me new t = (
   (λ one none_added. (loaded_again (step 0 i a 0 none) me new found
-      (subst (λ (b : ℕ). TellsAt 1 b (step 0 i a 0 none) me found new) none_added (subst (λ (j : ℕ). TellsAt j a (step 0 i a 0 none) me found new) one t))).0),
-  (λ apart. (unshown (step 0 i a 0 none) me new found i a apart t).0),
+      (subst (λ (b : ℕ). TellsSecond b (step 0 i a 0 none) me found new) none_added (subst (λ (j : ℕ). TellsAt j (step 0 i a 0 none) me found new) one t))).0),
+  (λ apart. (unshown (step 0 i a 0 none) me new found i apart t).0),
 )

@@ -13,6 +13,7 @@ use Rattle.mt_rendezvous.specs.Station.{IsHeld, Sits, start_of, seating}
 use Rattle.mt_private.specs.declared.view.Resident.{Resident}
 use Rattle.mt_private.specs.declared.view.YardView.{YardView}
 use Rattle.mt_private.specs.Residents.{Yard, scene}
+use Rattle.mt_private.specs.YardPlays.{left_as}
 use Rattle.mt_thread_laws.specs.WorkedWay.{guest, left, lone_pass, lone_root, lone_yard, released, settled}
 use Rattle.mt_thread_laws.specs.WorkedYard.{alone}
 use Rattle.mt_private.specs.YardRule.{AreAt, HoldsStored, MeetsYard, as_view}
@@ -77,7 +78,7 @@ module _ (y : Resident) (number : y.held.number ≡ 0) (unstored : y.stored ≡ 
     cancels (suc zero) v at said = says (ap (λ (x : YardView). x.cancel) (some-injective its_pass v at) ∙ said)
     cancels (suc (suc j)) v at said = absurd (some-ne-none v (sym at))
 
-    meets : (first second : ℕ) → IsYard go first second y → MeetsYard key (lone_yard key go shown cancel y first second)
+    meets : (first second : ℕ) → IsYard go first second y → MeetsYard key (lone_yard key go (left_as y shown cancel) first second)
     meets first second made = record {
       all = y ∷ [];
       go = go;

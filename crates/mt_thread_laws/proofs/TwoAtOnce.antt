@@ -16,7 +16,7 @@ use Rattle.mt_rendezvous.specs.declared.view.Start.{Start}
 use Rattle.mt_rendezvous.specs.declared.view.Key.{Key}
 use Rattle.mt_rendezvous.specs.Station.{Meets, joined, start_of}
 use Rattle.mt_rendezvous.specs.Plays.{CanFollow, after_event}
-use Rattle.mt_rendezvous.specs.Laws.{ComesOf, IsOneStep, machine_of}
+use Rattle.mt_rendezvous.specs.Laws.{ComesOf, IsOneStep, machine_of, seat_step}
 use Rattle.mt_thread_laws.specs.WorkedLone.{back, both_written, cancelled, free, lone, lone_station, new, out, pass_of, restored, root_of, sits}
 use Rattle.mt_thread_laws.specs.WorkedStations.{zeros}
 use Rattle.mt_thread_laws.proofs.Lodged.{absent}
@@ -87,14 +87,14 @@ none_frees (Some (Steps k other)) enabled becomes comes = omega (arith, comes)
 none_frees (Some other) enabled becomes comes = comes
 
 module _ (key : Key) (is : start_of key ≡ lone) where
-  pub leaves_at_once : (m : Meets key (cancelled key)) → IsOneStep key (cancelled key) m 1 0 1 (sits (start_of key) out) → ⊥
+  pub leaves_at_once : (m : Meets key (cancelled key)) → IsOneStep key (cancelled key) m (seat_step 1 0 1 (sits (start_of key) out)) → ⊥
   leaves_at_once m w =
       let before = stands_as key is Cancelled None new (0x100000000 ∷ 0 ∷ 0 ∷ zeros) m refl in
       let after = stands_as key is Cancelled None out (0x100000001 ∷ 0 ∷ 0 ∷ zeros) w.follows.kept refl in
       none_leaves w.event (subst (λ (x : Machine). CanFollow x w.event) before w.follows.enabled)
       (sym after ∙ w.follows.becomes ∙ ap (λ (x : Machine). after_event x w.event) before) w.comes
 
-  pub frees_at_once : (m : Meets key (restored key)) → IsOneStep key (restored key) m 1 1 1 (sits (start_of key) free) → ⊥
+  pub frees_at_once : (m : Meets key (restored key)) → IsOneStep key (restored key) m (seat_step 1 1 1 (sits (start_of key) free)) → ⊥
   frees_at_once m w =
       let before = stands_as key is Given None back (2 ∷ 0 ∷ 8 ∷ both_written) m refl in
       let after = stands_as key is Given None free (2 ∷ 1 ∷ 8 ∷ both_written) w.follows.kept refl in

@@ -17,14 +17,14 @@ use Rattle.mt_rendezvous.specs.declared.view.Start.{Start}
 use Rattle.mt_rendezvous.specs.Calls.{SeatOf}
 use Rattle.mt_rendezvous.specs.Station.{held, start_of}
 use Rattle.mt_private.specs.declared.job.Job.{Job}
-use Rattle.mt_private.specs.declared.job.Told.{Told}
+use Rattle.mt_private.specs.declared.job.JobAnswers.{JobAnswers}
 use Rattle.mt_private.specs.declared.view.Resident.{Resident}
 use Rattle.mt_private.specs.declared.view.YardView.{YardView}
 use Rattle.mt_private.specs.Own.{own_memory}
 use Rattle.mt_private.specs.Residents.{Follows, Yard, pages_at, scene, move_of}
 use Rattle.mt_thread_laws.specs.WorkedYard.{alone, first_taken, lodger, lodging, no_counts}
-use Rattle.mt_private.specs.YardLaws.{IsOneEvent, IsOneStep, YardState}
-use Rattle.mt_private.specs.YardPlays.{Tells, YardSat}
+use Rattle.mt_private.specs.YardLaws.{IsOneEvent, IsOneStep, YardState, yard_step}
+use Rattle.mt_private.specs.YardPlays.{LeftAs, Tells, YardSat, left_as}
 use Rattle.mt_rendezvous.specs.declared.view.Added.TheVariants.{Once, Twice}
 use Rattle.mt_rendezvous.specs.declared.view.Added.{Added}
 use Rattle.mt_private.specs.YardRule.{MeetsYard, first_yard_view, with_one, with_decision, yard_both, yard_left, yard_right, yard_spent}
@@ -49,9 +49,19 @@ changed phase added = come (record (lodger 0x100) { file = bare_file 0x800; phas
 abbrev pub released : Resident
 released = come (record (lodger 0x100) { file = bare_file 0x800; era = 1 }) first_words Twice []
 
--- some system makes a yard of it with these counts, and on that the next follows by this event, with the next counts
-abbrev pub GoesOn : Go → ℕ → ℕ → Resident → Resident → Option MachineEvent → ℕ → ℕ → Type 0
-GoesOn go first second y w e first_then second_then = (s : System) × Yard alone (scene (y ∷ []) go s) first second × Follows alone (scene (y ∷ []) go s) (move_of 0 w e) first_then second_then
+-- a resident, and the two counts of its yard
+pub record Counted : Type 0 where
+  pub resident : Resident
+  pub first : ℕ
+  pub second : ℕ
+
+abbrev pub counted : Resident → ℕ → ℕ → Counted
+counted y first second = record { resident = y; first = first; second = second }
+
+-- some system makes a yard of the one, and on that the other follows by this event
+abbrev pub GoesOn : Go → Counted → Counted → Option MachineEvent → Type 0
+GoesOn go x w e =
+    (s : System) × Yard alone (scene (x.resident ∷ []) go s) x.first x.second × Follows alone (scene (x.resident ∷ []) go s) (move_of 0 w.resident e) w.first w.second
 
 -- the seat of its pass, which was shown this count and whether there is a cancel
 abbrev pub seat_shown : Option ℕ → Bool → Resident → YardSat
@@ -76,16 +86,16 @@ lone_root t go = record { root = true; held = []; go = go; shown = None; cancel 
 abbrev pub lone_pass : Start → Option ℕ → Bool → Resident → YardView
 lone_pass t shown cancel y = record { root = false; held = y ∷ []; go = Pending; shown = shown; cancel = cancel; start = t }
 
-abbrev pub lone_yard : Key → Go → Option ℕ → Bool → Resident → ℕ → ℕ → YardState
-lone_yard key go shown cancel y first second =
-    record { words = first ∷ second ∷ 0 ∷ []; homes = []; views = lone_root (start_of key) go ∷ lone_pass (start_of key) shown cancel y ∷ [] }
+abbrev pub lone_yard : Key → Go → LeftAs → ℕ → ℕ → YardState
+lone_yard key go l first second =
+    record { words = first ∷ second ∷ 0 ∷ []; homes = []; views = lone_root (start_of key) go ∷ lone_pass (start_of key) l.shown l.cancel l.resident ∷ [] }
 
 -- where the resident is released, and where it has left
 abbrev pub settled : Key → YardState
-settled key = lone_yard key Given (Some 1) false released 2 1
+settled key = lone_yard key Given (left_as released (Some 1) false) 2 1
 
 abbrev pub left : Key → YardState
-left key = lone_yard key Cancelled None true (guest Running Once) 0x100000001 0
+left key = lone_yard key Cancelled (left_as (guest Running Once) None true) 0x100000001 0
 
 -- one state meets the rule, and the next follows on it by this event
 abbrev pub Becomes : Key → YardState → YardState → Option MachineEvent → Type 0
@@ -93,7 +103,7 @@ Becomes key s later e = (m : MeetsYard key s) × IsOneEvent key s later m e
 
 -- one state meets the rule, and a load of the first count is a step of seat 1 there
 abbrev pub LoadsFirst : Key → YardState → Type 0
-LoadsFirst key s = (m : MeetsYard key s) × (new : YardSat) × IsOneStep key s m 1 (step 0 0 0 0 none) new
+LoadsFirst key s = (m : MeetsYard key s) × (new : YardSat) × IsOneStep key s m (yard_step 1 (step 0 0 0 0 none) new)
 
 -- a load of the first count is a step of its first guest, and shows it nothing of the second
 abbrev pub TakesUnshown : Key → Type 0
@@ -112,5 +122,5 @@ lone_host table = record { table = table; start = alone; its = table; me = last_
 abbrev pub IsEmptyJob : Job → Type 0
 IsEmptyJob job = (job.before.items ≡ []) × (job.after.items ≡ [])
 
-abbrev pub HasNoAnswers : Told → Type 0
+abbrev pub HasNoAnswers : JobAnswers → Type 0
 HasNoAnswers told = (told.before.items ≡ []) × (told.after.items ≡ [])

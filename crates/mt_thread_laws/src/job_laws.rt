@@ -17,7 +17,8 @@ pub fn own_accesses_run_alone()
     ensures { AccessesRunAlone }
 {}
 
-/// So is a step of an update that writes memory in these pages alone, and each step that writes none.
+/// A step of an update that writes no memory, or only in pages that its processor owns, is that of the processor's own
+/// system.
 pub fn own_steps_run_alone()
     ensures { StepsRunAlone }
 {}
@@ -27,14 +28,15 @@ pub fn own_accesses_commute()
     ensures { AccessesCommute }
 {}
 
-/// A whole update, with the takes in ascending order, is for each processor that of its own system, and the words of pages
-/// that none names stay.
+/// If no page is named by two processors, a whole update with the takes in ascending order is for each that of its own
+/// system. The words of pages that none names stay.
 pub fn whole_updates_run_alone()
     ensures { UpdatesRunAlone }
 {}
 
-/// Jobs around a whole update, one by one, are for each processor its job in its own system: the answers are those, its own
-/// system becomes what it becomes alone, and the words of pages that none names stay.
+/// If no page is named by two processors, jobs around a whole update, one by one, are for each its job in its own
+/// system. The answers are those, its own system becomes what it becomes alone, and the words of pages that none names
+/// stay.
 pub fn jobs_run_alone()
     ensures { JobsRunAlone }
 {}

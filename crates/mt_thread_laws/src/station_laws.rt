@@ -34,8 +34,8 @@ pub fn full_station_holds()
     ensures { HoldsWhereFull }
 {}
 
-/// Where a seat's one processor runs again, what its pass has added tells of the station: after one
-/// addition the update is cancelled and word 0 shows it, after both the go is given and word 1 shows all.
+/// If a seat's one processor runs again after one addition of its pass, the update is cancelled and word 0 shows it.
+/// After two the go is given and word 1 shows all.
 pub fn ended_seats_tell_of_the_station()
     ensures left { LeftWhereCancelled }
     ensures released { ReleasedWhereFull }

@@ -12,7 +12,7 @@ ghost use Rattle.mt_rendezvous.specs.declared.view.Key.{Key};
 ghost use Rattle.mt_rendezvous.specs.Station.{Begins, Meets, broadcast, first_view, start_of};
 ghost use Rattle.mt_rendezvous.specs.Plays.{with_go};
 ghost use Rattle.mt_rendezvous.specs.Laws.{ArriveAgainFollows, ArriveFollows, CancelFollows, GoFollows, JoinFollows, PassFollows, ReleaseFollows, SplitFollows, WorkFollows};
-ghost use Rattle.mt_rendezvous.specs.Laws.{BroadcastBegins, EachStepFollows, HoldsWhereFull, IsLedTo, IsOneStep, LeftWhereCancelled, ReleasedWhereFull, ShownIsFound, StandsForOne, machine_of, raised};
+ghost use Rattle.mt_rendezvous.specs.Laws.{BroadcastBegins, EachStepFollows, HoldsWhereFull, IsLedTo, IsOneStep, LeftWhereCancelled, ReleasedWhereFull, ShownIsFound, StandsForOne, machine_of, raised, seat_step};
 ghost use Rattle.mt_thread_laws.specs.WorkedLone.{Moves, arrived, arrived_again, cancelled, ended, fills_not, free, left, lone, out, pass_of, passed, restored, sits, taken, taken_back, waits};
 ghost use Rattle.mt_thread_laws.specs.WorkedStations.{at_start, bare, split_once, start};
 
@@ -41,7 +41,7 @@ pub fn worked_laws_of_the_change()
 /// The last step at the second barrier, as one of every step.
 pub fn worked_law_of_every_step()
     ensures released { EachStepFollows → (key : Key) → start_of key ≡ lone
-        → (m : Meets key (arrived_again key)) × IsOneStep key (arrived_again key) m 1 1 0 (bare (pass_of (start_of key) (Some 1) free)) }
+        → (m : Meets key (arrived_again key)) × IsOneStep key (arrived_again key) m (seat_step 1 1 0 (bare (pass_of (start_of key) (Some 1) free))) }
     ensures shown { ShownIsFound → (bare (pass_of lone (Some 1) free)).0.shown ≡ Some 1 }
 {}
 
@@ -49,9 +49,9 @@ pub fn worked_law_of_every_step()
 /// released by the addition to word 1.
 pub fn worked_steps_at_once()
     ensures cancelled { (key : Key) → start_of key ≡ lone → Meets key (cancelled key) }
-    ensures leaves { (key : Key) → start_of key ≡ lone → (m : Meets key (cancelled key)) → IsOneStep key (cancelled key) m 1 0 1 (sits (start_of key) out) → ⊥ }
+    ensures leaves { (key : Key) → start_of key ≡ lone → (m : Meets key (cancelled key)) → IsOneStep key (cancelled key) m (seat_step 1 0 1 (sits (start_of key) out)) → ⊥ }
     ensures restored { (key : Key) → start_of key ≡ lone → Meets key (restored key) }
-    ensures released { (key : Key) → start_of key ≡ lone → (m : Meets key (restored key)) → IsOneStep key (restored key) m 1 1 1 (sits (start_of key) free) → ⊥ }
+    ensures released { (key : Key) → start_of key ≡ lone → (m : Meets key (restored key)) → IsOneStep key (restored key) m (seat_step 1 1 1 (sits (start_of key) free)) → ⊥ }
 {}
 
 /// A station at its second barrier is led to and stands for one machine, which has the goal's registers and holds

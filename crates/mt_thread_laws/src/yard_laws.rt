@@ -47,7 +47,8 @@ pub fn each_yard_step_is_one_event()
     ensures join { JoinIsNone }
 {}
 
-/// A seat whose resident runs again, after one addition or both, tells which go its yard has, and what the count shows.
+/// If a seat's resident runs again after one addition, the update is cancelled. After two the go is given. The count
+/// shows it.
 pub fn runners_tell_of_the_yard()
     ensures left { LeftWhereCancelled }
     ensures released { ReleasedWhereFull }

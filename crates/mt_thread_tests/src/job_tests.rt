@@ -13,7 +13,7 @@ use mt_gates::{AllBut, InOrder, Meets, OneFirst};
 use mt_kinds::MemType;
 use mt_machine::{Done, Op};
 use mt_ports::{Gate, OpenGate};
-use mt_private::{Job, Part, PrivateFault, Told, run_private, shared_page};
+use mt_private::{Job, Part, PrivateFault, JobAnswers, run_private, shared_page};
 use mt_regs::{Fault, Reason};
 use std::alloc::Global;
 use std::sync::Wait;
@@ -86,7 +86,7 @@ fn on_threads<R: Threads + Wait + Sync, G: Gate>(
     kind: u64,
     jobs: Vec<Job>,
     gate: &G,
-) -> Option<Result<Vec<Told>, PrivateFault>> {
+) -> Option<Result<Vec<JobAnswers>, PrivateFault>> {
     let goal = file(kind)?;
     let is_one_each = jobs.len() == core.system().cpus().len();
     if !may_call(core, &goal) || !is_one_each || !all_fit(jobs.as_slice()) {
@@ -97,7 +97,7 @@ fn on_threads<R: Threads + Wait + Sync, G: Gate>(
 
 /// Whether this processor stored its word as WB before the update and loaded it as UC after it, and the word is
 /// in memory, the processor's era is 1 and it has no line.
-fn is_done(core: &Core, told: &[Told], k: u32) -> Option<bool> {
+fn is_done(core: &Core, told: &[JobAnswers], k: u32) -> Option<bool> {
     let v = 0x2a_u64.saturating_add(k as u64);
     let answers = told.get(k as usize)?;
     let cpu = core.system().cpus().get(k as usize)?;
@@ -112,7 +112,7 @@ fn is_done(core: &Core, told: &[Told], k: u32) -> Option<bool> {
 }
 
 /// Whether each of so many processors did its job.
-fn are_done(core: &Core, told: &[Told], count: u32) -> bool {
+fn are_done(core: &Core, told: &[JobAnswers], count: u32) -> bool {
     for k in 0..count {
         if is_done(core, told, k) != Some(true) {
             return false;
@@ -245,7 +245,7 @@ fn are_answered(core: &mut Core, k: u32, ops: &[Op], answers: &[Done]) -> bool {
 }
 
 /// Whether one part of all jobs, one job after the other, is answered so by the core's own calls.
-fn is_part_answered(core: &mut Core, jobs: &[Job], told: &[Told], part: Part) -> bool {
+fn is_part_answered(core: &mut Core, jobs: &[Job], told: &[JobAnswers], part: Part) -> bool {
     if jobs.len() != told.len() || jobs.len() > 16 {
         return false;
     }
@@ -287,7 +287,7 @@ fn has_buffers(core: &Core) -> bool {
 
 /// Whether the jobs and the update by the core's own calls are answered so. Memory is of this type before; where that is WC,
 /// buffers are left to the update.
-fn answers_alike(core: &mut Core, jobs: &[Job], told: &[Told], kind: u64) -> bool {
+fn answers_alike(core: &mut Core, jobs: &[Job], told: &[JobAnswers], kind: u64) -> bool {
     is_part_answered(core, jobs, told, Part::Before)
         && has_buffers(core) == (kind == 1)
         && update_alone(core, 4)

@@ -19,7 +19,7 @@ use mt_core::{Core, a_core_arises};
 use mt_gates::AllBut;
 use mt_kinds::MemType;
 use mt_machine::{Done, Phase};
-use mt_private::{Guest, Host, Job, Told, Visited, Yard, shared_page, visit};
+use mt_private::{Guest, Host, Job, JobAnswers, Visited, Yard, shared_page, visit};
 use mt_regs::RegFile;
 use std::alloc::Global;
 use std::snapshot::Snapshot;
@@ -78,7 +78,7 @@ fn runs(own: &System) -> bool
 struct Visit {
     guest: Guest,
     visited: Visited,
-    told: Told,
+    told: JobAnswers,
 }
 
 /// The visit of a guest as it was gathered.
@@ -89,7 +89,7 @@ fn visit_whole<R: Wait>(
     guest: Guest,
     goal: &RegFile,
     job: &Job,
-    mut told: Told,
+    mut told: JobAnswers,
     gate: &AllBut,
 ) -> Visit
     requires gathered { IsGatheredIn yard.now k guest }
@@ -129,7 +129,7 @@ fn start<'s, E, R: Threads + Wait + Sync>(
     guest: Guest,
     goal: &'s RegFile,
     job: &'s Job,
-    told: Told,
+    told: JobAnswers,
     gate: &'s AllBut,
 ) -> Option<PromisedHandle<Visit, Comes>>
     requires gathered { IsGatheredIn yard.now k guest }
@@ -175,7 +175,7 @@ fn say(yard: &Yard, host: &mut Host, given: bool)
 #[derive(Drop)]
 struct Came {
     visited: Visited,
-    told: Told,
+    told: JobAnswers,
     own: System,
 }
 
@@ -218,7 +218,7 @@ fn come_alone<R: Wait>(
     requires guests { AreGatheredIn yard.now waiting.old.items }
     requires goal { goal.now ≡ goal_at yard.now }
 {
-    let Ok(told) = Told::new(alloc, job) else {
+    let Ok(told) = JobAnswers::new(alloc, job) else {
         return None;
     };
     let guest = last(yard, waiting)?;
@@ -298,10 +298,10 @@ fn come_both<'s, E, R: Threads + Wait + Sync>(
 {
     let first_job = jobs.get(0)?;
     let other_job = jobs.get(1)?;
-    let Ok(told) = Told::new(alloc, first_job) else {
+    let Ok(told) = JobAnswers::new(alloc, first_job) else {
         return None;
     };
-    let Ok(answers) = Told::new(alloc, other_job) else {
+    let Ok(answers) = JobAnswers::new(alloc, other_job) else {
         return None;
     };
     let (k, guest) = next(yard, waiting, other_job)?;
@@ -364,12 +364,12 @@ fn is_left(own: &System, era: u64, lines: usize, address: u64, value: u64) -> bo
 }
 
 /// Whether the answers before the update are that one word was stored as WB.
-fn has_stored(told: &Told) -> bool {
+fn has_stored(told: &JobAnswers) -> bool {
     told.before.as_slice() == [Done::Stored(MemType::WB)].as_slice()
 }
 
 /// Whether those after it are one word, loaded as UC.
-fn has_loaded(told: &Told, value: u64) -> bool {
+fn has_loaded(told: &JobAnswers, value: u64) -> bool {
     told.after.as_slice() == [Done::Value(value, MemType::UC)].as_slice()
 }
 

@@ -30,12 +30,12 @@ pub fn a_granule_is_whole_where_its_pages_have_one_type()
         ↔ ((t : MemType) × ((page : ℕ) → page < m.count → page / 2 ^ g ≡ granule → m.free page ≡ false → m.kind page ≡ Kind t)) }
 {}
 
-/// Pages have one list of parts.
+/// Pages have at most one list of parts.
 pub fn a_file_has_one_list_of_parts()
     ensures { (m : TypedPages) (g : ℕ) (parts others : List Run) → ArePartsOf m g parts → ArePartsOf m g others → parts ≡ others }
 {}
 
-/// The least number of ranges that give the rounded types is one, and it is the number that is answered or asked for.
+/// The rounded types have at most one least number of ranges, and it is the number that is returned or asked for.
 pub fn each_size_has_one_least_number()
     ensures one { (f : RegisterFile) (g chunk a b : ℕ) → IsLeastRounded f g chunk a → IsLeastRounded f g chunk b → a ≡ b }
     ensures used { (f new : RegisterFile) (g chunk spare used lost : ℕ) (parts : List Run) → IsGrained f g chunk spare new used lost parts → IsLeastRounded f g chunk used }

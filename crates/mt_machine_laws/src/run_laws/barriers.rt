@@ -10,8 +10,8 @@ pub fn barriers_hold()
     ensures busy { (s t : Machine) → IsStart s → Reached s t → NoneActsInChange t }
 {}
 
-/// A barrier is open exactly where as many have arrived at it as are awaited; at the first the coordinator
-/// counts too, and has arrived where the go is given.
+/// A barrier is open if and only if as many have arrived at it as are awaited. At the first the coordinator counts too,
+/// and has arrived once the go is given.
 pub fn barriers_count()
     ensures { OpenWhereFull }
 {}

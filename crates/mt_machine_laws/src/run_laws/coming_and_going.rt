@@ -1,19 +1,19 @@
 ghost use Rattle.mt_laws.specs.ComingAndGoing.{GoneKeepsWords, GoneStaysFresh, GoneStaysQuiet, GoneStaysSound, OthersStand, ResetStaysFresh, ResetStaysQuiet, ResetStaysSound};
 
-/// A processor that comes up leaves what is sound or quiet as it is.
+/// When a processor comes up, a sound system stays sound, and a quiet machine quiet.
 pub fn newcomers_stay_quiet()
     ensures sound { ResetStaysSound }
     ensures quiet { ResetStaysQuiet }
 {}
 
-/// So does the last one where it goes.
+/// When the last processor goes, a sound system stays sound, and a quiet machine quiet.
 pub fn goers_stay_quiet()
     ensures sound { GoneStaysSound }
     ensures quiet { GoneStaysQuiet }
 {}
 
-/// Where the last processor goes each word keeps the value that it had once that one's buffers were emptied, and
-/// the others keep all but lines and buffers.
+/// When the last processor of a sound system goes, each word keeps the value that it had once that one's buffers were
+/// emptied. The others keep all but lines and buffers.
 pub fn goers_keep_words()
     ensures words { GoneKeepsWords }
     ensures others { OthersStand }

@@ -23,7 +23,7 @@ pub fn stays_sound()
     ensures { StaysSound }
 {}
 
-/// An access, a control instruction and a drain keep every sound system sound.
+/// An access, a control instruction that fits and a drain keep every sound system sound.
 pub fn accesses_keep_sound()
     ensures access { AccessKeepsSound }
     ensures control { ControlKeepsSound }

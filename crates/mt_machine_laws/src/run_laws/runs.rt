@@ -10,7 +10,7 @@ pub fn led_is_reached()
     ensures { LedIsReached }
 {}
 
-/// It is the state after a list of enabled events that are go, cancel and steps, and the other way round.
+/// What go, cancel and steps alone lead to is the state after a list of enabled ones, and the other way round.
 pub fn led_is_run()
     ensures { LedIsRun }
 {}

@@ -5,13 +5,13 @@ pub fn start_is_quiet()
     ensures { StartIsQuiet }
 {}
 
-/// So is one of which some processors are self-snooping. Without any it is the start.
+/// A start with some processors self-snooping is quiet. Without any it is the start of `start_is_quiet`.
 pub fn flagged_start_is_quiet()
     ensures quiet { FlaggedStartIsQuiet }
     ensures none { NoFlagIsTheStart }
 {}
 
-/// A processor that becomes self-snooping leaves what is sound or quiet as it is.
+/// When a processor becomes self-snooping, a sound system stays sound, and a quiet machine quiet.
 pub fn snooping_stays_quiet()
     ensures sound { SnoopingStaysSound }
     ensures quiet { SnoopingStaysQuiet }

@@ -15,7 +15,7 @@ pub fn takes_broadcast()
     ensures updated { UpdatedFromBroadcast }
 {}
 
-/// From a broadcast state an update that isn't cancelled ends in the state that is given outright.
+/// From a broadcast state, by go and steps alone: an update that ends results in the state that is given outright.
 pub fn broadcast_update()
     ensures { BroadcastUpdate }
 {}
@@ -31,12 +31,13 @@ pub fn led_to_second_barrier()
     ensures { LedToSecondBarrier }
 {}
 
-/// The event that ends an update whose go was given leads to that state.
+/// From a broadcast state, by go, cancel and steps alone: the event that ends an update whose go was given leads to the
+/// state that is given outright.
 pub fn led_update()
     ensures { LedUpdate }
 {}
 
-/// From a broadcast state a cancelled update changes nothing but the phases.
+/// From a broadcast state, by cancel and steps alone: an update that ends has changed only phases, and all run.
 pub fn cancelled_broadcast()
     ensures { CancelledBroadcast }
 {}
@@ -47,8 +48,8 @@ pub fn led_released()
     ensures { LedReleased }
 {}
 
-/// As long as the go isn't given nothing but phases changes, and the event that ends a cancelled update
-/// leaves all processors running.
+/// From a broadcast state, by go, cancel and steps alone: until the go is given only phases change. The event that ends
+/// a cancelled update results in all processors running.
 pub fn led_cancelled()
     ensures before { LedNotGiven }
     ensures end { LedCancelled }
@@ -60,15 +61,15 @@ pub fn led_ends()
     ensures { LedEnds }
 {}
 
-/// A whole cancelled update leaves what fences leave, in the order of the takes, and no processor
-/// takes twice in an update.
+/// A whole cancelled update without accesses or controls results in the state after fences of those that took, in their
+/// order. No processor takes twice in an update.
 pub fn cancelled_update()
     ensures fences { CancelledUpdate }
     ensures takes { TakesAtMostOnce }
 {}
 
-/// From its take to its release a processor does as many events as it has writable registers and dirty
-/// words, and 13 more, or 12 where it is self-snooping.
+/// From take to release a processor does an event for each writable register and each word dirty at its pass, and 13
+/// more. A self-snooping one does 12 in place of 13.
 pub fn count_of_steps()
     ensures { CountOfSteps }
 {}

@@ -34,7 +34,7 @@ use Rattle.mt_private.specs.OneByOne.{at_rest}
 use Rattle.mt_private.specs.Residents.{FitsYard, Follows, Opens, accessed_by, held_of, stepped_by, system_of, with_first, with_held, with_stored, yard_machine, scene, move_of}
 use Rattle.mt_private.specs.YardLaws.{IsOneEvent, Stores}
 use Rattle.mt_private.specs.YardRule.{MeetsYard, as_view, with_one}
-use Rattle.mt_private.specs.YardPlays.{AccessesYard, ArrivesAgainYard, ArrivesYard, IsCallable, IsOwnWord, OfOne, OfSeat, PassMoves, PassesYard, ReleasesYard, TakesYard, Tells, Turns, WorksYard, has_added}
+use Rattle.mt_private.specs.YardPlays.{AccessesYard, ArrivesAgainYard, ArrivesYard, IsCallable, IsOwnWord, OfOne, OfSeat, PassMoves, PassesYard, ReleasesYard, TakesYard, Tells, Turns, WorksYard, has_added, left_as}
 use Rattle.mt_private.proofs.Residents.Barriers.{arrives, arrives_again, leaves, not_taken, own_fits, passes, releases, unmoved}
 use Rattle.mt_private.proofs.Residents.Moves.{processor_at}
 use Rattle.mt_private.proofs.Residents.Paths.{uncalled_reached}
@@ -126,7 +126,7 @@ module _ (key : Key) where
     -- the resident moves, and what that tells
     turn : (i n : ℕ) (w : Resident) (shown : Option ℕ) (cancel : Bool) (e : Option MachineEvent) (x z : ℕ) → w.held.number ≡ y.held.number → Stores y i n w → (cancel ≡ true → m.go ≡ Cancelled)
         → (slice_index (set s.words i n) 0 ≡ x) × (slice_index (set s.words i n) 1 ≡ z) → Follows t (scene m.all m.go m.system) (move_of y.held.number w e) x z
-        → IsOneEvent key s (record { words = set s.words i n; homes = s.homes; views = set s.views id (with_one v w shown cancel) }) m e × Turns v (with_one v w shown cancel) y w shown cancel e
+        → IsOneEvent key s (record { words = set s.words i n; homes = s.homes; views = set s.views id (with_one v w shown cancel) }) m e × Turns v (with_one v w shown cancel) y (left_as w shown cancel) e
     turn i n w shown cancel e x z number stores told counts f = (
       placed key s m id v y at is i n w shown cancel e number stores told (subst (λ (c : ℕ × ℕ). Follows t (scene m.all m.go m.system) (move_of y.held.number w e) c.0 c.1) (λ j. (sym counts.0 j, sym counts.1 j)) f),
       (
@@ -190,19 +190,19 @@ module _ (key : Key) where
 
     -- it moves, by a step that leaves the counts
     by_load : (w : Resident) (cancel : Bool) (e : Option MachineEvent) → w.held.number ≡ k → w.stored ≡ y.stored → (cancel ≡ true → m.go ≡ Cancelled) → Goes w e n z
-        → Made 0 n (with_one me.0 w me.0.shown cancel) e × Turns me.0 (with_one me.0 w me.0.shown cancel) y w me.0.shown cancel e
+        → Made 0 n (with_one me.0 w me.0.shown cancel) e × Turns me.0 (with_one me.0 w me.0.shown cancel) y (left_as w me.0.shown cancel) e
     by_load w cancel e number stored told f = turn s m id me.0 at y is 0 n w me.0.shown cancel e n z number (inl (omega arith, stored)) told (at_first s m id me.0 at y is n) f
 
     -- a load of the first count by one that hasn't taken
     module _ (out : y.held.added ≡ Never) (runs : y.held.cpu.phase ≡ Running) where
-      pub no_take : m.go ≡ Cancelled → Made 0 n (with_one me.0 y me.0.shown true) None × OfOne me.0 (λ x. Turns me.0 (with_one me.0 y me.0.shown true) x x me.0.shown true None)
-      no_take c = let p = by_load y true None refl refl (λ _. c) idle in (p.0, one_of (λ x. Turns me.0 (with_one me.0 y me.0.shown true) x x me.0.shown true None) p.1)
+      pub no_take : m.go ≡ Cancelled → Made 0 n (with_one me.0 y me.0.shown true) None × OfOne me.0 (λ x. Turns me.0 (with_one me.0 y me.0.shown true) x (left_as x me.0.shown true) None)
+      no_take c = let p = by_load y true None refl refl (λ _. c) idle in (p.0, one_of (λ x. Turns me.0 (with_one me.0 y me.0.shown true) x (left_as x me.0.shown true) None) p.1)
 
       abbrev taken : YardView
       taken = with_one me.0 (stepped_by me.0.start Take y) me.0.shown me.0.cancel
 
       abbrev HasTaken : Resident → Type 0
-      HasTaken x = Turns me.0 taken x (stepped_by me.0.start Take x) me.0.shown me.0.cancel (Some (Steps x.held.number Take)) × IsCallable me.0.start x
+      HasTaken x = Turns me.0 taken x (left_as (stepped_by me.0.start Take x) me.0.shown me.0.cancel) (Some (Steps x.held.number Take)) × IsCallable me.0.start x
 
       pub take : m.go ≢ Cancelled → n < 4294967296 → Made 0 n taken (Some (Steps k Take)) × Opens me.0.start × OfOne me.0 HasTaken
       take apart low =
@@ -219,7 +219,7 @@ module _ (key : Key) where
       come = with_one me.0 (with_held y (arrive me.0.start y.held)) me.0.shown me.0.cancel
 
       abbrev HasCome : Resident → Type 0
-      HasCome x = Turns me.0 come x (with_held x (arrive me.0.start x.held)) me.0.shown me.0.cancel (Some (Steps x.held.number Arrive))
+      HasCome x = Turns me.0 come x (left_as (with_held x (arrive me.0.start x.held)) me.0.shown me.0.cancel) (Some (Steps x.held.number Arrive))
 
       pub add : n < 4294967296 → Made 0 (n + 1) come (Some (Steps k Arrive)) × OfOne me.0 HasCome
       add low =
@@ -232,7 +232,7 @@ module _ (key : Key) where
       late_view = with_one me.0 (with_held y (late y.held)) me.0.shown me.0.cancel
 
       abbrev IsLate : Resident → Type 0
-      IsLate x = Turns me.0 late_view x (with_held x (late x.held)) me.0.shown me.0.cancel None
+      IsLate x = Turns me.0 late_view x (left_as (with_held x (late x.held)) me.0.shown me.0.cancel) None
 
       pub add_late : 4294967296 ≤ n → Made 0 (n + 1) late_view None × OfOne me.0 IsLate
       add_late high =
@@ -246,7 +246,7 @@ module _ (key : Key) where
       gone = with_one me.0 (with_held y (does me.0.start Leave y.held)) me.0.shown true
 
       abbrev HasGone : Resident → Type 0
-      HasGone x = Turns me.0 gone x (with_held x (does me.0.start Leave x.held)) me.0.shown true (Some (Steps x.held.number Leave))
+      HasGone x = Turns me.0 gone x (left_as (with_held x (does me.0.start Leave x.held)) me.0.shown true) (Some (Steps x.held.number Leave))
 
       pub go_out : m.go ≡ Cancelled → 4294967296 ≤ n → Made 0 n gone (Some (Steps k Leave)) × OfOne me.0 HasGone
       go_out c high =
@@ -259,7 +259,7 @@ module _ (key : Key) where
       through = with_one me.0 (with_held y (does me.0.start Pass y.held)) me.0.shown me.0.cancel
 
       abbrev IsThrough : Resident → Type 0
-      IsThrough x = Turns me.0 through x (with_held x (does me.0.start Pass x.held)) me.0.shown me.0.cancel (Some (Steps x.held.number Pass)) × (x.held.cpu.phase ≡ Arrived)
+      IsThrough x = Turns me.0 through x (left_as (with_held x (does me.0.start Pass x.held)) me.0.shown me.0.cancel) (Some (Steps x.held.number Pass)) × (x.held.cpu.phase ≡ Arrived)
 
       pub pass : m.go ≢ Cancelled → n ≡ length me.0.start.cpus + 1 → Made 0 n through (Some (Steps k Pass)) × OfOne me.0 IsThrough
       pass apart full =
@@ -275,7 +275,7 @@ module _ (key : Key) where
     same_view = with_one me.0 y me.0.shown me.0.cancel
 
     abbrev IsIdle : Resident → Type 0
-    IsIdle x = Turns me.0 same_view x x me.0.shown me.0.cancel None
+    IsIdle x = Turns me.0 same_view x (left_as x me.0.shown me.0.cancel) None
 
     pub wait : Made 0 n same_view None × OfOne me.0 IsIdle
     wait = let p = by_load y me.0.cancel None refl refl (shown_before s m id me.0 at y is) idle in (p.0, one_of IsIdle p.1)
@@ -285,7 +285,7 @@ module _ (key : Key) where
     worked a = with_one me.0 (with_stored (stepped_by me.0.start (own_event me.0.start y.held.cpu) y) a) me.0.shown me.0.cancel
 
     abbrev HasWorked : ℕ → Resident → Type 0
-    HasWorked a x = Turns me.0 (worked a) x (with_stored (stepped_by me.0.start (own_event me.0.start x.held.cpu) x) a) me.0.shown me.0.cancel (Some (Steps x.held.number (own_event me.0.start x.held.cpu)))
+    HasWorked a x = Turns me.0 (worked a) x (left_as (with_stored (stepped_by me.0.start (own_event me.0.start x.held.cpu) x) a) me.0.shown me.0.cancel) (Some (Steps x.held.number (own_event me.0.start x.held.cpu)))
 
     pub work : (i a : ℕ) → i ≡ y.held.number + 2 → y.held.added ≡ Once → is_local y.held.cpu.phase ≡ true → Made i a (worked a) (Some (Steps k (own_event me.0.start y.held.cpu))) × OfOne me.0 (HasWorked a)
     work i a own on local =
@@ -300,7 +300,7 @@ module _ (key : Key) where
       used a = with_one me.0 (with_stored (accessed_by op y) a) me.0.shown me.0.cancel
 
       abbrev HasUsed : ℕ → Resident → Type 0
-      HasUsed a x = Turns me.0 (used a) x (with_stored (accessed_by op x) a) me.0.shown me.0.cancel (Some (Accesses x.held.number op))
+      HasUsed a x = Turns me.0 (used a) x (left_as (with_stored (accessed_by op x) a) me.0.shown me.0.cancel) (Some (Accesses x.held.number op))
 
       pub use_memory : (i a : ℕ) → i ≡ y.held.number + 2 → y.held.cpu.phase ≡ Running → FitsOp op → Made i a (used a) (Some (Accesses k op)) × OfOne me.0 (HasUsed a)
       use_memory i a own runs fits =
@@ -323,7 +323,7 @@ module _ (key : Key) where
     come_again = with_one me.0 (with_held y (arrive_again me.0.start y.held)) me.0.shown me.0.cancel
 
     abbrev HasComeAgain : Resident → Type 0
-    HasComeAgain x = Turns me.0 come_again x (with_held x (arrive_again me.0.start x.held)) me.0.shown me.0.cancel (Some (Steps x.held.number ArriveAgain))
+    HasComeAgain x = Turns me.0 come_again x (left_as (with_held x (arrive_again me.0.start x.held)) me.0.shown me.0.cancel) (Some (Steps x.held.number ArriveAgain))
 
     pub add_again : y.held.added ≡ Once → y.held.cpu.phase ≡ Restored → Made 1 (z + 1) come_again (Some (Steps k ArriveAgain)) × OfOne me.0 HasComeAgain
     add_again on restored =
@@ -336,7 +336,7 @@ module _ (key : Key) where
     released = with_one me.0 (with_held y (does me.0.start Release y.held)) (Some z) me.0.cancel
 
     abbrev IsReleased : Resident → Type 0
-    IsReleased x = Turns me.0 released x (with_held x (does me.0.start Release x.held)) (Some z) me.0.cancel (Some (Steps x.held.number Release))
+    IsReleased x = Turns me.0 released x (left_as (with_held x (does me.0.start Release x.held)) (Some z) me.0.cancel) (Some (Steps x.held.number Release))
 
     pub release : y.held.added ≡ Twice → y.held.cpu.phase ≡ Arrived2 → z ≡ length me.0.start.cpus → Made 1 z released (Some (Steps k Release)) × OfOne me.0 IsReleased
     release on waits full =
@@ -350,7 +350,7 @@ module _ (key : Key) where
     shown_view = with_one me.0 y (Some z) me.0.cancel
 
     abbrev IsShown : Resident → Type 0
-    IsShown x = Turns me.0 shown_view x x (Some z) me.0.cancel None
+    IsShown x = Turns me.0 shown_view x (left_as x (Some z) me.0.cancel) None
 
     pub wait_again : Made 1 z shown_view None × OfOne me.0 IsShown
     wait_again = let r = turn s m id me.0 at y is 1 z y (Some z) me.0.cancel None n z refl (inl (omega arith, refl)) (shown_before s m id me.0 at y is) (at_second s m id me.0 at y is z) idle in (r.0, one_of IsShown r.1)
@@ -440,7 +440,7 @@ module _ (key : Key) where
             (subst (λ (v : ℕ). Made id me y is s m at i v (used id me y is s m at op b) (Some (Accesses y.held.number op))) (becomes true e) p.0).kept,
             (
               refl,
-              (λ _ other said. subst (λ (o : Op). OfOne me.0 (λ x. Turns me.0 (used id me y is s m at op b) x (with_stored (accessed_by o x) b) me.0.shown me.0.cancel (Some (Accesses x.held.number o)))) (some-injective op other said) p.1),
+              (λ _ other said. subst (λ (o : Op). OfOne me.0 (λ x. Turns me.0 (used id me y is s m at op b) x (left_as (with_stored (accessed_by o x) b) me.0.shown me.0.cancel) (Some (Accesses x.held.number o)))) (some-injective op other said) p.1),
               (λ other. absurd (other found)),
               finds,
               is_own,

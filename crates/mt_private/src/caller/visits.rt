@@ -16,7 +16,7 @@ ghost use Rattle.mt_private.specs.YardCalls.{AreIn};
 
 use crate::caller::Caller;
 use crate::host::Yard;
-use crate::job::{Job, Told, op_at};
+use crate::job::{Job, JobAnswers, op_at};
 use crate::view::YardTurn;
 use crate::visiting::{Guest, Visited, YardPass};
 use mt_bus::System;
@@ -113,7 +113,7 @@ pub(super) fn visit_with<R: Wait, G: Gate>(
     core: &mut Core,
     goal: &RegFile,
     job: &Job,
-    told: &mut Told,
+    told: &mut JobAnswers,
 ) -> Visited
     requires ready { HasNotTaken yard.now pass.old core.old }
     requires new { done_of pass.old ≡ [] }
@@ -135,9 +135,9 @@ pub(super) fn visit_with<R: Wait, G: Gate>(
     }
 }
 
-/// Does the accesses of the job before the update, the processor's events of one update, and where that is done the
+/// Does the job's accesses before the update, the processor's events of one update, and, if that completes, the
 /// accesses after it. Others may wait meanwhile, or access pages of their own. It tells the gate once that its
-/// processor has arrived, where it has taken. It waits for the others, and for the host.
+/// processor has arrived, if it has taken. It waits for the others, and for the host.
 ///
 /// Complete comes only after a load of the second count that showed all processors, and Cancelled only after a load of
 /// the first count that showed the host's cancel; the pass's view then says so.
@@ -147,7 +147,7 @@ pub fn visit<R: Wait, G: Gate>(
     guest: Guest,
     goal: &RegFile,
     job: &Job,
-    told: &mut Told,
+    told: &mut JobAnswers,
     gate: &G,
 ) -> (Guest, Visited)
     requires lodges { LodgesIn yard.now guest.pass guest.own Never }

@@ -10,23 +10,10 @@ use crate::view::YardTurn;
 use crate::visiting::YardPass;
 use mt_core::Core;
 use mt_ports::Gate;
-use mt_rendezvous::{Heard, Started};
+use mt_rendezvous::{Heard, Pauses, Started};
 use std::sync::Wait;
+use std::thread;
 use std::thread::{Promise, Scope, Threads};
-use std::{hint, thread};
-
-// How often a wait pauses between two loads before it yields the processor.
-const SPINS: u32 = 64;
-
-// Pauses, or yields the processor if no pause is left before that. Returns how many are left.
-fn pause(spins: u32) -> u32 {
-    if spins == 0 {
-        thread::yield_now();
-        return SPINS;
-    }
-    hint::spin_loop();
-    spins - 1
-}
 
 // The runtime of a call. A loop without a measure needs one.
 #[derive(Drop)]
@@ -82,7 +69,7 @@ impl YardPass {
         ensures left { result ≡ false → (first : System) → HasArrived yard.now self.old core.old first → HasLeft yard.now self.new core.new first }
     {
         heard.spend();
-        let mut spins = SPINS;
+        let mut pauses = Pauses::new();
         for _ in caller.waiter.rt.forever() {
             let found = yard.table.shared.load::<YardTurn>(&mut self.seat, 0);
             if found >= CANCEL {
@@ -95,7 +82,7 @@ impl YardPass {
                 core.step(0);
                 return true;
             }
-            spins = pause(spins);
+            pauses.pause();
         }
         unreachable!()
     }
@@ -114,14 +101,14 @@ impl YardPass {
         ensures released { IsReleased yard.now self.new core.new }
         ensures whole { (first : System) → HasArrivedAgain yard.now self.old core.old first → core.new ≡ updated first (0 ∷ []) (goal_at yard.now) }
     {
-        let mut spins = SPINS;
+        let mut pauses = Pauses::new();
         for _ in caller.waiter.rt.forever() {
             let found = yard.table.shared.load::<YardTurn>(&mut self.seat, 1);
             if found == yard.count {
                 core.step(0);
                 return;
             }
-            spins = pause(spins);
+            pauses.pause();
         }
         unreachable!()
     }

@@ -6,27 +6,15 @@ ghost use Rattle.mt_rendezvous.specs.Plays.{Took};
 
 use crate::caller::Caller;
 use crate::crew::{Heard, Started};
+use crate::pauses::Pauses;
 use crate::station::{CANCEL, Pass, Root, Station};
 use crate::view::Turn;
 use mt_cpu::Cpu;
 use mt_machine::Event;
 use mt_ports::Gate;
 use std::sync::Wait;
+use std::thread;
 use std::thread::{Promise, Scope, Threads};
-use std::{hint, thread};
-
-// How often a wait pauses between two loads before it yields the processor.
-const SPINS: u32 = 64;
-
-// Pauses, or yields the processor if no pause is left before that. Returns how many are left.
-fn pause(spins: u32) -> u32 {
-    if spins == 0 {
-        thread::yield_now();
-        return SPINS;
-    }
-    hint::spin_loop();
-    spins - 1
-}
 
 // The runtime of a call. A loop without a measure needs one.
 #[derive(Drop)]
@@ -81,7 +69,7 @@ impl Pass {
         ensures number { self.new.number ≡ self.old.number }
     {
         heard.spend();
-        let mut spins = SPINS;
+        let mut pauses = Pauses::new();
         for _ in caller.waiter.rt.forever() {
             let found = station.table.shared.load::<Turn>(&mut self.seat, 0);
             if found >= CANCEL {
@@ -92,7 +80,7 @@ impl Pass {
                 cpu.shift(Event::Pass);
                 return true;
             }
-            spins = pause(spins);
+            pauses.pause();
         }
         unreachable!()
     }
@@ -109,7 +97,7 @@ impl Pass {
         ensures took { Took (start_at station.now) self.new.number Release cpu.old cpu.new }
         ensures number { self.new.number ≡ self.old.number }
     {
-        let mut spins = SPINS;
+        let mut pauses = Pauses::new();
         for _ in caller.waiter.rt.forever() {
             let found = station.table.shared.load::<Turn>(&mut self.seat, 1);
             self.shown = Some(found as u32);
@@ -117,7 +105,7 @@ impl Pass {
                 cpu.shift(Event::Release);
                 return;
             }
-            spins = pause(spins);
+            pauses.pause();
         }
         unreachable!()
     }

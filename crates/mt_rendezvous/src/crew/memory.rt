@@ -31,31 +31,18 @@ pub fn room<T>(alloc: Global, n: usize) -> Result<Vec<T>, Refusal>
     }
 }
 
-// Asks for the counts and the phases, which are 0, with room for the words of memory.
-fn zeros(alloc: Global, count: usize, ram: &Ram) -> Result<Vec<u64>, Refusal>
-    requires { count < 65536 }
-    ensures zeros { IfOk result (λ v. v.items ≡ replicate (count + 2) 0) }
-    ensures room { IfOk result (λ v. count + 2 + length ram.now.words ≤ vec_capacity v) }
-{
-    let Ok(mut words) = vec![in alloc; 0u64; count + 2] else {
-        return Err(Refusal { made: () });
-    };
-    match words.reserve(ram.words()) {
-        Ok(()) => Ok(words),
-        Err(_) => Err(Refusal { made: () }),
-    }
-}
-
-// The words at the start: the counts and the phases, and the words of memory.
+// The words at the start: the counts and the phases, which are 0, and the words of memory.
 fn opening_words(alloc: Global, count: usize, ram: &Ram) -> Result<Vec<u64>, Refusal>
     requires { count < 65536 }
     ensures { IfOk result (λ v. v.items ≡ opening_words count ram.now.words) }
 {
-    let mut words = zeros(alloc, count, ram)?;
-    for i in 0..ram.words() {
-        words.push_reserved(ram.word(i));
+    let Ok(mut words) = vec![in alloc; 0u64; count + 2] else {
+        return Err(Refusal { made: () });
+    };
+    match words.extend_from_slice(ram.as_slice()) {
+        Ok(()) => Ok(words),
+        Err(_) => Err(Refusal { made: () }),
     }
-    Ok(words)
 }
 
 // Asks for a table for these processors, all of which the root has.

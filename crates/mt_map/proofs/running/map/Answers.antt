@@ -1,6 +1,7 @@
 use Rattle.std.proofs.Common.{◌∙◌, ap, subst, sym, List, ℕ, Option, Some}
 use Rattle.mt_ports.specs.declared.status.Status.TheVariants.{Done}
 use Rattle.mt_output.specs.Written.{Writes}
+use Rattle.mt_output.specs.Ports.{change, held}
 use Rattle.mt_map.specs.declared.asked.Asked.{Asked}
 use Rattle.mt_map.specs.Map.{Maps}
 use Rattle.mt_map.proofs.Telling.{told_help, told_usage, told_version}
@@ -28,5 +29,5 @@ returns-in-Some-Picture-clause-maps g c bytes is =
     let left = g.S.Source.left c.draw_input.new.source in
     let old = g.K.Sink.taken c.args.sink.now in
     let new = g.K.Sink.taken c.draw_input.new.sink in
-    subst (λ (asked : Option Asked). Maps asked bytes left old new c.draw_input.result)
+    subst (λ (asked : Option Asked). Maps asked (held bytes left) (change old new) c.draw_input.result)
     (sym (c.in-Some-Picture.is ∙ ap Some (rw c.in-Some-Picture.is at c.in-Some-Picture.field-0-is))) (c.draw_input.ensures.maps bytes is)

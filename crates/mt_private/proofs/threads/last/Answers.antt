@@ -4,7 +4,7 @@ use Rattle.std.proofs.lemmas.Option.{get_or_from_slice_get, slice_get_within}
 use Rattle.mt_machine.specs.declared.phase.Phase.TheVariants.{Running}
 use Rattle.mt_machine.specs.System.{System}
 use Rattle.mt_machine.specs.Machine.{Machine}
-use Rattle.mt_private.specs.declared.job.Told.{Told}
+use Rattle.mt_private.specs.declared.job.JobAnswers.{JobAnswers}
 use Rattle.mt_private.specs.declared.gathering.Gathering.{Gathering}
 use Rattle.mt_private.specs.declared.visiting.Guest.{Guest}
 use Rattle.mt_private.specs.declared.visiting.Visited.TheVariants.{Cancelled}
@@ -28,15 +28,15 @@ returns-clause-some c =
     let front = c.pop.new.self.items in
     let g : Guest = c.in_ok-own.field-0 in
     let rooms = c.pop-2.new.self.items in
-    let answers : Told = c.in-Some.answers in
+    let answers : JobAnswers = c.in-Some.answers in
     let was = c.in_ok-own.ensures.items in
     let had = c.in-Some.ensures.items in
     let at = ap (λ (l : List Guest). slice_get l (length front)) was ∙ at_back front g in
     let one = c.requires.one_each in
     let n = ap (λ (l : List Guest). length l) was ∙ length-append front (g ∷ []) in
-    let m = ap (λ (l : List Told). length l) had ∙ length-append rooms (answers ∷ []) in
+    let m = ap (λ (l : List JobAnswers). length l) had ∙ length-append rooms (answers ∷ []) in
     let same : length front ≡ length rooms = omega arith in
-    let there = ap (λ (l : List Told). slice_get l (length front)) had ∙ ap (slice_get (rooms ++ answers ∷ [])) same ∙ at_back rooms answers in
+    let there = ap (λ (l : List JobAnswers). slice_get l (length front)) had ∙ ap (slice_get (rooms ++ answers ∷ [])) same ∙ at_back rooms answers in
     let system = ap (λ (x : Machine). x.system) c.core_of.ensures in
     let few = c.requires.few in
     let job = got gathering.jobs.items (length front) (omega arith) in
@@ -65,18 +65,18 @@ returns-clause-rest c =
     let front = c.pop.new.self.items in
     let g : Guest = c.in_ok-own.field-0 in
     let rooms = c.pop-2.new.self.items in
-    let answers : Told = c.in-Some.answers in
+    let answers : JobAnswers = c.in-Some.answers in
     let was = c.in_ok-own.ensures.items in
     let had = c.in-Some.ensures.items in
     let one = c.requires.one_each in
     let few = c.requires.few in
     let n = ap (λ (l : List Guest). length l) was ∙ length-append front (g ∷ []) in
-    let m = ap (λ (l : List Told). length l) had ∙ length-append rooms (answers ∷ []) in
+    let m = ap (λ (l : List JobAnswers). length l) had ∙ length-append rooms (answers ∷ []) in
     record {
       gathered = λ k h at. c.requires.gathered k h (ap (λ (l : List Guest). slice_get l k) was ∙ at_front front (g ∷ []) k h at);
       running = λ k h at. c.requires.running k h (ap (λ (l : List Guest). slice_get l k) was ∙ at_front front (g ∷ []) k h at);
       few = (omega arith);
       one_each = (omega arith);
       fits = c.requires.fits;
-      has_room = λ part k j x at_j at_x. c.requires.has_room part k j x at_j (ap (λ (l : List Told). slice_get l k) had ∙ at_front rooms (answers ∷ []) k x at_x);
+      has_room = λ part k j x at_j at_x. c.requires.has_room part k j x at_j (ap (λ (l : List JobAnswers). slice_get l k) had ∙ at_front rooms (answers ∷ []) k x at_x);
     }

@@ -64,7 +64,7 @@ returns-in-Err-clause-bytes g c = λ so_far was stands.
     subst (λ (q : Path). Takes (StandsAt c.args.cpus (run.Dump c.take_dump_line.new.dump)) (at_line number line so_far q) writer sink c.tell.result) (sym is)
     (ends c.args.cpus here (run.Dump c.take_dump_line.new.dump) writer sink (offence_line c.in-Err.offence) BadText c.tell.result
     (leads_as c.args.cpus here (proc_step c.args.cpus number line (in_dump before)) (of_head (offends c.in-Err.offence)) (ap of_head step) (leads_by c.args.cpus (in_dump before) number line so_far)) (λ is. cc is)
-    (subst (λ l. Adds c.args.writer.now l c.tell.new.writer (g.K.Sink.taken c.args.sink.now) (g.K.Sink.taken c.tell.new.sink) c.tell.result) text c.tell.ensures.bytes) c.tell.ensures.stop)
+    (subst (λ l. Adds l (change c.args.writer.now c.tell.new.writer) (port g.K.Sink.taken c.args.sink.now c.tell.new.sink) c.tell.result) text c.tell.ensures.bytes) c.tell.ensures.stop)
 
 pub returns-in-Requests-clause-bytes : goal.returns-in-Requests-clause-bytes
 returns-in-Requests-clause-bytes g c = λ so_far was stands.

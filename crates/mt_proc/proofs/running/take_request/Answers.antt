@@ -46,7 +46,7 @@ returns-in-Err-clause-bytes g c = λ cpus here each leads.
     let line : c.as_slice-in-Err.result.now ≡ request_fault_line c.in-Err.fault = c.as_slice-in-Err.ensures.value ∙ c.request_fault_line.ensures in
     ends cpus here (run.Requests c.args.processors.now) (change c.args.writer.now c.tell.new.writer) (port g.K.Sink.taken c.args.sink.now c.tell.new.sink) (request_fault_line c.in-Err.fault) BadText c.tell.result
     (leads_as cpus here (of_request now (request_of c.args.line.now.number c.args.line.now.bytes.now)) (of_request now (Err c.in-Err.fault)) (ap (of_request now) (sym c.in-Err.ensures.answer)) leads) (λ is. cc is)
-    (subst (λ l. Adds c.args.writer.now l c.tell.new.writer (g.K.Sink.taken c.args.sink.now) (g.K.Sink.taken c.tell.new.sink) c.tell.result) line c.tell.ensures.bytes) c.tell.ensures.stop
+    (subst (λ l. Adds l (change c.args.writer.now c.tell.new.writer) (port g.K.Sink.taken c.args.sink.now c.tell.new.sink) c.tell.result) line c.tell.ensures.bytes) c.tell.ensures.stop
 
 pub returns-in-Err-clause-asks : goal.returns-in-Err-clause-asks
 returns-in-Err-clause-asks g c = λ wants. let e : NoMemory ≡ BadText = c.tell.ensures.answer NoMemory wants in cc e

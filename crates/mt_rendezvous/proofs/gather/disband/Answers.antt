@@ -5,21 +5,6 @@ use Rattle.mt_rendezvous.specs.Station.{first_memory_word, start_of}
 use Rattle.mt_rendezvous.proofs.Handed.{drop_elem, ends, same_words, taken_more, words_back}
 use Rattle.mt_rendezvous.proofs.gather.disband.Goals as goal
 
-pub loop-i-preserved : goal.loop-i-preserved
-loop-i-preserved c =
-    let i : ℕ = c.loop-i.i in
-    let inv = c.loop-i.invariant in
-    let len = inv.len in
-    let end = c.words-i-end.ensures.count in
-    let test = c.loop-i-test.true in
-    let below : i < length c.loop-i.ram.words = omega arith in
-    record {
-      windows = ap (λ (m : Memory). m.windows) c.put.ensures ∙ inv.windows;
-      len = ap (λ (m : Memory). length m.words) c.put.ensures ∙ length-set c.loop-i.ram.words i c.word.result ∙ inv.len;
-      done = ap (λ (m : Memory). take (i + 1) m.words) c.put.ensures
-          ∙ taken_more c.loop-i.ram.words (drop (c.args.station.count + 2) (slots_items c.close_with-closed.result.words)) i c.word.result below inv.done (drop_elem (slots_items c.close_with-closed.result.words) (c.args.station.count + 2) i ∙ c.word.ensures);
-    }
-
 pub returns : goal.returns
 returns c =
     let key = c.args.station.table.shared.key in

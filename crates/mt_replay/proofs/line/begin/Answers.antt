@@ -29,7 +29,7 @@ returns-in-Some-clause-bytes g c = λ number.
     c.as_slice.ensures.value ∙ c.dump_refused_line-line.ensures ∙ ap (λ (d : Dump). dump_refused_line d.version c.in-Some.k c.in-Some.fault) c.dump.view_is in
     takes_last (StandsAt c.args.run.now) (dump_at c.args.setup c.args.dump number) (dump_refused_line c.args.dump.version c.in-Some.k c.in-Some.fault) (change c.args.writer.now c.tell.new.writer)
     (port g.K.Sink.taken c.args.sink.now c.tell.new.sink) Refused c.tell.result (dump_refused c.args.setup c.args.dump number (c.in-Some.k, c.in-Some.fault) refused) (λ is. cc is)
-    (subst (λ (l : List ℕ). Adds c.args.writer.now l c.tell.new.writer (g.K.Sink.taken c.args.sink.now) (g.K.Sink.taken c.tell.new.sink) c.tell.result) line c.tell.ensures.bytes) c.tell.ensures.stop
+    (subst (λ (l : List ℕ). Adds l (change c.args.writer.now c.tell.new.writer) (port g.K.Sink.taken c.args.sink.now c.tell.new.sink) c.tell.result) line c.tell.ensures.bytes) c.tell.ensures.stop
 
 pub returns-in-Ok-write-clause-bytes : goal.returns-in-Ok-write-clause-bytes
 returns-in-Ok-write-clause-bytes g c = λ number.

@@ -4,7 +4,7 @@ use mathlib.Core.Option.{some}
 use Rattle.atomic_table.specs.Seated.{TableId}
 use Rattle.mt_machine.specs.System.{System}
 use Rattle.mt_private.specs.declared.job.Job.{Job}
-use Rattle.mt_private.specs.declared.job.Told.{Told}
+use Rattle.mt_private.specs.declared.job.JobAnswers.{JobAnswers}
 use Rattle.mt_private.specs.declared.view.Resident.{Resident}
 use Rattle.mt_private.specs.declared.visiting.Visited.TheVariants.{Complete}
 use Rattle.mt_private.specs.Left.{AreOwnsOf, Leaves}
@@ -24,7 +24,7 @@ kept = Some (own_of released) ∷ []
 updated : own_of released ≡ (ran 0 [] (updated_own alone.goal (ran 0 [] (own_at alone 0)).after)).after
 updated = refl
 
-ends : (table : TableId) (job : Job) (told : Told) → IsEmptyJob job → HasNoAnswers told
+ends : (table : TableId) (job : Job) (told : JobAnswers) → IsEmptyJob job → HasNoAnswers told
     → VisitEnds Complete (pass_to (lone_host table) 0 table (seat_shown (Some 1) false released)) (stay_at alone 0 job (own_of released) told)
 ends table job told is none = (
   record { cpu = released.held.cpu; same = refl; alone = refl; holds = refl; told = refl; below = omega arith; bare = refl },
@@ -39,7 +39,7 @@ abbrev first_of : List Resident → Resident
 first_of [] = released
 first_of (y ∷ ys) = y
 
-came : (table : TableId) (job : Job) (told : Told) → IsEmptyJob job → HasNoAnswers told → CameBack (lone_host table) job 0 kept told
+came : (table : TableId) (job : Job) (told : JobAnswers) → IsEmptyJob job → HasNoAnswers told → CameBack (lone_host table) job 0 kept told
 came table job told is none = record {
   visited = Complete;
   own = own_of released;
@@ -53,17 +53,17 @@ came table job told is none = record {
   shown = λ e. absurd (cc e);
 }
 
-each : (table : TableId) (job : Job) (told : Told) → IsEmptyJob job → HasNoAnswers told → (k : ℕ) (j : Job) (r : Told) → slice_get (job ∷ []) k ≡ Some j → slice_get (told ∷ []) k ≡ Some r
+each : (table : TableId) (job : Job) (told : JobAnswers) → IsEmptyJob job → HasNoAnswers told → (k : ℕ) (j : Job) (r : JobAnswers) → slice_get (job ∷ []) k ≡ Some j → slice_get (told ∷ []) k ≡ Some r
     → CameBack (lone_host table) j k kept r
 each table job told is none zero j r at there =
-    subst (λ (x : Job × Told). CameBack (lone_host table) x.0 0 kept x.1) (let a : job ≡ j = cc at in let b : told ≡ r = cc there in λ i. (a i, b i)) (came table job told is none)
+    subst (λ (x : Job × JobAnswers). CameBack (lone_host table) x.0 0 kept x.1) (let a : job ≡ j = cc at in let b : told ≡ r = cc there in λ i. (a i, b i)) (came table job told is none)
 each table job told is none (suc k) j r at there = absurd (cc at)
 
 keeps : Keeps last_seat.0 kept
 keeps zero o at = let same : own_of released ≡ o = cc at in (0, released, refl, refl, same)
 keeps (suc k) o at = absurd (cc at)
 
-returned : (table : TableId) (job : Job) (told : Told) → IsEmptyJob job → HasNoAnswers told → Returned (lone_host table) (job ∷ []) kept (told ∷ [])
+returned : (table : TableId) (job : Job) (told : JobAnswers) → IsEmptyJob job → HasNoAnswers told → Returned (lone_host table) (job ∷ []) kept (told ∷ [])
 returned table job told is none = record { root = (refl, refl, refl); size = refl; keeps = keeps; each = each table job told is none }
 
 leaves : Leaves alone last_seat.0 released_yard.0

@@ -101,13 +101,13 @@ invariant_of-self-clause-told c =
     let i : ℕ = c.args.station.now.count + 2 + c.in-Some-place.i in
     let n : ℕ = c.in-Some.value in
     c.args.self.now.told
-    ∙ sym (unshown (step c.args.station.now.table.shared.table_id.slots i n 0 none) c.args.self.now.seat.me c.store.new.seat.me n i n (inl (λ (e : i ≡ 1). omega arith)) c.store.ensures.2).0
+    ∙ sym (unshown (step c.args.station.now.table.shared.table_id.slots i n 0 none) c.args.self.now.seat.me c.store.new.seat.me n i (inl (λ (e : i ≡ 1). omega arith)) c.store.ensures.2).0
 
 pub invariant_of-self-clause-no_root : goal.invariant_of-self-clause-no_root
 invariant_of-self-clause-no_root c =
     let i : ℕ = c.args.station.now.count + 2 + c.in-Some-place.i in
     let n : ℕ = c.in-Some.value in
-    (unshown (step c.args.station.now.table.shared.table_id.slots i n 0 none) c.args.self.now.seat.me c.store.new.seat.me n i n (inl (λ (e : i ≡ 1). omega arith)) c.store.ensures.2).1
+    (unshown (step c.args.station.now.table.shared.table_id.slots i n 0 none) c.args.self.now.seat.me c.store.new.seat.me n i (inl (λ (e : i ≡ 1). omega arith)) c.store.ensures.2).1
     ∙ c.args.self.now.no_root
 
 -- the processor is between the barriers afterwards too
@@ -124,8 +124,8 @@ returns-in-Some-place-clause-passed c =
     let st = step c.args.station.now.table.shared.table_id.slots i n 0 none in
     let is = worked t c.args.goal.now l.result c.args.cpu.now l.new.self c.requires.goal l.ensures.event l.ensures.step in record {
       begins = c.requires.passed.begins;
-      carries = carries_on c.requires.passed.carries c.store.new.seat.me l.new.self i n n st (omega arith) e.2 is _ e.0;
-      stands = stands_on c.requires.passed.carries c.store.new.seat.me l.new.self i n n st (omega arith) e.2 is;
+      carries = carries_on c.requires.passed.carries c.store.new.seat.me l.new.self i n st (omega arith) e.2 is _ e.0;
+      stands = stands_on c.requires.passed.carries c.store.new.seat.me l.new.self i n st (omega arith) e.2 is;
       between = stays t c.args.goal.now l.result c.args.cpu.now l.new.self c.requires.local l.ensures.event l.ensures.step;
     }
 
@@ -139,8 +139,8 @@ returns-in-None-clause-passed c =
     let st = step c.args.station.now.table.shared.table_id.slots i n 0 none in
     let is = worked t c.args.goal.now l.result c.args.cpu.now l.new.self c.requires.goal l.ensures.event l.ensures.step in record {
       begins = c.requires.passed.begins;
-      carries = carries_on c.requires.passed.carries c.store-in-None.new.seat.me l.new.self i n n st (omega arith) e.2 is _ e.0;
-      stands = stands_on c.requires.passed.carries c.store-in-None.new.seat.me l.new.self i n n st (omega arith) e.2 is;
+      carries = carries_on c.requires.passed.carries c.store-in-None.new.seat.me l.new.self i n st (omega arith) e.2 is _ e.0;
+      stands = stands_on c.requires.passed.carries c.store-in-None.new.seat.me l.new.self i n st (omega arith) e.2 is;
       between = stays t c.args.goal.now l.result c.args.cpu.now l.new.self c.requires.local l.ensures.event l.ensures.step;
     }
 
