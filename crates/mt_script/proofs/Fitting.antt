@@ -1,6 +1,6 @@
 -- Each command that a line is read as fits the situation.
-use Rattle.std.proofs.Common.{◌≡◌, ℕ, ◌≤◌, ◌<◌, ◌%◌, ◌^◌, ◌==◌, ◌&&◌, nat_le, nat_eq, nat_lt, Bool, true, false, List, length, Option, Some, None, Result, Ok, Err, refl, sym, ap, ◌∙◌}
-use Rattle.std.specs.Prelude.{if◌then◌else◌, codes, IfSome}
+use Rattle.std.proofs.Common.{◌≡◌, ℕ, ◌≤◌, ◌<◌, ◌%◌, ◌^◌, ◌==◌, ◌&&◌, nat_le, nat_eq, nat_lt, Bool, true, false, List, length, Option, Some, None, Result, Ok, Err, refl, subst, sym, ap, ◌∙◌}
+use Rattle.std.specs.Prelude.{if◌then◌else◌, IfSome}
 use Rattle.std.specs.Option.{option_map_or}
 use Rattle.std.specs.Set.{is_member}
 use Rattle.std.specs.Result.{IfOk}
@@ -12,13 +12,12 @@ use Rattle.mt_text.specs.declared.fault.NumberFault.TheVariants.{NotDigit, TooLa
 use Rattle.mt_text.specs.declared.place.Place.{Place}
 use Rattle.mt_script.specs.Situation.{Situation, file_of, most_processors}
 use Rattle.mt_script.specs.Words.{text_of, place_of}
-use Rattle.mt_script.specs.Numbers.{fault_at, tested, limited, with, any, count_in, processor_in, value_in, aligned_in, physical_in, register_in, base_in, has_room, is_register, is_writable, address_limit}
-use Rattle.mt_dump.specs.Line.{is_word}
+use Rattle.mt_script.specs.Numbers.{fault_at, tested, limited, with, any, count_in, processor_in, value_in, aligned_in, register_in, base_in, has_room, is_register, is_writable, address_limit}
 use Rattle.mt_script.specs.Rows.{row_of}
 use Rattle.mt_script.specs.Stages.{stands, takes_cpus, takes_windows, takes_commands, takes_registers, takes_end, is_in_dump}
 use Rattle.mt_script.specs.Shape.{shape_fault}
-use Rattle.mt_script.specs.Commands.{Answer, verb_answer, row_line, outside, register_line, is_end, in_section, ends_dump, not_too_long, in_stage, command_of}
-use Rattle.mt_script.specs.Accept.{Fits, IsAligned, IsFor}
+use Rattle.mt_script.specs.Commands.{Answer, ask_in, verb_answer, row_line, outside, register_line, is_end, in_section, ends_dump, not_too_long, in_stage, command_of}
+use Rattle.mt_script.specs.Accept.{Fits, FitsAsk, IsAligned}
 use Rattle.mt_dump.proofs.OneLine.{decimal_within}
 use Rattle.mt_script.proofs.Table.{row_all}
 use Rattle.mt_script.proofs.Values.{value_fact}
@@ -26,14 +25,18 @@ use Rattle.mt_script.specs.declared.command.Stage.{Stage}
 use Rattle.mt_script.specs.declared.command.Stage.TheVariants.{NeedCpus, NeedDump, InDump, Rams, Commands, InUpdate, InBegin}
 use Rattle.mt_script.specs.declared.command.Command.{Command}
 use Rattle.mt_script.specs.declared.command.Command.TheVariants as command
+use Rattle.mt_script.specs.declared.command.Ask.{Ask}
+use Rattle.mt_script.specs.declared.command.Section.TheVariants.{End}
 use Rattle.mt_script.specs.declared.row.Row.{Row}
 use Rattle.mt_script.specs.declared.row.Verb.TheVariants as verb
+use Rattle.mt_script.specs.declared.row.AskVerb.{AskVerb}
+use Rattle.mt_script.specs.declared.row.AskVerb.TheVariants as ask_verb
 use Rattle.mt_script.specs.declared.fault.ScriptReason.{ScriptReason}
 use Rattle.mt_script.specs.declared.fault.ScriptReason.TheVariants.{OutOfRange, NotNow}
 use Rattle.mt_script.specs.declared.fault.ScriptFault.{ScriptFault}
 
--- what holds after each good number holds of the answer
-pub fits_with : (P : Command → Type 0) (number : Result ℕ ScriptFault) (next : ℕ → Answer) → ((n : ℕ) → number ≡ Ok n → IfOk (next n) P) → IfOk (with number next) P
+-- what holds after each good value holds of the answer
+pub fits_with : {A B : Type 0} (P : B → Type 0) (value : Result A ScriptFault) (next : A → Result B ScriptFault) → ((a : A) → value ≡ Ok a → IfOk (next a) P) → IfOk (with value next) P
 fits_with P (Err fault) next all = tt
 fits_with P (Ok n) next all = all n refl
 
@@ -76,76 +79,61 @@ module _ (now : Situation) (line : ℕ) (words : List (ℕ × List ℕ)) where
       (λ k is. all k (ltb-true k (most_processors now)
       (tested_fact (limited (place_of line words 1) (decimal_number (text_of words 1) 0xffffffffffffffff)) OutOfRange (place_of line words 1) (λ k. nat_lt k (most_processors now)) k is).1))
 
-  for_aligned : (i step limit : ℕ) (next : ℕ → Answer) → ((n : ℕ) → IsAligned step limit n → IfOk (next n) (Fits now)) → IfOk (with (aligned_in line words i step limit) next) (Fits now)
-  for_aligned i step limit next all = fits_with (Fits now) (aligned_in line words i step limit) next
+  for_aligned : {B : Type 0} (P : B → Type 0) (i step limit : ℕ) (next : ℕ → Result B ScriptFault) → ((n : ℕ) → IsAligned step limit n → IfOk (next n) P) → IfOk (with (aligned_in line words i step limit) next) P
+  for_aligned P i step limit next all = fits_with P (aligned_in line words i step limit) next
       (λ n is. all n (aligned_fact line words i step limit n is))
 
-  for_count : (i first last : ℕ) (next : ℕ → Answer) → ((n : ℕ) → (first ≤ n) × (n ≤ last) → IfOk (next n) (Fits now)) → IfOk (with (count_in line words i first last) next) (Fits now)
-  for_count i first last next all = fits_with (Fits now) (count_in line words i first last) next
+  for_count : {B : Type 0} (P : B → Type 0) (i first last : ℕ) (next : ℕ → Result B ScriptFault) → ((n : ℕ) → (first ≤ n) × (n ≤ last) → IfOk (next n) P) → IfOk (with (count_in line words i first last) next) P
+  for_count P i first last next all = fits_with P (count_in line words i first last) next
       (λ n is. all n (count_fact line words i first last n is))
 
   cpus_fits : takes_cpus now.stage ≡ true → IfOk (verb_answer now line words verb.Cpus) (Fits now)
-  cpus_fits stage = for_count 1 1 16 (λ n. Ok (command.Cpus n)) (λ n range. (stage, range.0, range.1))
+  cpus_fits stage = for_count (Fits now) 1 1 16 (λ n. Ok (command.Cpus n)) (λ n range. (stage, range.0, range.1))
 
   ram_fits : takes_windows now.stage ≡ true → IfOk (verb_answer now line words verb.Ram) (Fits now)
   ram_fits stage = fits_with (Fits now) (base_in line words 1) _ (λ base is_base.
-      for_count 2 1 4096 _ (λ lines range.
+      for_count (Fits now) 2 1 4096 _ (λ lines range.
       fits_if (Fits now) (has_room now base lines) (Ok (command.Ram base lines)) (Err (fault_at OutOfRange (place_of line words 2)))
       (λ room. (stage, eqb-true (base % 64) 0 (tested_fact (value_in line words 1) OutOfRange (place_of line words 1) (λ base. base % 64 == 0) base is_base).1, range.0, range.1, room))
       (λ miss. tt)))
 
-  load_fits : takes_commands now.stage ≡ true → IfOk (verb_answer now line words verb.Load) (Fits now)
-  load_fits stage = for_processor _ (λ k known. for_aligned 2 8 (2 ^ 48) _ (λ address good. ((stage, known), good)))
+  ask_fits : (asked : AskVerb) → IfOk (ask_in now line words asked) (FitsAsk now)
+  ask_fits ask_verb.Load = for_aligned (FitsAsk now) 2 8 (2 ^ 48) _ (λ address good. good)
+  ask_fits ask_verb.Store = for_aligned (FitsAsk now) 2 8 (2 ^ 48) _ (λ address good.
+      fits_with (FitsAsk now) (value_in line words 3) _ (λ value is. (good, value_fact line words 3 value is)))
+  ask_fits ask_verb.Fence = tt
+  ask_fits ask_verb.Map = for_aligned (FitsAsk now) 2 4096 (2 ^ 48) _ (λ address good.
+      for_aligned (FitsAsk now) 3 4096 (address_limit (file_of now)) _ (λ physical fine.
+      for_count (FitsAsk now) 4 0 7 _ (λ index range. (good, fine, range.1))))
+  ask_fits ask_verb.Invlpg = for_aligned (FitsAsk now) 2 1 (2 ^ 48) _ (λ address good. good)
+  ask_fits ask_verb.Cr3 = tt
+  ask_fits ask_verb.Pge = tt
+  ask_fits ask_verb.Cd = tt
+  ask_fits ask_verb.Step = tt
+  ask_fits ask_verb.Msr = fits_with (FitsAsk now) (register_in now line words 2) _ (λ msr is.
+      (tested_fact (value_in line words 2) ScriptReason.UnknownRegister (place_of line words 2) (is_register (file_of now)) msr is).1)
 
-  store_fits : takes_commands now.stage ≡ true → IfOk (verb_answer now line words verb.Store) (Fits now)
-  store_fits stage = for_processor _ (λ k known. for_aligned 2 8 (2 ^ 48) _ (λ address good.
-      fits_with (Fits now) (value_in line words 3) _ (λ value is. ((stage, known), good, value_fact line words 3 value is))))
+  asked_fits : (asked : AskVerb) → takes_commands now.stage ≡ true → IfOk (verb_answer now line words (verb.Ask asked)) (Fits now)
+  asked_fits asked stage = for_processor _ (λ k known. fits_with (Fits now) (ask_in now line words asked) (λ a. Ok (command.Ask k a)) (λ a is. ((stage, known), fit a is)))
+    where
+      fit : (a : Ask) → ask_in now line words asked ≡ Ok a → FitsAsk now a
+      fit a is = subst (λ answer. IfOk answer (FitsAsk now)) is (ask_fits asked)
 
-  map_fits : takes_commands now.stage ≡ true → IfOk (verb_answer now line words verb.Map) (Fits now)
-  map_fits stage = for_processor _ (λ k known. for_aligned 2 4096 (2 ^ 48) _ (λ address good.
-      for_aligned 3 4096 (address_limit (file_of now)) _ (λ physical fine.
-      for_count 4 0 7 _ (λ index range. ((stage, known), good, fine, range.1)))))
-
-  invlpg_fits : takes_commands now.stage ≡ true → IfOk (verb_answer now line words verb.Invlpg) (Fits now)
-  invlpg_fits stage = for_processor _ (λ k known. for_aligned 2 1 (2 ^ 48) _ (λ address good. ((stage, known), good)))
-
-  msr_fits : takes_commands now.stage ≡ true → IfOk (verb_answer now line words verb.Msr) (Fits now)
-  msr_fits stage = for_processor _ (λ k known. fits_with (Fits now) (register_in now line words 2) _ (λ msr is.
-      ((stage, known), (tested_fact (value_in line words 2) ScriptReason.UnknownRegister (place_of line words 2) (is_register (file_of now)) msr is).1)))
-
-  one_fits : (make : ℕ → Command) → takes_commands now.stage ≡ true → ((k : ℕ) → IsFor now k → Fits now (make k)) → IfOk (with (processor_in now line words 1) (λ k. Ok (make k))) (Fits now)
-  one_fits make stage fits = for_processor _ (λ k known. fits k (stage, known))
-
-  word_fits : takes_commands now.stage ≡ true → IfOk (with (physical_in now line words 1 8) (λ address. Ok (command.Word address))) (Fits now)
-  word_fits stage = for_aligned 1 8 (address_limit (file_of now)) _ (λ address good. (stage, good))
+  word_fits : takes_commands now.stage ≡ true → IfOk (verb_answer now line words verb.Word) (Fits now)
+  word_fits stage = for_aligned (Fits now) 1 8 (address_limit (file_of now)) _ (λ address good. (stage, good))
 
   -- a row leads to commands that fit in its stages
   abbrev pub RowFits : Row → Type 0
   RowFits row = stands row.turn now.stage ≡ true → IfOk (verb_answer now line words row.verb) (Fits now)
 
   rows_fit : (word : List ℕ) → IfSome (row_of word) RowFits
-  rows_fit = row_all RowFits (cpus_fits, (λ stage. stage, (ram_fits, (selfsnoop, (load_fits, (store_fits, (fence, (map_fits, (invlpg_fits, (cr3, (pge, (cd, (bare, (bare, (bare, (bare, (bare, (step, (bare, (bare, (bare, (word_fits, (msr_fits, tt)))))))))))))))))))))))
+  rows_fit = row_all RowFits (cpus_fits, (λ stage. stage, (ram_fits, (selfsnoop, (asked_fits ask_verb.Load, (asked_fits ask_verb.Store, (asked_fits ask_verb.Fence, (asked_fits ask_verb.Map, (asked_fits ask_verb.Invlpg, (asked_fits ask_verb.Cr3, (asked_fits ask_verb.Pge, (asked_fits ask_verb.Cd, (bare, (bare, (bare, (bare, (bare, (asked_fits ask_verb.Step, (bare, (bare, (bare, (word_fits, (asked_fits ask_verb.Msr, tt)))))))))))))))))))))))
     where
       bare : takes_commands now.stage ≡ true → takes_commands now.stage ≡ true
       bare stage = stage
 
-      fence : takes_commands now.stage ≡ true → IfOk (with (processor_in now line words 1) (λ k. Ok (command.Fence k))) (Fits now)
-      fence stage = one_fits (λ k. command.Fence k) stage (λ k is. is)
-
       selfsnoop : takes_windows now.stage ≡ true → IfOk (with (processor_in now line words 1) (λ k. Ok (command.Selfsnoop k))) (Fits now)
       selfsnoop stage = for_processor _ (λ k known. (stage, known))
-
-      cr3 : takes_commands now.stage ≡ true → IfOk (with (processor_in now line words 1) (λ k. Ok (command.Cr3 k))) (Fits now)
-      cr3 stage = one_fits (λ k. command.Cr3 k) stage (λ k is. is)
-
-      pge : takes_commands now.stage ≡ true → IfOk (verb_answer now line words verb.Pge) (Fits now)
-      pge stage = one_fits (λ k. command.Pge k (is_word (codes "on") (text_of words 2))) stage (λ k is. is)
-
-      cd : takes_commands now.stage ≡ true → IfOk (verb_answer now line words verb.Cd) (Fits now)
-      cd stage = one_fits (λ k. command.Cd k (is_word (codes "on") (text_of words 2))) stage (λ k is. is)
-
-      step : takes_commands now.stage ≡ true → IfOk (with (processor_in now line words 1) (λ k. Ok (command.Step k))) (Fits now)
-      step stage = one_fits (λ k. command.Step k) stage (λ k is. is)
 
   row_line_fits : (row : Option Row) → IfSome row RowFits → IfOk (row_line now line words row) (Fits now)
   row_line_fits None fits = tt
@@ -170,7 +158,7 @@ module _ (now : Situation) (line : ℕ) (words : List (ℕ × List ℕ)) where
       fits_if (Fits now) (nat_lt 2 (length words)) _ _ (λ long. tt) (λ two. register_fits stage))))
 
 module _ (now : Situation) (line : ℕ) (bytes : List ℕ) where
-  dump_fits : is_in_dump now.stage ≡ true → takes_end now.stage ≡ true → (last : Bool) → Fits now (if last then command.End else command.DumpLine)
+  dump_fits : is_in_dump now.stage ≡ true → takes_end now.stage ≡ true → (last : Bool) → Fits now (if last then command.Section End else command.DumpLine)
   dump_fits stage ends true = ends
   dump_fits stage ends false = stage
 

@@ -25,6 +25,7 @@ use Rattle.mt_script.specs.declared.command.Stage.{Stage}
 use Rattle.mt_script.specs.declared.command.Stage.TheVariants.{NeedCpus, NeedDump, InDump, Rams, Commands, InUpdate, InBegin}
 use Rattle.mt_script.specs.declared.command.Command.{Command}
 use Rattle.mt_script.specs.declared.command.Command.TheVariants as command
+use Rattle.mt_script.specs.declared.command.Section.TheVariants.{End}
 use Rattle.mt_script.specs.declared.fault.ScriptFault.{ScriptFault}
 use Rattle.mt_script.specs.declared.fault.ScriptReason.TheVariants.{OutOfRange}
 use Rattle.mt_script.specs.declared.fault.Offence.TheVariants as offence
@@ -36,7 +37,7 @@ module _ (now : Situation) (before : List Reading) (number : ℕ) (line : List �
   pub head_in_dump : is_in_dump now.stage ≡ true → head_step now before number line ≡ step_in_dump now before number line (ends_dump line)
   head_in_dump dump = of_stage now.stage dump
     where
-      of_line : (ends : Bool) → step_of_answer now before number line (Ok (if ends then command.End else command.DumpLine)) ≡ step_in_dump now before number line ends
+      of_line : (ends : Bool) → step_of_answer now before number line (Ok (if ends then command.Section End else command.DumpLine)) ≡ step_in_dump now before number line ends
       of_line true = rw dump refl
       of_line false = rw dump refl
 
@@ -69,33 +70,8 @@ IsStep now before (offends o) = ⊤
 
 -- no command brings another dump
 pub accepted_dump : (now : Situation) (c : Command) → (accepted now c).dump ≡ now.dump
-accepted_dump now (command.Cpus n) = refl
-accepted_dump now command.Dump = refl
-accepted_dump now (command.Ram base lines) = refl
-accepted_dump now (command.Selfsnoop k) = refl
-accepted_dump now (command.Load k address) = refl
-accepted_dump now (command.Store k address value) = refl
-accepted_dump now (command.Fence k) = refl
-accepted_dump now (command.Map k address physical index global) = refl
-accepted_dump now (command.Invlpg k address) = refl
-accepted_dump now (command.Cr3 k) = refl
-accepted_dump now (command.Pge k on) = refl
-accepted_dump now (command.Cd k on) = refl
-accepted_dump now command.Update = refl
-accepted_dump now command.Begin = refl
-accepted_dump now command.Go = refl
-accepted_dump now command.Cancel = refl
-accepted_dump now command.Report = refl
-accepted_dump now (command.Step k) = refl
-accepted_dump now command.Up = refl
-accepted_dump now command.Join = refl
-accepted_dump now command.Retire = refl
-accepted_dump now (command.Word address) = refl
-accepted_dump now (command.Msr k msr) = refl
-accepted_dump now command.Blank = refl
-accepted_dump now command.DumpLine = refl
-accepted_dump now (command.Register msr value) = refl
-accepted_dump now command.End = refl
+accepted_dump now (command.Section End) = refl
+accepted_dump now other = refl
 
 module _ (now : Situation) (before : List Reading) (clean : IsClean before) (number : ℕ) (line : List ℕ) where
   abbrev place : Place
@@ -118,13 +94,16 @@ module _ (now : Situation) (before : List Reading) (clean : IsClean before) (num
   dump_is stage true = end_is stage (read_from place before []) refl
   dump_is stage false = line_is (offence_of before (said_of number line)) refl
 
-  command_is : (c : Command) → Fits now c → (dump : Bool) → is_in_dump now.stage ≡ dump → IsStep now before (step_of_command now before number line c dump)
-  command_is c fits true stage = dump_is stage (is_end_command c)
-  command_is c fits false stage = record { clean = clean; same_dump = accepted_dump now c; is = λ was. accepted_is now was c fits (λ dump. absurd (cc (stage, dump))) }
+  command_is : (c : Command) → Fits now c → IsStep now before (step_of_command now before number line c)
+  command_is c fits = by (is_in_dump now.stage) refl
+    where
+      by : (dump : Bool) → is_in_dump now.stage ≡ dump → IsStep now before (if dump then step_in_dump now before number line (is_end_command c) else goes_on (accepted now c) before)
+      by true stage = dump_is stage (is_end_command c)
+      by false stage = record { clean = clean; same_dump = accepted_dump now c; is = λ was. accepted_is now was c fits (λ dump. absurd (cc (stage, dump))) }
 
   answer_is : (answer : Result Command ScriptFault) → IfOk answer (Fits now) → IsStep now before (step_of_answer now before number line answer)
   answer_is (Err fault) fits = tt
-  answer_is (Ok c) fits = command_is c fits (is_in_dump now.stage) refl
+  answer_is (Ok c) fits = command_is c fits
 
   pub step_is : IsStep now before (head_step now before number line)
   step_is = answer_is (command_of now number line) (command_fits now number line)

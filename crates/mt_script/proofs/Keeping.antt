@@ -17,6 +17,9 @@ use Rattle.mt_script.specs.declared.command.Stage.{Stage}
 use Rattle.mt_script.specs.declared.command.Stage.TheVariants.{NeedCpus, NeedDump, InDump, Rams, Commands, InUpdate, InBegin}
 use Rattle.mt_script.specs.declared.command.Command.{Command}
 use Rattle.mt_script.specs.declared.command.Command.TheVariants as command
+use Rattle.mt_script.specs.declared.command.Section.TheVariants.{Update, Begin, Register, End}
+use Rattle.mt_script.specs.declared.command.Ask.{Ask}
+use Rattle.mt_script.specs.declared.command.Newcomer.{Newcomer}
 use Rattle.mt_dump.proofs.ForProcessors.{first_file_is}
 use Rattle.mt_script.proofs.Sections.{one_more_distinct, one_more_known, room_for_one}
 
@@ -211,74 +214,40 @@ module _ (now : Situation) (is : IsSituation now) where
       section_is stage past (cpus (cpus_past now.stage now.cpus past is.cpus)) past_too behind
 
   -- each command that fits, but the end of the dump
-  pub accepted_is : (c : Command) → Fits now c → (is_in_dump now.stage ≡ true → c ≢ command.End) → IsSituation (accepted now c)
+  pub accepted_is : (c : Command) → Fits now c → (is_in_dump now.stage ≡ true → c ≢ command.Section End) → IsSituation (accepted now c)
+  accepted_is command.Blank fits goes_on = is
   accepted_is (command.Cpus n) fits goes_on = cpus_is n (not_past_of_cpus now.stage fits.0) fits.1 fits.2
   accepted_is command.Dump fits goes_on = dump_is fits
+  accepted_is command.DumpLine fits goes_on = is
   accepted_is (command.Ram base lines) fits goes_on = window_is base lines fits.0 fits.4
   accepted_is (command.Selfsnoop k) fits goes_on = is
-  accepted_is (command.Load k address) fits goes_on = given fits.0.0
-  accepted_is (command.Store k address value) fits goes_on = given fits.0.0
-  accepted_is (command.Fence k) fits goes_on = given fits.0
-  accepted_is (command.Map k address physical index global) fits goes_on = given fits.0.0
-  accepted_is (command.Invlpg k address) fits goes_on = given fits.0.0
-  accepted_is (command.Cr3 k) fits goes_on = given fits.0
-  accepted_is (command.Pge k on) fits goes_on = given fits.0
-  accepted_is (command.Cd k on) fits goes_on = given fits.0
-  accepted_is command.Update fits goes_on = section InUpdate fits (λ cpus. cpus) refl refl
-  accepted_is command.Begin fits goes_on = section InBegin fits (λ cpus. cpus) refl refl
-  accepted_is command.Go fits goes_on = given fits
-  accepted_is command.Cancel fits goes_on = given fits
-  accepted_is command.Report fits goes_on = given fits
-  accepted_is (command.Step k) fits goes_on = given fits.0
-  accepted_is command.Up fits goes_on = moved fits
-  accepted_is command.Join fits goes_on = moved fits
-  accepted_is command.Retire fits goes_on = moved fits
-  accepted_is (command.Word address) fits goes_on = given fits.0
-  accepted_is (command.Msr k msr) fits goes_on = given fits.0.0
-  accepted_is command.Blank fits goes_on = is
-  accepted_is command.DumpLine fits goes_on = is
-  accepted_is (command.Register msr value) fits goes_on = register_is msr fits.0 fits.1 fits.2
-  accepted_is command.End fits goes_on =
+  accepted_is (command.Section Update) fits goes_on = section InUpdate fits (λ cpus. cpus) refl refl
+  accepted_is (command.Section Begin) fits goes_on = section InBegin fits (λ cpus. cpus) refl refl
+  accepted_is (command.Section (Register msr value)) fits goes_on = register_is msr fits.0 fits.1 fits.2
+  accepted_is (command.Section End) fits goes_on =
       let registers = registers_of_end now.stage fits (λ dump. goes_on dump refl) in
       let past = past_of_registers now.stage registers in
       section_is Commands past (cpus_past now.stage now.cpus past is.cpus) refl refl
+  accepted_is (command.Ask k a) fits goes_on = given fits.0.0
+  accepted_is (command.Newcomer n) fits goes_on = moved fits
+  accepted_is command.Retire fits goes_on = moved fits
+  accepted_is command.Go fits goes_on = given fits
+  accepted_is command.Cancel fits goes_on = given fits
+  accepted_is command.Report fits goes_on = given fits
+  accepted_is (command.Word address) fits goes_on = given fits.0
 
-  pub motion_is : (c : Command) → Fits now c → (c ≡ command.Up) ⊎ ((c ≡ command.Join) ⊎ (c ≡ command.Retire)) → IsSituation (in_motion now)
-  motion_is c fits (inl up) = moved (subst (Fits now) up fits)
-  motion_is c fits (inr (inl join)) = moved (subst (Fits now) join fits)
-  motion_is c fits (inr (inr retire)) = moved (subst (Fits now) retire fits)
+  pub motion_is : (c : Command) → Fits now c → ((n : Newcomer) × (c ≡ command.Newcomer n)) ⊎ (c ≡ command.Retire) → IsSituation (in_motion now)
+  motion_is c fits (inl comes) = moved (subst (Fits now) comes.1 fits)
+  motion_is c fits (inr retires) = moved (subst (Fits now) retires fits)
 
-  -- each of the other commands moves on among the commands
-  pub others_is : (c : Command) → Fits now c → (is_in_dump now.stage ≡ true → c ≢ command.End)
-      → ((n : ℕ) → c ≢ command.Cpus n) → c ≢ command.Dump → ((base lines : ℕ) → c ≢ command.Ram base lines) → ((k : ℕ) → c ≢ command.Selfsnoop k) → c ≢ command.Update → c ≢ command.Begin
-      → c ≢ command.Up → c ≢ command.Join → c ≢ command.Retire → c ≢ command.Blank → c ≢ command.DumpLine → ((msr value : ℕ) → c ≢ command.Register msr value) → c ≢ command.End → IsSituation (in_commands now)
-  others_is (command.Cpus n) fits goes_on cpus dump ram snoop update begin up join retire blank line register end = absurd (cpus n refl)
-  others_is command.Dump fits goes_on cpus dump ram snoop update begin up join retire blank line register end = absurd (dump refl)
-  others_is (command.Ram base lines) fits goes_on cpus dump ram snoop update begin up join retire blank line register end = absurd (ram base lines refl)
-  others_is (command.Selfsnoop k) fits goes_on cpus dump ram snoop update begin up join retire blank line register end = absurd (snoop k refl)
-  others_is (command.Load k address) fits goes_on cpus dump ram snoop update begin up join retire blank line register end = given fits.0.0
-  others_is (command.Store k address value) fits goes_on cpus dump ram snoop update begin up join retire blank line register end = given fits.0.0
-  others_is (command.Fence k) fits goes_on cpus dump ram snoop update begin up join retire blank line register end = given fits.0
-  others_is (command.Map k address physical index global) fits goes_on cpus dump ram snoop update begin up join retire blank line register end = given fits.0.0
-  others_is (command.Invlpg k address) fits goes_on cpus dump ram snoop update begin up join retire blank line register end = given fits.0.0
-  others_is (command.Cr3 k) fits goes_on cpus dump ram snoop update begin up join retire blank line register end = given fits.0
-  others_is (command.Pge k on) fits goes_on cpus dump ram snoop update begin up join retire blank line register end = given fits.0
-  others_is (command.Cd k on) fits goes_on cpus dump ram snoop update begin up join retire blank line register end = given fits.0
-  others_is command.Update fits goes_on cpus dump ram snoop update begin up join retire blank line register end = absurd (update refl)
-  others_is command.Begin fits goes_on cpus dump ram snoop update begin up join retire blank line register end = absurd (begin refl)
-  others_is command.Go fits goes_on cpus dump ram snoop update begin up join retire blank line register end = given fits
-  others_is command.Cancel fits goes_on cpus dump ram snoop update begin up join retire blank line register end = given fits
-  others_is command.Report fits goes_on cpus dump ram snoop update begin up join retire blank line register end = given fits
-  others_is (command.Step k) fits goes_on cpus dump ram snoop update begin up join retire blank line register end = given fits.0
-  others_is command.Up fits goes_on cpus dump ram snoop update begin up join retire blank line register end = absurd (up refl)
-  others_is command.Join fits goes_on cpus dump ram snoop update begin up join retire blank line register end = absurd (join refl)
-  others_is command.Retire fits goes_on cpus dump ram snoop update begin up join retire blank line register end = absurd (retire refl)
-  others_is (command.Word address) fits goes_on cpus dump ram snoop update begin up join retire blank line register end = given fits.0
-  others_is (command.Msr k msr) fits goes_on cpus dump ram snoop update begin up join retire blank line register end = given fits.0.0
-  others_is command.Blank fits goes_on cpus dump ram snoop update begin up join retire blank line register end = absurd (blank refl)
-  others_is command.DumpLine fits goes_on cpus dump ram snoop update begin up join retire blank line register end = absurd (line refl)
-  others_is (command.Register msr value) fits goes_on cpus dump ram snoop update begin up join retire blank line register end = absurd (register msr value refl)
-  others_is command.End fits goes_on cpus dump ram snoop update begin up join retire blank line register end = absurd (end refl)
+  -- these move on among the commands
+  pub given_is : (c : Command) → Fits now c
+      → ((k : ℕ) × (a : Ask) × (c ≡ command.Ask k a)) ⊎ ((c ≡ command.Go) ⊎ ((c ≡ command.Cancel) ⊎ ((c ≡ command.Report) ⊎ ((address : ℕ) × (c ≡ command.Word address))))) → IsSituation (in_commands now)
+  given_is c fits (inl asks) = given (subst (Fits now) asks.2 fits).0.0
+  given_is c fits (inr (inl goes)) = given (subst (Fits now) goes fits)
+  given_is c fits (inr (inr (inl cancels))) = given (subst (Fits now) cancels fits)
+  given_is c fits (inr (inr (inr (inl reports)))) = given (subst (Fits now) reports fits)
+  given_is c fits (inr (inr (inr (inr word)))) = given (subst (Fits now) word.1 fits).0
 
   -- the end of the dump
   pub finished_is : (dump : Dump) → is_in_dump now.stage ≡ true → IsDump dump → has_each now.cpus dump ≡ true → IsSituation (finished now dump)

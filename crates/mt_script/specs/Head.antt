@@ -20,6 +20,7 @@ pub use Rattle.mt_script.specs.Commands.{ends_dump}
 use Rattle.mt_script.specs.Accept.{accepted}
 use Rattle.mt_script.specs.declared.command.Command.{Command}
 use Rattle.mt_script.specs.declared.command.Command.TheVariants as command
+use Rattle.mt_script.specs.declared.command.Section.TheVariants.{End}
 use Rattle.mt_script.specs.declared.fault.ScriptFault.{ScriptFault}
 use Rattle.mt_script.specs.declared.fault.ScriptReason.TheVariants.{OutOfRange}
 use Rattle.mt_script.specs.declared.fault.Offence.{Offence}
@@ -49,16 +50,16 @@ dump_step now before number line = step_in_dump now before number line (ends_dum
 
 -- the command ends a section
 abbrev pub is_end_command : Command → Bool
-is_end_command command.End = true
+is_end_command (command.Section End) = true
 is_end_command other = false
 
-abbrev pub step_of_command : Situation → List Reading → ℕ → List ℕ → Command → Bool → HeadStep
-step_of_command now before number line c true = step_in_dump now before number line (is_end_command c)
-step_of_command now before number line c false = goes_on (accepted now c) before
+abbrev pub step_of_command : Situation → List Reading → ℕ → List ℕ → Command → HeadStep
+step_of_command now before number line c =
+    if is_in_dump now.stage then step_in_dump now before number line (is_end_command c) else goes_on (accepted now c) before
 
 abbrev pub step_of_answer : Situation → List Reading → ℕ → List ℕ → Result Command ScriptFault → HeadStep
 step_of_answer now before number line (Err fault) = offends (offence.Script fault)
-step_of_answer now before number line (Ok c) = step_of_command now before number line c (is_in_dump now.stage)
+step_of_answer now before number line (Ok c) = step_of_command now before number line c
 
 abbrev pub head_step : Situation → List Reading → ℕ → List ℕ → HeadStep
 head_step now before number line = step_of_answer now before number line (command_of now number line)

@@ -5,7 +5,8 @@ use Rattle.std.specs.Prelude.{ℕ, ◌||◌, Bool, true, codes, List, [], ◌∷
 use Rattle.mt_dump.specs.Line.{is_word}
 use Rattle.mt_script.specs.declared.row.Verb.{Verb}
 use Rattle.mt_script.specs.declared.row.Verb.TheVariants as verb
-use Rattle.mt_script.specs.declared.command.Command.TheVariants as command
+use Rattle.mt_script.specs.declared.row.AskVerb.TheVariants as ask_verb
+use Rattle.mt_script.specs.declared.command.Newcomer.TheVariants.{Up, Join}
 use Rattle.mt_script.specs.declared.row.Last.{Last}
 use Rattle.mt_script.specs.declared.row.Last.TheVariants.{Any, Global, Switch}
 use Rattle.mt_script.specs.declared.row.Turn.{Turn}
@@ -20,28 +21,28 @@ plain verb count turn = record { verb = verb; least = count; most = count; last 
 abbrev pub table : List (List ℕ × Row)
 table =
     (codes "cpus", plain verb.Cpus 2 Cpus)
-    ∷ (codes "dump", plain (verb.Bare command.Dump) 1 Dump)
+    ∷ (codes "dump", plain verb.Dump 1 Dump)
     ∷ (codes "ram", plain verb.Ram 3 Windows)
     ∷ (codes "selfsnoop", plain verb.Selfsnoop 2 Windows)
-    ∷ (codes "load", plain verb.Load 3 Commands)
-    ∷ (codes "store", plain verb.Store 4 Commands)
-    ∷ (codes "fence", plain verb.Fence 2 Commands)
-    ∷ (codes "map", record (plain verb.Map 6 Commands) { least = 5; last = Global })
-    ∷ (codes "invlpg", plain verb.Invlpg 3 Commands)
-    ∷ (codes "cr3", plain verb.Cr3 2 Commands)
-    ∷ (codes "pge", record (plain verb.Pge 3 Commands) { last = Switch })
-    ∷ (codes "cd", record (plain verb.Cd 3 Commands) { last = Switch })
-    ∷ (codes "update", plain (verb.Bare command.Update) 1 Commands)
-    ∷ (codes "begin", plain (verb.Bare command.Begin) 1 Commands)
-    ∷ (codes "go", plain (verb.Bare command.Go) 1 Commands)
-    ∷ (codes "cancel", plain (verb.Bare command.Cancel) 1 Commands)
-    ∷ (codes "report", plain (verb.Bare command.Report) 1 Commands)
-    ∷ (codes "step", plain verb.Step 2 Commands)
-    ∷ (codes "up", plain (verb.Bare command.Up) 1 Commands)
-    ∷ (codes "join", plain (verb.Bare command.Join) 1 Commands)
-    ∷ (codes "retire", plain (verb.Bare command.Retire) 1 Commands)
+    ∷ (codes "load", plain (verb.Ask ask_verb.Load) 3 Commands)
+    ∷ (codes "store", plain (verb.Ask ask_verb.Store) 4 Commands)
+    ∷ (codes "fence", plain (verb.Ask ask_verb.Fence) 2 Commands)
+    ∷ (codes "map", record (plain (verb.Ask ask_verb.Map) 6 Commands) { least = 5; last = Global })
+    ∷ (codes "invlpg", plain (verb.Ask ask_verb.Invlpg) 3 Commands)
+    ∷ (codes "cr3", plain (verb.Ask ask_verb.Cr3) 2 Commands)
+    ∷ (codes "pge", record (plain (verb.Ask ask_verb.Pge) 3 Commands) { last = Switch })
+    ∷ (codes "cd", record (plain (verb.Ask ask_verb.Cd) 3 Commands) { last = Switch })
+    ∷ (codes "update", plain verb.Update 1 Commands)
+    ∷ (codes "begin", plain verb.Begin 1 Commands)
+    ∷ (codes "go", plain verb.Go 1 Commands)
+    ∷ (codes "cancel", plain verb.Cancel 1 Commands)
+    ∷ (codes "report", plain verb.Report 1 Commands)
+    ∷ (codes "step", plain (verb.Ask ask_verb.Step) 2 Commands)
+    ∷ (codes "up", plain (verb.Newcomer Up) 1 Commands)
+    ∷ (codes "join", plain (verb.Newcomer Join) 1 Commands)
+    ∷ (codes "retire", plain verb.Retire 1 Commands)
     ∷ (codes "word", plain verb.Word 2 Commands)
-    ∷ (codes "msr", plain verb.Msr 3 Commands)
+    ∷ (codes "msr", plain (verb.Ask ask_verb.Msr) 3 Commands)
     ∷ []
 
 -- the first row with this word

@@ -38,21 +38,31 @@ offence_in end number (line ∷ lines) now before =
 abbrev pub script_offence : List ℕ → Option Offence
 script_offence text = offence_in (end_of text) 1 (lines_of text) at_start []
 
+-- A line up to the dump's end: what stands set up, the dump's lines before it, and what it says as a line of the dump.
+pub record HeadLine : Type 0 where
+  pub now : Situation
+  pub before : List Reading
+  pub says : Reading
+
+abbrev pub head_line : Situation → List Reading → Reading → HeadLine
+head_line now before says = record { now = now; before = before; says = says }
+
 -- A line of the dump has no offence after those before it. The end of the dump comes where its lines show a dump with a file for each
 -- processor, or in version 1 one for all.
-abbrev pub GoesOn : Situation → List Reading → Reading → (Situation → List Reading → Type 0) → Bool → Type 0
-GoesOn now before says rest true = (dump : Dump) × ShownBy (onto before []) dump × (has_each now.cpus dump ≡ true) × rest (finished now dump) []
-GoesOn now before says rest false = (offence_of before says ≡ None) × rest now (says ∷ before)
+abbrev pub GoesOn : HeadLine → (Situation → List Reading → Type 0) → Bool → Type 0
+GoesOn here rest true =
+    (dump : Dump) × ShownBy (onto here.before []) dump × (has_each here.now.cpus dump ≡ true) × rest (finished here.now dump) []
+GoesOn here rest false = (offence_of here.before here.says ≡ None) × rest here.now (here.says ∷ here.before)
 
-abbrev pub Follows : Situation → List Reading → Reading → (Situation → List Reading → Type 0) → Command → Bool → Type 0
-Follows now before says rest c true = GoesOn now before says rest (is_end_command c)
-Follows now before says rest c false = rest (accepted now c) before
+abbrev pub Follows : HeadLine → (Situation → List Reading → Type 0) → Command → Bool → Type 0
+Follows here rest c true = GoesOn here rest (is_end_command c)
+Follows here rest c false = rest (accepted here.now c) here.before
 
 -- each of these lines is accepted in its turn, and the text may end after them
 abbrev pub AreGood : ℕ → List (List ℕ) → Situation → List Reading → Type 0
 AreGood number [] now before = takes_commands now.stage ≡ true
 AreGood number (line ∷ lines) now before =
-    (c : Command) × (command_of now number line ≡ Ok c) × Follows now before (said_of number line) (AreGood (number + 1) lines) c (is_in_dump now.stage)
+    (c : Command) × (command_of now number line ≡ Ok c) × Follows (head_line now before (said_of number line)) (AreGood (number + 1) lines) c (is_in_dump now.stage)
 
 abbrev pub IsGoodScript : List ℕ → Type 0
 IsGoodScript text = AreGood 1 (lines_of text) at_start []

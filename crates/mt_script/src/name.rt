@@ -3,8 +3,8 @@ ghost use Rattle.mt_dump.specs.Line.{is_word};
 ghost use Rattle.mt_script.specs.Rows.{row_of, plain};
 ghost use Rattle.mt_script.specs.Stages.{is_in_dump, stands, takes_commands};
 
-use crate::row::{Last, Row, Turn, Verb};
-use crate::{Command, Stage};
+use crate::row::{AskVerb, Last, Row, Turn, Verb};
+use crate::{Newcomer, Stage};
 
 /// Whether a word has these bytes.
 pub fn is_word(word: &[u8], name: &[u8]) -> bool
@@ -50,11 +50,11 @@ pub fn row_of(word: &[u8]) -> Option<Row>
     ensures { result ≡ row_of word.now }
 {
     if is_load(word) {
-        Some(plain(Verb::Load, 3, Turn::Commands))
+        Some(plain(Verb::Ask(AskVerb::Load), 3, Turn::Commands))
     } else if is_store(word) {
-        Some(plain(Verb::Store, 4, Turn::Commands))
+        Some(plain(Verb::Ask(AskVerb::Store), 4, Turn::Commands))
     } else if is_step(word) {
-        Some(plain(Verb::Step, 2, Turn::Commands))
+        Some(plain(Verb::Ask(AskVerb::Step), 2, Turn::Commands))
     } else {
         find_row(word)
     }
@@ -68,59 +68,59 @@ fn find_row(word: &[u8]) -> Option<Row>
     if is_word(word, b"cpus") {
         Some(plain(Verb::Cpus, 2, Turn::Cpus))
     } else if is_word(word, b"dump") {
-        Some(plain(Verb::Bare(Command::Dump), 1, Turn::Dump))
+        Some(plain(Verb::Dump, 1, Turn::Dump))
     } else if is_word(word, b"ram") {
         Some(plain(Verb::Ram, 3, Turn::Windows))
     } else if is_word(word, b"selfsnoop") {
         Some(plain(Verb::Selfsnoop, 2, Turn::Windows))
     } else if is_word(word, b"load") {
-        Some(plain(Verb::Load, 3, Turn::Commands))
+        Some(plain(Verb::Ask(AskVerb::Load), 3, Turn::Commands))
     } else if is_word(word, b"store") {
-        Some(plain(Verb::Store, 4, Turn::Commands))
+        Some(plain(Verb::Ask(AskVerb::Store), 4, Turn::Commands))
     } else if is_word(word, b"fence") {
-        Some(plain(Verb::Fence, 2, Turn::Commands))
+        Some(plain(Verb::Ask(AskVerb::Fence), 2, Turn::Commands))
     } else if is_word(word, b"map") {
         Some(Row {
             least: 5,
             last: Last::Global,
-            ..plain(Verb::Map, 6, Turn::Commands)
+            ..plain(Verb::Ask(AskVerb::Map), 6, Turn::Commands)
         })
     } else if is_word(word, b"invlpg") {
-        Some(plain(Verb::Invlpg, 3, Turn::Commands))
+        Some(plain(Verb::Ask(AskVerb::Invlpg), 3, Turn::Commands))
     } else if is_word(word, b"cr3") {
-        Some(plain(Verb::Cr3, 2, Turn::Commands))
+        Some(plain(Verb::Ask(AskVerb::Cr3), 2, Turn::Commands))
     } else if is_word(word, b"pge") {
         Some(Row {
             last: Last::Switch,
-            ..plain(Verb::Pge, 3, Turn::Commands)
+            ..plain(Verb::Ask(AskVerb::Pge), 3, Turn::Commands)
         })
     } else if is_word(word, b"cd") {
         Some(Row {
             last: Last::Switch,
-            ..plain(Verb::Cd, 3, Turn::Commands)
+            ..plain(Verb::Ask(AskVerb::Cd), 3, Turn::Commands)
         })
     } else if is_word(word, b"update") {
-        Some(plain(Verb::Bare(Command::Update), 1, Turn::Commands))
+        Some(plain(Verb::Update, 1, Turn::Commands))
     } else if is_word(word, b"begin") {
-        Some(plain(Verb::Bare(Command::Begin), 1, Turn::Commands))
+        Some(plain(Verb::Begin, 1, Turn::Commands))
     } else if is_word(word, b"go") {
-        Some(plain(Verb::Bare(Command::Go), 1, Turn::Commands))
+        Some(plain(Verb::Go, 1, Turn::Commands))
     } else if is_word(word, b"cancel") {
-        Some(plain(Verb::Bare(Command::Cancel), 1, Turn::Commands))
+        Some(plain(Verb::Cancel, 1, Turn::Commands))
     } else if is_word(word, b"report") {
-        Some(plain(Verb::Bare(Command::Report), 1, Turn::Commands))
+        Some(plain(Verb::Report, 1, Turn::Commands))
     } else if is_word(word, b"step") {
-        Some(plain(Verb::Step, 2, Turn::Commands))
+        Some(plain(Verb::Ask(AskVerb::Step), 2, Turn::Commands))
     } else if is_word(word, b"up") {
-        Some(plain(Verb::Bare(Command::Up), 1, Turn::Commands))
+        Some(plain(Verb::Newcomer(Newcomer::Up), 1, Turn::Commands))
     } else if is_word(word, b"join") {
-        Some(plain(Verb::Bare(Command::Join), 1, Turn::Commands))
+        Some(plain(Verb::Newcomer(Newcomer::Join), 1, Turn::Commands))
     } else if is_word(word, b"retire") {
-        Some(plain(Verb::Bare(Command::Retire), 1, Turn::Commands))
+        Some(plain(Verb::Retire, 1, Turn::Commands))
     } else if is_word(word, b"word") {
         Some(plain(Verb::Word, 2, Turn::Commands))
     } else if is_word(word, b"msr") {
-        Some(plain(Verb::Msr, 3, Turn::Commands))
+        Some(plain(Verb::Ask(AskVerb::Msr), 3, Turn::Commands))
     } else {
         None
     }

@@ -3,7 +3,7 @@ ghost use Rattle.std.specs.Set.{is_member};
 ghost use Rattle.std.specs.Result.{IfOk};
 ghost use Rattle.mt_script.specs.Accept.{Fits};
 ghost use Rattle.mt_text.specs.Text.{is_too_long, past_limit, words_of};
-ghost use Rattle.mt_script.specs.Commands.{command_of, outside, in_section, ends_dump, verb_answer, register_line, is_end, end_fault};
+ghost use Rattle.mt_script.specs.Commands.{ask_in, command_of, outside, in_section, ends_dump, verb_answer, register_line, is_end, end_fault};
 ghost use Rattle.mt_script.specs.Numbers.{fault_at};
 ghost use Rattle.mt_script.specs.Words.{text_of};
 ghost use Rattle.mt_dump.specs.Line.{is_word};
@@ -15,9 +15,9 @@ use crate::number::{
     virtual_at, writable,
 };
 use crate::room::has_room;
-use crate::row::Verb;
+use crate::row::{AskVerb, Verb};
 use crate::shape::shape_fault;
-use crate::{Command, ScriptFault, ScriptReason, Setup, Stage};
+use crate::{Ask, Command, Mapped, ScriptFault, ScriptReason, Section, Setup, Stage};
 use mt_kinds::{MOST_LINES, PAGE_BYTES, WORD_BYTES};
 use mt_text::{Line, Place, Words, hex64, without_ending};
 
@@ -35,48 +35,19 @@ fn read_ram(words: &Words<'_>, setup: &Setup) -> Result<Command, ScriptFault>
     }
 }
 
-fn read_load(words: &Words<'_>, setup: &Setup) -> Result<Command, ScriptFault>
-    ensures { result ≡ verb_answer setup.now words.now.number words.now.words Verb.Load }
+fn read_map(words: &Words<'_>, setup: &Setup) -> Result<Ask, ScriptFault>
+    ensures { result ≡ ask_in setup.now words.now.number words.now.words AskVerb.Map }
 {
-    let k = processor_at(words, 1, setup)?;
-    let address = virtual_at(words, 2, WORD_BYTES)?;
-    Ok(Command::Load(k, address))
-}
-
-fn read_store(words: &Words<'_>, setup: &Setup) -> Result<Command, ScriptFault>
-    ensures { result ≡ verb_answer setup.now words.now.number words.now.words Verb.Store }
-{
-    let k = processor_at(words, 1, setup)?;
-    let address = virtual_at(words, 2, WORD_BYTES)?;
-    let value = value_at(words, 3)?;
-    Ok(Command::Store(k, address, value))
-}
-
-fn read_map(words: &Words<'_>, setup: &Setup) -> Result<Command, ScriptFault>
-    ensures { result ≡ verb_answer setup.now words.now.number words.now.words Verb.Map }
-{
-    let k = processor_at(words, 1, setup)?;
     let address = virtual_at(words, 2, PAGE_BYTES)?;
     let physical = physical_at(words, 3, PAGE_BYTES, setup)?;
     let index = count_at(words, 4, 0, LAST_INDEX)? as u8;
     let global = is_word(words.text(5), b"global");
-    Ok(Command::Map(k, address, physical, index, global))
-}
-
-fn read_invlpg(words: &Words<'_>, setup: &Setup) -> Result<Command, ScriptFault>
-    ensures { result ≡ verb_answer setup.now words.now.number words.now.words Verb.Invlpg }
-{
-    let k = processor_at(words, 1, setup)?;
-    let address = virtual_at(words, 2, 1)?;
-    Ok(Command::Invlpg(k, address))
-}
-
-fn read_msr(words: &Words<'_>, setup: &Setup) -> Result<Command, ScriptFault>
-    ensures { result ≡ verb_answer setup.now words.now.number words.now.words Verb.Msr }
-{
-    let k = processor_at(words, 1, setup)?;
-    let msr = register_at(words, 2, setup)?;
-    Ok(Command::Msr(k, msr))
+    Ok(Ask::Map(Mapped {
+        address,
+        physical,
+        index,
+        global,
+    }))
 }
 
 fn is_on(words: &Words<'_>) -> bool
@@ -85,26 +56,54 @@ fn is_on(words: &Words<'_>) -> bool
     is_word(words.text(2), b"on")
 }
 
+// What is asked of a processor, by the words behind its number.
+fn read_ask(words: &Words<'_>, setup: &Setup, verb: AskVerb) -> Result<Ask, ScriptFault>
+    ensures { result ≡ ask_in setup.now words.now.number words.now.words verb }
+{
+    match verb {
+        AskVerb::Load => Ok(Ask::Load(virtual_at(words, 2, WORD_BYTES)?)),
+        AskVerb::Store => {
+            let address = virtual_at(words, 2, WORD_BYTES)?;
+            Ok(Ask::Store(address, value_at(words, 3)?))
+        }
+        AskVerb::Fence => Ok(Ask::Fence),
+        AskVerb::Map => read_map(words, setup),
+        AskVerb::Invlpg => Ok(Ask::Invlpg(virtual_at(words, 2, 1)?)),
+        AskVerb::Cr3 => Ok(Ask::Cr3),
+        AskVerb::Pge => Ok(Ask::Pge(is_on(words))),
+        AskVerb::Cd => Ok(Ask::Cd(is_on(words))),
+        AskVerb::Step => Ok(Ask::Step),
+        AskVerb::Msr => Ok(Ask::Msr(register_at(words, 2, setup)?)),
+    }
+}
+
+// The processor, and what is asked of it.
+fn read_asked(words: &Words<'_>, setup: &Setup, verb: AskVerb) -> Result<Command, ScriptFault>
+    ensures { result ≡ verb_answer setup.now words.now.number words.now.words (Verb.Ask verb) }
+{
+    let k = processor_at(words, 1, setup)?;
+    let ask = read_ask(words, setup, verb)?;
+    Ok(Command::Ask(k, ask))
+}
+
 // The numbers of a line with this verb, and the command that it asks for.
 fn read_verb(words: &Words<'_>, setup: &Setup, verb: Verb) -> Result<Command, ScriptFault>
     ensures { result ≡ verb_answer setup.now words.now.number words.now.words verb }
 {
     match verb {
-        Verb::Bare(command) => Ok(command),
         Verb::Cpus => Ok(Command::Cpus(count_at(words, 1, 1, MOST_CPUS as u64)? as u32)),
+        Verb::Dump => Ok(Command::Dump),
         Verb::Ram => read_ram(words, setup),
         Verb::Selfsnoop => Ok(Command::Selfsnoop(processor_at(words, 1, setup)?)),
-        Verb::Load => read_load(words, setup),
-        Verb::Store => read_store(words, setup),
-        Verb::Fence => Ok(Command::Fence(processor_at(words, 1, setup)?)),
-        Verb::Map => read_map(words, setup),
-        Verb::Invlpg => read_invlpg(words, setup),
-        Verb::Cr3 => Ok(Command::Cr3(processor_at(words, 1, setup)?)),
-        Verb::Pge => Ok(Command::Pge(processor_at(words, 1, setup)?, is_on(words))),
-        Verb::Cd => Ok(Command::Cd(processor_at(words, 1, setup)?, is_on(words))),
-        Verb::Step => Ok(Command::Step(processor_at(words, 1, setup)?)),
+        Verb::Update => Ok(Command::Section(Section::Update)),
+        Verb::Begin => Ok(Command::Section(Section::Begin)),
+        Verb::Ask(asked) => read_asked(words, setup, asked),
+        Verb::Newcomer(newcomer) => Ok(Command::Newcomer(newcomer)),
+        Verb::Retire => Ok(Command::Retire),
+        Verb::Go => Ok(Command::Go),
+        Verb::Cancel => Ok(Command::Cancel),
+        Verb::Report => Ok(Command::Report),
         Verb::Word => Ok(Command::Word(physical_at(words, 1, WORD_BYTES, setup)?)),
-        Verb::Msr => read_msr(words, setup),
     }
 }
 
@@ -144,7 +143,7 @@ fn read_register(words: &Words<'_>, setup: &Setup) -> Result<Command, ScriptFaul
     if was_seen(setup.seen(), msr) {
         return Err(fault(ScriptReason::Repeated, first));
     }
-    Ok(Command::Register { msr, value })
+    Ok(Command::Section(Section::Register { msr, value }))
 }
 
 fn is_end(words: &Words<'_>) -> bool
@@ -157,7 +156,7 @@ fn read_in_section(words: &Words<'_>, setup: &Setup) -> Result<Command, ScriptFa
     ensures { result ≡ in_section setup.now words.now.number words.now.words }
 {
     if is_end(words) {
-        return Ok(Command::End);
+        return Ok(Command::Section(Section::End));
     }
     match words.count() {
         0 => Ok(Command::Blank),
@@ -176,10 +175,10 @@ pub(crate) fn ends_dump(line: &Line<'_>) -> bool
 }
 
 fn read_in_dump(line: &Line<'_>) -> Command
-    ensures { result ≡ (if ends_dump line.now.bytes.now then Command.End else Command.DumpLine) }
+    ensures { result ≡ (if ends_dump line.now.bytes.now then Command.Section Section.End else Command.DumpLine) }
 {
     if ends_dump(line) {
-        Command::End
+        Command::Section(Section::End)
     } else {
         Command::DumpLine
     }

@@ -5,7 +5,7 @@ ghost use Rattle.mt_script.specs.Stages.{is_in_dump};
 ghost use Rattle.mt_script.specs.Kept.{IsSituation};
 ghost use Rattle.mt_script.specs.Accept.{Fits, in_motion, in_section_of, accepted, finished};
 
-use crate::{Command, Stage};
+use crate::{Command, Section, Stage};
 use arrayvec::ArrayVec;
 use mt_dump::Dump;
 use mt_regs::RegFile;
@@ -156,11 +156,26 @@ impl Setup {
         self.seen.push(msr);
     }
 
+    // Moves on by a line of a section.
+    fn take_line(&mut self, line: Section)
+        requires fits { Fits self.old (Command.Section line) }
+        requires is { IsSituation (accepted self.old (Command.Section line)) }
+        ensures { self.new ≡ accepted self.old (Command.Section line) }
+    {
+        self.is_situation(); // a fact for the proof
+        match line {
+            Section::Update => self.begin_section(Stage::InUpdate),
+            Section::Begin => self.begin_section(Stage::InBegin),
+            Section::Register { msr, .. } => self.add_register(msr),
+            Section::End => self.begin_section(Stage::Commands),
+        }
+    }
+
     /// Moves on by a command that a line was read as, unless it ends the dump.
     #[inline(always)]
     pub fn accept(&mut self, c: &Command)
         requires fits { Fits self.old c.now }
-        requires goes_on { is_in_dump self.old.stage ≡ true → c.now ≢ Command.End }
+        requires goes_on { is_in_dump self.old.stage ≡ true → c.now ≢ Command.Section Section.End }
         ensures { self.new ≡ accepted self.old c.now }
     {
         self.is_situation(); // a fact for the proof
@@ -168,13 +183,11 @@ impl Setup {
             Command::Cpus(n) => self.take_cpus(n),
             Command::Dump => self.move_to(Stage::InDump),
             Command::Ram(base, lines) => self.add_window(base, lines),
-            Command::Update => self.begin_section(Stage::InUpdate),
-            Command::Begin => self.begin_section(Stage::InBegin),
-            Command::End => self.begin_section(Stage::Commands),
-            Command::Up | Command::Join | Command::Retire => self.begin_motion(),
-            Command::Register { msr, .. } => self.add_register(msr),
+            Command::Section(line) => self.take_line(line),
+            Command::Newcomer(_) | Command::Retire => self.begin_motion(),
             Command::Selfsnoop(_) | Command::Blank | Command::DumpLine => {}
-            _ => self.move_to(Stage::Commands),
+            Command::Ask(..) | Command::Go | Command::Cancel | Command::Report | Command::Word(_) =>
+                self.move_to(Stage::Commands),
         }
     }
 
