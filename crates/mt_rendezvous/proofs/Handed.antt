@@ -1,5 +1,5 @@
 -- The words that are handed back to memory, and where the machine ends.
-use Rattle.std.proofs.Common.{◌≡◌, ◌<◌, ◌≤◌, ◌+◌, ℕ, zero, suc, true, List, [], ◌∷◌, map, length, drop, take, take_all, set, length-drop, sym, refl, ap, ◌∙◌, arith}
+use Rattle.std.proofs.Common.{◌++◌, ◌≡◌, ◌<◌, ◌≤◌, ◌+◌, ℕ, zero, suc, true, List, [], ◌∷◌, map, length, drop, take, take_all, set, length-drop, sym, refl, ap, ◌∙◌, arith}
 use Rattle.std.proofs.Common.{Bool, false, not, ◌&&◌, ◌||◌, Some, None, ⊎_elim, subst}
 use Rattle.std.specs.Prelude.{if◌then◌else◌, slice_get}
 use Rattle.std.specs.List.{All, list_all, list_any}
@@ -52,6 +52,14 @@ drop_elem (x ∷ xs) (suc n) i = let e : suc (n + i) ≡ suc n + i = omega arith
 
 pub same_words : (l m : List ℕ) (n : ℕ) → length l ≤ n → length m ≤ n → take n l ≡ take n m → l ≡ m
 same_words l m n a b e = sym (take_all n l a) ∙ e ∙ take_all n m b
+
+taken_front : (ws more : List ℕ) → take (length ws) (ws ++ more) ≡ ws
+taken_front [] more = refl
+taken_front (w ∷ ws) more = ap (λ (l : List ℕ). w ∷ l) (taken_front ws more)
+
+-- as many words, written over others, are all of them
+pub written_over : (ws old : List ℕ) → length ws ≡ length old → ws ≡ take (length old) (ws ++ drop (length ws) old)
+written_over ws old same = sym (taken_front ws (drop (length ws) old)) ∙ ap (λ (n : ℕ). take n (ws ++ drop (length ws) old)) same
 
 mapped_length : (l : List Held) → length (map cpu_of l) ≡ length l
 mapped_length [] = refl
