@@ -12,14 +12,13 @@ use Rattle.mt_gran.proofs.GranuleSizes.{size_is}
 use Rattle.mt_answers.specs.declared.command.Command.{Command}
 use Rattle.mt_answers.specs.declared.command.Command.TheVariants.{Serial, Threaded}
 use Rattle.mt_answers.specs.declared.command.SerialCommand.{SerialCommand}
-use Rattle.mt_answers.specs.declared.command.SerialCommand.TheVariants.{Dump, Make, Help, Version}
+use Rattle.mt_answers.specs.declared.command.SerialCommand.TheVariants.{Make, Help, Version}
 use Rattle.mt_answers.specs.declared.command.ThreadedCommand.{ThreadedCommand}
 use Rattle.mt_answers.specs.declared.command.ThreadedCommand.TheVariants.{Replay, Proc, Big, Private}
 use Rattle.mt_answers.specs.declared.command.DumpCommand.{DumpCommand}
-use Rattle.mt_answers.specs.declared.command.DumpCommand.TheVariants.{Check, Show, Types, Page, Tidy, Gran}
-use Rattle.mt_answers.specs.declared.command.TidyOption.{TidyOption}
-use Rattle.mt_answers.specs.declared.command.TidyOption.TheVariants.{Spare, Chunk}
-use Rattle.mt_answers.specs.CommandLine.{IsSound, IsSoundSerial, IsSoundThreaded, command_of, command_of_one, command_of_three, threaded_of, gran_as, gran_with, index_of, is_text, log_of, most_accesses, number_of, of_dump, option_of, page_at, private_with, proc_with, tidy_with, tidy_with_both, usual_chunk, usual_spare}
+use Rattle.mt_answers.specs.declared.command.DumpCommand.TheVariants.{Page}
+use Rattle.mt_answers.specs.declared.command.TidyOptions.{TidyOptions}
+use Rattle.mt_answers.specs.CommandLine.{IsSound, IsSoundSerial, IsSoundThreaded, command_of, command_of_one, command_of_three, threaded_of, gran_as, gran_with, index_of, is_text, log_of, most_accesses, number_of, of_dump, option_of, options_with, options_with_both, page_at, private_with, proc_with, tidy_with, usual_options}
 
 -- what a command asks is within its limits
 abbrev IsSoundCommand : Command → Type 0
@@ -55,39 +54,21 @@ sound_page (Ok address) (Some index) small = by_address (nat_lt address (2 ^ 52)
     by_address true test = (ltb-true _ _ test, small index refl)
     by_address false test = tt
 
-sound_with : (option : Option TidyOption) → IfSome (tidy_with option) IsSound
-sound_with None = tt
-sound_with (Some (Spare spare)) = tt
-sound_with (Some (Chunk chunk)) = tt
+sound_tidy : (options : Option TidyOptions) → IfSome (tidy_with options) IsSound
+sound_tidy None = tt
+sound_tidy (Some options) = tt
 
-sound_with_both : (first second : Option TidyOption) → IfSome (tidy_with_both first second) IsSound
-sound_with_both None second = tt
-sound_with_both (Some option) None = of_one option
-  where
-    of_one : (o : TidyOption) → IfSome (tidy_with_both (Some o) None) IsSound
-    of_one (Spare spare) = tt
-    of_one (Chunk chunk) = tt
-sound_with_both (Some (Spare spare)) (Some (Spare other)) = tt
-sound_with_both (Some (Spare spare)) (Some (Chunk chunk)) = tt
-sound_with_both (Some (Chunk chunk)) (Some (Spare spare)) = tt
-sound_with_both (Some (Chunk chunk)) (Some (Chunk other)) = tt
-
-sound_as : (log : Option ℕ) (command : Option DumpCommand) → ((g : ℕ) → log ≡ Some g → g ≤ 28) → IfSome (gran_as log command) IsSound
-sound_as None command small = tt
+sound_as : (log : Option ℕ) (options : Option TidyOptions) → ((g : ℕ) → log ≡ Some g → g ≤ 28) → IfSome (gran_as log options) IsSound
+sound_as None options small = tt
 sound_as (Some log) None small = tt
-sound_as (Some log) (Some Check) small = tt
-sound_as (Some log) (Some Show) small = tt
-sound_as (Some log) (Some Types) small = tt
-sound_as (Some log) (Some (Page address index)) small = tt
-sound_as (Some log) (Some (Tidy spare chunk)) small = small log refl
-sound_as (Some log) (Some (Gran other spare chunk)) small = tt
+sound_as (Some log) (Some options) small = small log refl
 
 small_log : (size : Result ℕ NumberFault) (g : ℕ) → option_and_then (λ n. log_among n 0 29) (result_ok size) ≡ Some g → g ≤ 28
 small_log (Ok size) g is = ((size_is size g).0 is).0
 small_log (Err fault) g is = absurd (cc is)
 
-sound_gran : (size : List ℕ) (command : Option DumpCommand) → IfSome (gran_with size command) IsSound
-sound_gran size command = sound_as (log_of size) command (small_log (hex_number size))
+sound_gran : (size : List ℕ) (options : Option TidyOptions) → IfSome (gran_with size options) IsSound
+sound_gran size options = sound_as (log_of size) options (small_log (hex_number size))
 
 sound_make : (number : Option ℕ) → IfSome (option_map (λ n. Serial (Make n)) number) IsSoundCommand
 sound_make None = tt
@@ -118,24 +99,24 @@ sound_proc (Ok cpus) small = by_test (nat_lt 0 cpus) refl
 sound_one : (name : List ℕ) → IfSome (command_of_one name) IsSoundCommand
 sound_one name =
     choice (is_text name (codes "check")) _ _ tt
-    (choice (is_text name (codes "show")) _ _ tt (choice (is_text name (codes "types")) _ _ tt (choice (is_text name (codes "tidy")) (Some (Serial (Dump (Tidy usual_spare usual_chunk)))) _ tt (choice (is_text name (codes "replay")) (Some (Threaded Replay)) _ tt (choice (is_text name (codes "--help")) (Some (Serial Help)) _ tt (choice (is_text name (codes "--version")) (Some (Serial Version)) None tt tt))))))
+    (choice (is_text name (codes "show")) _ _ tt (choice (is_text name (codes "types")) _ _ tt (choice (is_text name (codes "tidy")) (of_dump (tidy_with (Some usual_options))) _ tt (choice (is_text name (codes "replay")) (Some (Threaded Replay)) _ tt (choice (is_text name (codes "--help")) (Some (Serial Help)) _ tt (choice (is_text name (codes "--version")) (Some (Serial Version)) None tt tt))))))
 
 sound_three : (name first second : List ℕ) → IfSome (command_of_three name first second) IsSoundCommand
 sound_three name first second =
     choice (is_text name (codes "page")) _ _ (on_dump _ (sound_page (hex_number first) (index_of second) (index_below second)))
-    (choice (is_text name (codes "tidy")) _ _ (on_dump _ (sound_with_both (option_of first) (option_of second)))
-    (choice (is_text name (codes "gran")) _ None (on_dump _ (sound_gran first (tidy_with (option_of second)))) tt))
+    (choice (is_text name (codes "tidy")) _ _ (on_dump _ (sound_tidy (options_with_both (option_of first) (option_of second))))
+    (choice (is_text name (codes "gran")) _ None (on_dump _ (sound_gran first (options_with (option_of second)))) tt))
 
 sound : (words : List (List ℕ)) → IfSome (command_of words) IsSoundCommand
 sound [] = tt
 sound (name ∷ []) = sound_one name
 sound (name ∷ option ∷ []) =
-    choice (is_text name (codes "tidy")) _ _ (on_dump _ (sound_with (option_of option)))
-    (choice (is_text name (codes "gran")) _ _ (on_dump _ (sound_gran option (Some (Tidy usual_spare usual_chunk)))) (choice (is_text name (codes "make")) _ _ (sound_make (number_of option))
+    choice (is_text name (codes "tidy")) _ _ (on_dump _ (sound_tidy (options_with (option_of option))))
+    (choice (is_text name (codes "gran")) _ _ (on_dump _ (sound_gran option (Some usual_options))) (choice (is_text name (codes "make")) _ _ (sound_make (number_of option))
     (choice (is_text name (codes "big")) _ _ (sound_big (number_of option)) (choice (is_text name (codes "proc")) _ None (sound_proc (decimal_number option 16) (decimal_within option 16)) tt))))
 sound (name ∷ first ∷ second ∷ []) = sound_three name first second
 sound (name ∷ first ∷ second ∷ third ∷ []) =
-    choice (is_text name (codes "gran")) _ _ (on_dump _ (sound_gran first (tidy_with_both (option_of second) (option_of third))))
+    choice (is_text name (codes "gran")) _ _ (on_dump _ (sound_gran first (options_with_both (option_of second) (option_of third))))
     (choice (is_text name (codes "private")) _ None (sound_private (number_of first) (number_of second) (result_ok (decimal_number third most_accesses))) tt)
 sound (name ∷ first ∷ second ∷ third ∷ fourth ∷ more) = tt
 

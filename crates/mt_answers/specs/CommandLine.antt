@@ -17,6 +17,7 @@ use Rattle.mt_answers.specs.declared.command.DumpCommand.{DumpCommand}
 use Rattle.mt_answers.specs.declared.command.DumpCommand.TheVariants.{Check, Show, Types, Page, Tidy, Gran}
 use Rattle.mt_answers.specs.declared.command.TidyOption.{TidyOption}
 use Rattle.mt_answers.specs.declared.command.TidyOption.TheVariants.{Spare, Chunk}
+use Rattle.mt_answers.specs.declared.command.TidyOptions.{TidyOptions}
 
 abbrev pub is_text : List ℕ → List ℕ → Bool
 is_text word text = pointwise nat_eq word text
@@ -28,19 +29,11 @@ usual_spare = 1
 abbrev pub usual_chunk : ℕ
 usual_chunk = 0x10000000
 
+abbrev pub usual_options : TidyOptions
+usual_options = record { spare = usual_spare; chunk = usual_chunk }
+
 abbrev pub of_dump : Option DumpCommand → Option Command
 of_dump command = option_map (λ c. Serial (Dump c)) command
-
-abbrev pub command_of_one : List ℕ → Option Command
-command_of_one name =
-    if is_text name (codes "check") then Some (Serial (Dump Check))
-    else if is_text name (codes "show") then Some (Serial (Dump Show))
-    else if is_text name (codes "types") then Some (Serial (Dump Types))
-    else if is_text name (codes "tidy") then Some (Serial (Dump (Tidy usual_spare usual_chunk)))
-    else if is_text name (codes "replay") then Some (Threaded Replay)
-    else if is_text name (codes "--help") then Some (Serial Help)
-    else if is_text name (codes "--version") then Some (Serial Version)
-    else None
 
 -- what stands behind a text at the front of a word
 abbrev pub behind : List ℕ → List ℕ → Option (List ℕ)
@@ -52,28 +45,32 @@ option_of word =
     option_map_or (λ digits. option_map (λ n. Spare n) (result_ok (decimal_number digits 32))) (behind (codes "spare=") word)
     (option_and_then (λ digits. option_map (λ n. Chunk n) (result_ok (hex_number digits))) (behind (codes "chunk=") word))
 
-abbrev pub tidy_with : Option TidyOption → Option DumpCommand
-tidy_with (Some (Spare spare)) = Some (Tidy spare usual_chunk)
-tidy_with (Some (Chunk chunk)) = Some (Tidy usual_spare chunk)
-tidy_with None = None
+abbrev pub options_with : Option TidyOption → Option TidyOptions
+options_with (Some (Spare spare)) = Some (record { spare = spare; chunk = usual_chunk })
+options_with (Some (Chunk chunk)) = Some (record { spare = usual_spare; chunk = chunk })
+options_with None = None
 
 -- each option stands at most once
-abbrev pub tidy_with_both : Option TidyOption → Option TidyOption → Option DumpCommand
-tidy_with_both (Some (Spare spare)) (Some (Chunk chunk)) = Some (Tidy spare chunk)
-tidy_with_both (Some (Chunk chunk)) (Some (Spare spare)) = Some (Tidy spare chunk)
-tidy_with_both first second = None
+abbrev pub options_with_both : Option TidyOption → Option TidyOption → Option TidyOptions
+options_with_both (Some (Spare spare)) (Some (Chunk chunk)) = Some (record { spare = spare; chunk = chunk })
+options_with_both (Some (Chunk chunk)) (Some (Spare spare)) = Some (record { spare = spare; chunk = chunk })
+options_with_both first second = None
+
+abbrev pub tidy_with : Option TidyOptions → Option DumpCommand
+tidy_with (Some options) = Some (Tidy options.spare options.chunk)
+tidy_with None = None
 
 -- a power of two from 1000H to 10000000000H
 abbrev pub log_of : List ℕ → Option ℕ
 log_of size = option_and_then (λ n. log_among n 0 29) (result_ok (hex_number size))
 
 -- `gran` has a size before the options of `tidy`
-abbrev pub gran_as : Option ℕ → Option DumpCommand → Option DumpCommand
-gran_as (Some log) (Some (Tidy spare chunk)) = Some (Gran log spare chunk)
-gran_as log command = None
+abbrev pub gran_as : Option ℕ → Option TidyOptions → Option DumpCommand
+gran_as (Some log) (Some options) = Some (Gran log options.spare options.chunk)
+gran_as log options = None
 
-abbrev pub gran_with : List ℕ → Option DumpCommand → Option DumpCommand
-gran_with size command = gran_as (log_of size) command
+abbrev pub gran_with : List ℕ → Option TidyOptions → Option DumpCommand
+gran_with size options = gran_as (log_of size) options
 
 -- a decimal number of 64 bits
 abbrev pub number_of : List ℕ → Option ℕ
@@ -93,10 +90,21 @@ abbrev pub proc_with : Result ℕ NumberFault → Option Command
 proc_with (Ok cpus) = if nat_lt 0 cpus then Some (Threaded (Proc cpus)) else None
 proc_with (Err fault) = None
 
+abbrev pub command_of_one : List ℕ → Option Command
+command_of_one name =
+    if is_text name (codes "check") then Some (Serial (Dump Check))
+    else if is_text name (codes "show") then Some (Serial (Dump Show))
+    else if is_text name (codes "types") then Some (Serial (Dump Types))
+    else if is_text name (codes "tidy") then of_dump (tidy_with (Some usual_options))
+    else if is_text name (codes "replay") then Some (Threaded Replay)
+    else if is_text name (codes "--help") then Some (Serial Help)
+    else if is_text name (codes "--version") then Some (Serial Version)
+    else None
+
 abbrev pub command_of_two : List ℕ → List ℕ → Option Command
 command_of_two name option =
-    if is_text name (codes "tidy") then of_dump (tidy_with (option_of option))
-    else if is_text name (codes "gran") then of_dump (gran_with option (Some (Tidy usual_spare usual_chunk)))
+    if is_text name (codes "tidy") then of_dump (tidy_with (options_with (option_of option)))
+    else if is_text name (codes "gran") then of_dump (gran_with option (Some usual_options))
     else if is_text name (codes "make") then option_map (λ n. Serial (Make n)) (number_of option)
     else if is_text name (codes "big") then option_map (λ n. Threaded (Big n)) (number_of option)
     else if is_text name (codes "proc") then proc_with (decimal_number option 16)
@@ -115,13 +123,13 @@ page_at address index = None
 abbrev pub command_of_three : List ℕ → List ℕ → List ℕ → Option Command
 command_of_three name first second =
     if is_text name (codes "page") then of_dump (page_at (hex_number first) (index_of second))
-    else if is_text name (codes "tidy") then of_dump (tidy_with_both (option_of first) (option_of second))
-    else if is_text name (codes "gran") then of_dump (gran_with first (tidy_with (option_of second)))
+    else if is_text name (codes "tidy") then of_dump (tidy_with (options_with_both (option_of first) (option_of second)))
+    else if is_text name (codes "gran") then of_dump (gran_with first (options_with (option_of second)))
     else None
 
 abbrev pub command_of_four : List ℕ → List ℕ → List ℕ → List ℕ → Option Command
 command_of_four name first second third =
-    if is_text name (codes "gran") then of_dump (gran_with first (tidy_with_both (option_of second) (option_of third)))
+    if is_text name (codes "gran") then of_dump (gran_with first (options_with_both (option_of second) (option_of third)))
     else if is_text name (codes "private") then private_with (number_of first) (number_of second) (result_ok (decimal_number third most_accesses))
     else None
 

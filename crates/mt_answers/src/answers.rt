@@ -1,7 +1,8 @@
-ghost use Rattle.std.specs.Prelude.{◌≡◌, ◌≢◌, ◌<◌, ◌≤◌, ◌^◌, ◌↔◌, ℕ, List, None, Some, IfSome};
+ghost use Rattle.std.specs.Prelude.{◌≡◌, ◌≢◌, ◌<◌, ◌≤◌, ◌^◌, ◌↔◌, ℕ, List, IfErr, IfOk, MatchResult, None, OnErr, Some};
 ghost use Rattle.mt_ports.specs.Causes.{StatusHasCause};
 ghost use Rattle.mt_regs.specs.Faults.{IsAccepted};
 ghost use Rattle.mt_regs.specs.Agreement.{first_refusal};
+ghost use Rattle.mt_dump.specs.Dumps.{first_file};
 ghost use Rattle.mt_text.specs.Feed.{GaveTooMuch};
 ghost use Rattle.mt_answers.specs.declared.command.DumpCommand.TheVariants.{Check, Show, Types, Page, Tidy, Gran};
 ghost use Rattle.mt_answers.specs.CommandLine.{IsSound, MayTakeMemory};
@@ -27,29 +28,18 @@ use mt_tidy::{TooFew, WorkArea, tidy_enabled};
 use mt_types::page_runs;
 use std::alloc::Global;
 
-// The first file that isn't accepted, for a command that wants each to be: every one but `show`.
-fn refusal(d: &Dump, command: DumpCommand) -> Option<(u32, Fault)>
-    ensures found { command ≢ Show → result ≡ first_refusal d.now.files }
-    ensures show { command ≡ Show → result ≡ None }
-    ensures short { IfSome result (λ found. HasThreeDigits found.1.msr) }
+// Returns processor 0's file. Fails with the first refusal if a file isn't accepted.
+fn accepted(d: &Dump) -> Result<&RegFile, (u32, Fault)>
+    ensures file { IfOk result (λ f. f.now ≡ first_file d.now) }
+    ensures accepted { IfOk result (λ f. IsAccepted f.now) }
+    ensures refusal { MatchResult result (λ _. first_refusal d.now.files ≡ None) (λ found. first_refusal d.now.files ≡ Some found) }
+    ensures short { IfErr result (λ found. HasThreeDigits found.1.msr) }
 {
-    if let DumpCommand::Show = command {
-        return None;
+    d.is_dump(); // a fact for the proof
+    match first_refusal(d.files.as_slice()) {
+        None => Ok(d.first_file()),
+        Some(found) => Err(found),
     }
-    first_refusal(d.files.as_slice())
-}
-
-// Names the first file that isn't accepted, and its register at fault.
-fn refuse<K: Sink>(d: &Dump, k: u32, fault: &Fault, sink: &mut K, command: DumpCommand) -> Status
-    requires fault { first_refusal d.now.files ≡ Some (k, fault.now) }
-    requires short { HasThreeDigits fault.now.msr }
-    requires command { command ≢ Show }
-    ensures bytes { Answers (Answer d.now command) (K.taken sink.old) (K.taken sink.new) result }
-    ensures no_memory { result ≢ Status.NoMemory }
-    ensures cause { StatusHasCause Status.WriteFault (K.faults sink.old) (K.faults sink.new) result }
-{
-    let line = dump_refused_line(d.version, k, fault);
-    written(sink, line.as_slice(), Status::Refused)
 }
 
 // Says that each file is accepted, and whether they are equal.
@@ -150,24 +140,35 @@ fn grained<K: Sink>(
     }
 }
 
-// Answers a command about a dump whose files are all accepted, unless it is `show`: but for `check` and `show`, about
-// processor 0's file.
-fn answer_accepted<K: Sink>(alloc: Global, command: DumpCommand, d: &Dump, sink: &mut K) -> Status
-    requires accepted { command ≢ Show → first_refusal d.now.files ≡ None }
-    requires command { IsSound command }
-    ensures bytes { Answers (Answer d.now command) (K.taken sink.old) (K.taken sink.new) result }
-    ensures no_memory { result ≡ Status.NoMemory → MayTakeMemory (Serial (OfDump command)) }
-    ensures cause { StatusHasCause Status.WriteFault (K.faults sink.old) (K.faults sink.new) result }
+// Writes what a command answers, and returns the status. Fails with the first refusal if the command isn't `show`
+// and a file isn't accepted, and then writes nothing.
+fn answer_or_refuse<K: Sink>(
+    alloc: Global,
+    command: DumpCommand,
+    d: &Dump,
+    sink: &mut K,
+) -> Result<Status, (u32, Fault)>
+    requires { IsSound command }
+    ensures bytes { IfOk result (Answers (Answer d.now command) (K.taken sink.old) (K.taken sink.new)) }
+    ensures no_memory { IfOk result (λ status. status ≡ Status.NoMemory → MayTakeMemory (Serial (OfDump command))) }
+    ensures cause { IfOk result (StatusHasCause Status.WriteFault (K.faults sink.old) (K.faults sink.new)) }
+    ensures refused { OnErr result (command ≢ Show) }
+    ensures refusal { IfErr result (λ found. first_refusal d.now.files ≡ Some found) }
+    ensures short { IfErr result (λ found. HasThreeDigits found.1.msr) }
+    ensures kept { OnErr result (sink.new ≡ sink.old) }
 {
-    d.is_dump(); // a fact for the proof
-    let f = d.first_file();
     match command {
-        DumpCommand::Check => check(d, sink),
-        DumpCommand::Show => show(d, sink),
-        DumpCommand::Types => types(alloc, f, sink),
-        DumpCommand::Page { address, index } => page(f, address, index, sink),
-        DumpCommand::Tidy { spare, chunk } => tidied(f, spare, chunk, sink),
-        DumpCommand::Gran { log, spare, chunk } => grained(alloc, f, log, spare, chunk, sink),
+        DumpCommand::Show => Ok(show(d, sink)),
+        DumpCommand::Check => {
+            accepted(d)?;
+            Ok(check(d, sink))
+        }
+        DumpCommand::Types => Ok(types(alloc, accepted(d)?, sink)),
+        DumpCommand::Page { address, index } => Ok(page(accepted(d)?, address, index, sink)),
+        DumpCommand::Tidy { spare, chunk } => Ok(tidied(accepted(d)?, spare, chunk, sink)),
+        DumpCommand::Gran { log, spare, chunk } => {
+            Ok(grained(alloc, accepted(d)?, log, spare, chunk, sink))
+        }
     }
 }
 
@@ -178,9 +179,12 @@ pub fn answer<K: Sink>(alloc: Global, command: DumpCommand, d: &Dump, sink: &mut
     ensures no_memory { result ≡ Status.NoMemory → MayTakeMemory (Serial (OfDump command)) }
     ensures cause { StatusHasCause Status.WriteFault (K.faults sink.old) (K.faults sink.new) result }
 {
-    match refusal(d, command) {
-        None => answer_accepted(alloc, command, d, sink),
-        Some((k, fault)) => refuse(d, k, &fault, sink, command),
+    match answer_or_refuse(alloc, command, d, sink) {
+        Ok(status) => status,
+        Err((k, fault)) => {
+            let line = dump_refused_line(d.version, k, &fault);
+            written(sink, line.as_slice(), Status::Refused)
+        }
     }
 }
 

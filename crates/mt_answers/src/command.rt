@@ -58,3 +58,10 @@ pub enum TidyOption {
     Spare(u8),
     Chunk(u64),
 }
+
+/// What the options of `tidy` and `gran` say, with the usual for those that are left out.
+#[derive(Clone, Copy)]
+pub struct TidyOptions {
+    pub spare: u8,
+    pub chunk: u64,
+}

@@ -12,7 +12,7 @@ mod texts;
 mod words;
 
 pub use answers::{answer, answer_input, make};
-pub use command::{Command, DumpCommand, SerialCommand, ThreadedCommand, TidyOption};
+pub use command::{Command, DumpCommand, SerialCommand, ThreadedCommand, TidyOption, TidyOptions};
 pub use generator::{drawn, make_text, stepped};
 pub use help::{help_text, version_text};
 pub use lines::{disabled_line, lost_line, page_text, run_line, too_few_line, used_line};

@@ -1,9 +1,9 @@
 ghost use Rattle.std.specs.Prelude.{◌≡◌, ◌≤◌, ◌<◌, ◌+◌, ◌^◌, map, string_bytes, IfSome, MatchOption};
 ghost use Rattle.std.specs.Result.{result_ok};
 ghost use Rattle.mt_text.specs.Number.{decimal_number};
-ghost use Rattle.mt_answers.specs.CommandLine.{behind, command_of, command_of_four, command_of_one, command_of_three, command_of_two, gran_as, gran_with, index_of, log_of, most_accesses, number_of, of_dump, option_of, private_with, proc_with, tidy_with, tidy_with_both};
+ghost use Rattle.mt_answers.specs.CommandLine.{behind, command_of, command_of_four, command_of_one, command_of_three, command_of_two, gran_with, index_of, log_of, most_accesses, number_of, of_dump, option_of, options_with, options_with_both, private_with, proc_with, tidy_with};
 
-use crate::{Command, DumpCommand, SerialCommand, ThreadedCommand, TidyOption};
+use crate::{Command, DumpCommand, SerialCommand, ThreadedCommand, TidyOption, TidyOptions};
 use mt_gran::granule_log;
 use mt_text::{decimal, hex64};
 
@@ -11,8 +11,7 @@ const USUAL_SPARE: u8 = 1;
 
 const USUAL_CHUNK: u64 = 0x1000_0000;
 
-// `tidy` without options.
-const USUAL_TIDY: DumpCommand = DumpCommand::Tidy {
+const USUAL_OPTIONS: TidyOptions = TidyOptions {
     spare: USUAL_SPARE,
     chunk: USUAL_CHUNK,
 };
@@ -44,7 +43,7 @@ fn command_of_one(name: &[u8]) -> Option<Command>
     } else if name == b"types".as_slice() {
         Some(Command::Serial(SerialCommand::Dump(DumpCommand::Types)))
     } else if name == b"tidy".as_slice() {
-        Some(Command::Serial(SerialCommand::Dump(USUAL_TIDY)))
+        of_dump(tidy_with(Some(USUAL_OPTIONS)))
     } else if name == b"replay".as_slice() {
         Some(Command::Threaded(ThreadedCommand::Replay))
     } else if name == b"--help".as_slice() {
@@ -82,15 +81,15 @@ fn option_of(word: &[u8]) -> Option<TidyOption>
     }
 }
 
-fn tidy_with(option: Option<TidyOption>) -> Option<DumpCommand>
-    ensures { result ≡ tidy_with option }
+fn options_with(option: Option<TidyOption>) -> Option<TidyOptions>
+    ensures { result ≡ options_with option }
 {
     match option {
-        Some(TidyOption::Spare(spare)) => Some(DumpCommand::Tidy {
+        Some(TidyOption::Spare(spare)) => Some(TidyOptions {
             spare,
             chunk: USUAL_CHUNK,
         }),
-        Some(TidyOption::Chunk(chunk)) => Some(DumpCommand::Tidy {
+        Some(TidyOption::Chunk(chunk)) => Some(TidyOptions {
             spare: USUAL_SPARE,
             chunk,
         }),
@@ -98,18 +97,25 @@ fn tidy_with(option: Option<TidyOption>) -> Option<DumpCommand>
     }
 }
 
-fn tidy_with_both(first: Option<TidyOption>, second: Option<TidyOption>) -> Option<DumpCommand>
-    ensures { result ≡ tidy_with_both first second }
+fn options_with_both(first: Option<TidyOption>, second: Option<TidyOption>) -> Option<TidyOptions>
+    ensures { result ≡ options_with_both first second }
 {
     match (first, second) {
         (Some(TidyOption::Spare(spare)), Some(TidyOption::Chunk(chunk))) => {
-            Some(DumpCommand::Tidy { spare, chunk })
+            Some(TidyOptions { spare, chunk })
         }
         (Some(TidyOption::Chunk(chunk)), Some(TidyOption::Spare(spare))) => {
-            Some(DumpCommand::Tidy { spare, chunk })
+            Some(TidyOptions { spare, chunk })
         }
         _ => None,
     }
+}
+
+fn tidy_with(options: Option<TidyOptions>) -> Option<DumpCommand>
+    ensures { result ≡ tidy_with options }
+{
+    let TidyOptions { spare, chunk } = options?;
+    Some(DumpCommand::Tidy { spare, chunk })
 }
 
 fn log_of(size: &[u8]) -> Option<u8>
@@ -122,21 +128,12 @@ fn log_of(size: &[u8]) -> Option<u8>
 }
 
 // `gran` has a size before the options of `tidy`.
-fn gran_as(log: Option<u8>, command: Option<DumpCommand>) -> Option<DumpCommand>
-    ensures { result ≡ gran_as log command }
+fn gran_with(size: &[u8], options: Option<TidyOptions>) -> Option<DumpCommand>
+    ensures { result ≡ gran_with size.now options }
 {
-    match (log, command) {
-        (Some(log), Some(DumpCommand::Tidy { spare, chunk })) => {
-            Some(DumpCommand::Gran { log, spare, chunk })
-        }
-        _ => None,
-    }
-}
-
-fn gran_with(size: &[u8], command: Option<DumpCommand>) -> Option<DumpCommand>
-    ensures { result ≡ gran_with size.now command }
-{
-    gran_as(log_of(size), command)
+    let log = log_of(size)?;
+    let TidyOptions { spare, chunk } = options?;
+    Some(DumpCommand::Gran { log, spare, chunk })
 }
 
 // A decimal number of 64 bits.
@@ -180,9 +177,9 @@ fn command_of_two(name: &[u8], option: &[u8]) -> Option<Command>
     ensures { result ≡ command_of_two name.now option.now }
 {
     if name == b"tidy".as_slice() {
-        of_dump(tidy_with(option_of(option)))
+        of_dump(tidy_with(options_with(option_of(option))))
     } else if name == b"gran".as_slice() {
-        of_dump(gran_with(option, Some(USUAL_TIDY)))
+        of_dump(gran_with(option, Some(USUAL_OPTIONS)))
     } else if name == b"make".as_slice() {
         match number_of(option) {
             Some(n) => Some(Command::Serial(SerialCommand::Make(n))),
@@ -222,9 +219,10 @@ fn command_of_three(name: &[u8], first: &[u8], second: &[u8]) -> Option<Command>
         };
     }
     if name == b"tidy".as_slice() {
-        of_dump(tidy_with_both(option_of(first), option_of(second)))
+        let options = options_with_both(option_of(first), option_of(second));
+        of_dump(tidy_with(options))
     } else if name == b"gran".as_slice() {
-        of_dump(gran_with(first, tidy_with(option_of(second))))
+        of_dump(gran_with(first, options_with(option_of(second))))
     } else {
         None
     }
@@ -234,7 +232,7 @@ fn command_of_four(name: &[u8], first: &[u8], second: &[u8], third: &[u8]) -> Op
     ensures { result ≡ command_of_four name.now first.now second.now third.now }
 {
     if name == b"gran".as_slice() {
-        let options = tidy_with_both(option_of(second), option_of(third));
+        let options = options_with_both(option_of(second), option_of(third));
         of_dump(gran_with(first, options))
     } else if name == b"private".as_slice() {
         private_with(first, second, third)

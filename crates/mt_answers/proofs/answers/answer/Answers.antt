@@ -1,11 +1,14 @@
-use Rattle.std.proofs.Common.{◌∙◌, sym}
+use Rattle.std.proofs.Common.{◌∙◌, ap, subst}
+use Rattle.mt_dump.specs.Dumps.{Dump}
+use Rattle.mt_output.specs.Lines.{dump_refused_line}
+use Rattle.mt_answers.specs.Answer.{Answer, refused}
+use Rattle.mt_answers.specs.Written.{Answers}
+use Rattle.mt_answers.proofs.Answering.{answers_with}
 use Rattle.mt_answers.proofs.answers.answer.Goals as goal
 
-pub answer_accepted-requires-clause-accepted : goal.answer_accepted-requires-clause-accepted
-answer_accepted-requires-clause-accepted g c = λ other. sym (c.refusal.ensures.found other) ∙ c.in-None.is
-
-pub refuse-requires-clause-fault : goal.refuse-requires-clause-fault
-refuse-requires-clause-fault g c = sym (c.refusal.ensures.found (λ is. cc (c.refusal.ensures.show is, c.in-Some.is))) ∙ c.in-Some.is
-
-pub returns-in-Some : goal.returns-in-Some
-returns-in-Some g c = record { bytes = c.refuse.ensures.bytes; no_memory = λ is. absurd (c.refuse.ensures.no_memory is); cause = c.refuse.ensures.cause }
+pub returns-in-Err-clause-bytes : goal.returns-in-Err-clause-bytes
+returns-in-Err-clause-bytes g c =
+    let says = c.in-Err.ensures in
+    subst (λ k. Answers (Answer c.args.d.now c.args.command) (g.K.Sink.taken k) (g.K.Sink.taken c.written.new.sink) c.written.result) says.kept
+    (answers_with (Answer c.args.d.now c.args.command) _ _ _ _ _ _ (refused c.args.command c.in-Err.k c.in-Err.fault says.refused says.refusal)
+    (c.as_slice.ensures.value ∙ c.dump_refused_line-line.ensures ∙ ap (λ (d : Dump). dump_refused_line d.version c.in-Err.k c.in-Err.fault) c.d.view_is) c.written.ensures.bytes)
