@@ -21,10 +21,10 @@ final_of_file : (file : RegisterFile) (command : DumpCommand) (text : List ℕ) 
 unfolding IsFinal
 final_of_file file command text status (typed runs are) = inl refl
 final_of_file file command text status (paged address index) = inl refl
-final_of_file file command text status (tidied spare chunk used new is) = inl refl
+final_of_file file command text status (tidied spare chunk new is) = inl refl
 final_of_file file command text status (too_few spare chunk needs has is) = inr (inr (inr (inl refl)))
 final_of_file file command text status (disabled spare chunk off) = inr (inr (inr (inr refl)))
-final_of_file file command text status (grained log spare chunk used lost parts new is) = inl refl
+final_of_file file command text status (grained log spare chunk new is) = inl refl
 final_of_file file command text status (gran_too_few log spare chunk needs has is) = inr (inr (inr (inl refl)))
 final_of_file file command text status (gran_disabled log spare chunk off) = inr (inr (inr (inr refl)))
 
@@ -66,10 +66,10 @@ file_fits : (file : RegisterFile) (command : DumpCommand) (text : List ℕ) (sta
 unfolding Fits
 file_fits file command text status (typed runs are) = (λ e. absurd (cc e), λ e. absurd (cc e))
 file_fits file command text status (paged address index) = (λ e. absurd (cc e), λ e. absurd (cc e))
-file_fits file command text status (tidied spare chunk used new is) = (λ e. tt, λ e. tt)
+file_fits file command text status (tidied spare chunk new is) = (λ e. tt, λ e. tt)
 file_fits file command text status (too_few spare chunk needs has is) = (λ e. tt, λ e. tt)
 file_fits file command text status (disabled spare chunk off) = (λ e. tt, λ e. tt)
-file_fits file command text status (grained log spare chunk used lost parts new is) = (λ e. tt, λ e. tt)
+file_fits file command text status (grained log spare chunk new is) = (λ e. tt, λ e. tt)
 file_fits file command text status (gran_too_few log spare chunk needs has is) = (λ e. tt, λ e. tt)
 file_fits file command text status (gran_disabled log spare chunk off) = (λ e. tt, λ e. tt)
 

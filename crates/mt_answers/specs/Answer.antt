@@ -12,7 +12,10 @@ use Rattle.mt_types.specs.Runs.{IsRunsOf}
 use Rattle.mt_dump.specs.Canon.{canon}
 use Rattle.mt_dump.specs.Dumps.{Dump, dump_of, first_file}
 use Rattle.mt_tidy.specs.Kept.{IsTidy, NeedsMore}
+use Rattle.mt_tidy.specs.Tidied.{tidying}
+use Rattle.mt_tidy.specs.declared.fits.Tidied.{Tidied}
 use Rattle.mt_gran.specs.Grained.{IsGrained, NeedsMore as GranNeedsMore}
+use Rattle.mt_gran.specs.declared.grains.Grained.{Grained}
 use Rattle.mt_answers.specs.declared.command.DumpCommand.{DumpCommand}
 use Rattle.mt_answers.specs.declared.command.DumpCommand.TheVariants.{Check, Show, Types, Page, Tidy, Gran}
 use Rattle.mt_output.specs.Lines.{dump_refused_line}
@@ -29,12 +32,12 @@ MayChoose other = ⊥
 pub data FileAnswer (file : RegisterFile) : DumpCommand → List ℕ → Status → Type 0 where
   typed : (runs : List Run) → IsRunsOf file runs → FileAnswer file Types (types_text runs) Done
   paged : (address index : ℕ) → FileAnswer file (Page address index) (page_text file address index) Done
-  tidied : (spare chunk used : ℕ) (new : RegisterFile) → IsTidy file chunk spare new used → FileAnswer file (Tidy spare chunk) (used_line used ++ canon (dump_of new)) Done
-  too_few : (spare chunk needs has : ℕ) → NeedsMore file chunk spare needs has → FileAnswer file (Tidy spare chunk) (too_few_line needs has) TooFew
+  tidied : (spare chunk : ℕ) (new : Tidied) → IsTidy (tidying file chunk spare) new → FileAnswer file (Tidy spare chunk) (used_line new.used ++ canon (dump_of new.file)) Done
+  too_few : (spare chunk needs has : ℕ) → NeedsMore (tidying file chunk spare) needs has → FileAnswer file (Tidy spare chunk) (too_few_line needs has) TooFew
   disabled : (spare chunk : ℕ) → is_enabled file ≡ false → FileAnswer file (Tidy spare chunk) (disabled_line file.default_type) Disabled
-  grained : (log spare chunk used lost : ℕ) (parts : List Run) (new : RegisterFile) → IsGrained file log chunk spare new used lost parts
-      → FileAnswer file (Gran log spare chunk) (parts_text parts ++ lost_line lost ++ used_line used ++ canon (dump_of new)) Done
-  gran_too_few : (log spare chunk needs has : ℕ) → GranNeedsMore file log chunk spare needs has → FileAnswer file (Gran log spare chunk) (too_few_line needs has) TooFew
+  grained : (log spare chunk : ℕ) (new : Grained) → IsGrained (tidying file chunk spare) log new
+      → FileAnswer file (Gran log spare chunk) (parts_text new.parts ++ lost_line new.lost ++ used_line new.tidied.used ++ canon (dump_of new.tidied.file)) Done
+  gran_too_few : (log spare chunk needs has : ℕ) → GranNeedsMore (tidying file chunk spare) log needs has → FileAnswer file (Gran log spare chunk) (too_few_line needs has) TooFew
   gran_disabled : (log spare chunk : ℕ) → is_enabled file ≡ false → FileAnswer file (Gran log spare chunk) (disabled_line file.default_type) Disabled
 
 -- What a command answers about the dump that a text shows: each but `show` refuses a dump with a file that isn't accepted, and names the first such file.

@@ -11,10 +11,11 @@ ghost use Rattle.mt_plain.specs.Due.{IsTold, due_status, due_step, event_words, 
 ghost use Rattle.mt_plain.specs.Maps.{IsMapIn, has_map, map_status, no_map_status};
 ghost use Rattle.mt_plain.specs.Plain.{effective_number, effective_status, fault_status, fault_words, file_in, has_no_other_pair, is_file, page_number, page_status};
 ghost use Rattle.mt_plain.specs.Rounding.{IsGranAnswer, places};
-ghost use Rattle.mt_plain.specs.Tidying.{IsTidyAnswer};
+ghost use Rattle.mt_plain.specs.Tidying.{IsTidyAnswer, tidy_places};
 ghost use Rattle.mt_regs.specs.Faults.{IsFirstFault};
 ghost use Rattle.mt_regs.specs.RegisterFile.{IsRegisterFile};
 ghost use Rattle.mt_regs.specs.declared.fault.Fault.{Fault};
+ghost use Rattle.mt_tidy.specs.Tidied.{tidying};
 
 mod layout;
 
@@ -136,7 +137,8 @@ pub extern "C" fn mtrr_tidy(
     need: &mut PlainNeed,
 ) -> u32
     ensures no_file { is_file registers.now ≡ false → (result ≡ 2) × (tidied.new ≡ tidied.old) × (need.new ≡ need.old) }
-    ensures file { is_file registers.now ≡ true → IsTidyAnswer (file_in registers.now) chunk spare result tidied.old tidied.new need.old need.new }
+    ensures file { is_file registers.now ≡ true
+        → IsTidyAnswer (tidying (file_in registers.now) chunk spare) result (tidy_places tidied.old need.old) (tidy_places tidied.new need.new) }
 {
     tidy(registers, spare, chunk, work, tidied, need)
 }
@@ -161,8 +163,8 @@ pub extern "C" fn mtrr_gran(
     ensures no_file { is_file registers.now ≡ false → (result ≡ 2) × (places rounded.new need.new loss.new parts.new ≡ places rounded.old need.old loss.old parts.old) }
     ensures no_granule { is_file registers.now ≡ true → ((log : ℕ) → ¬ IsGranuleSize size log)
         → (result ≡ 11) × (places rounded.new need.new loss.new parts.new ≡ places rounded.old need.old loss.old parts.old) }
-    ensures file { is_file registers.now ≡ true → (log : ℕ) → IsGranuleSize size log
-        → IsGranAnswer (file_in registers.now) log chunk spare result (places rounded.old need.old loss.old parts.old) (places rounded.new need.new loss.new parts.new) }
+    ensures file { is_file registers.now ≡ true → IsGranAnswer (tidying (file_in registers.now) chunk spare) size result
+        (places rounded.old need.old loss.old parts.old) (places rounded.new need.new loss.new parts.new) }
 {
     gran(
         registers, size, spare, chunk, work, rounded, need, loss, parts,

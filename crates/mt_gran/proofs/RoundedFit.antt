@@ -1,5 +1,5 @@
 -- A fit of the rounded types.
-use Rattle.std.proofs.Common.{◌≡◌, ℕ, ◌/◌, ◌^◌, ◌<◌, true, List, [], refl, sym, ap, ◌∙◌, ◌⊎◌, inl, inr, arith}
+use Rattle.std.proofs.Common.{◌≡◌, ℕ, ◌/◌, ◌^◌, ◌<◌, true, List, [], refl, sym, ap, ◌∙◌, ◌⊎◌, inl, inr, arith, subst}
 use Rattle.std.specs.Prelude.{IsTrue, slice_index_or}
 use Rattle.std.proofs.lemmas.Bool.{cases_Bool}
 use Rattle.mt_kinds.specs.declared.mem_type.MemType.{MemType}
@@ -13,13 +13,15 @@ use Rattle.mt_types.specs.Runs.{IsRunsOf}
 use Rattle.mt_types.proofs.Chains.{within_chain}
 use Rattle.mt_types.proofs.Once.{some_run}
 use Rattle.mt_types.proofs.Reading.{no_undefined}
-use Rattle.mt_tidy.specs.Tidied.{IsTidied}
+use Rattle.mt_tidy.specs.Tidied.{IsTidied, Tidying}
 use Rattle.mt_tidy.specs.Wanted.{Gives, IsWanted, is_free, is_supported_type}
 use Rattle.mt_tidy.specs.declared.range.Range.{Range}
 use Rattle.mt_tidy.proofs.Own.{own_runs}
 use Rattle.mt_gran.specs.Granules.{AreRounded, TypedPages, is_whole, lost_pages, pages_of, rounded_kind}
 use Rattle.mt_gran.specs.Marks.{AreRunsOf, lost_mark}
+use Rattle.mt_gran.specs.Parts.{ArePartsOf}
 use Rattle.mt_gran.specs.Grained.{IsGrained, IsLeastRounded, NeedsMore}
+use Rattle.mt_gran.specs.declared.grains.Grained.{Grained}
 use Rattle.mt_gran.proofs.Counts.{default_run}
 use Rattle.mt_gran.proofs.CutMarks.{broken_gets, free_keeps, whole_keeps}
 use Rattle.mt_gran.proofs.LostParts.{parts_of}
@@ -63,42 +65,39 @@ rounded_wanted f good accepted enabled g own wanted are rounded = record {
         let kind = wants.supported k default_run within in
         (kind.0, are.kinds k default_run within page has ∙ kind.1, kind.2)
 
-pub grained : (f : RegisterFile) → IsAccepted f → is_enabled f ≡ true → (g chunk spare : ℕ) (wanted : List Run) → AreRounded (pages_of f) g wanted → (new : RegisterFile) (used : ℕ)
-    → IsTidied f wanted chunk spare new used → (lost : ℕ) → lost ≡ lost_pages (pages_of f) g → (parts : List Run) → AreRunsOf (lost_mark (pages_of f) g) 0 (page_count f) parts
-    → IsGrained f g chunk spare new used lost parts
-grained f accepted enabled g chunk spare wanted rounded new used tidied lost lost_is parts are = record {
+pub grained : (t : Tidying) → IsAccepted t.file → is_enabled t.file ≡ true → (g : ℕ) (wanted : List Run) → AreRounded (pages_of t.file) g wanted → (new : Grained)
+    → IsTidied t wanted new.tidied → new.lost ≡ lost_pages (pages_of t.file) g → AreRunsOf (lost_mark (pages_of t.file) g) 0 (page_count t.file) new.parts → IsGrained t g new
+grained t accepted enabled g wanted rounded new tidied lost_is are = record {
   old_accepted = accepted;
   enabled = enabled;
   wanted = wanted;
   rounded = rounded;
   tidied = tidied;
   kinds = kinds;
-  stays = stays (pages_of f) (pages_of new) g (record { count = ap page_count tidied.file; free = λ page. ap (λ h. is_free h page) tidied.file; kinds = kinds });
+  stays = stays (pages_of t.file) (pages_of new.tidied.file) g (record { count = ap page_count tidied.file; free = λ page. ap (λ h. is_free h page) tidied.file; kinds = kinds });
   lost_is = lost_is;
-  parts_are = parts_of (pages_of f) g (own_types f accepted) parts are;
+  parts_are = parts_of (pages_of t.file) g (own_types t.file accepted) new.parts are;
 }
   where
-    kinds : (page : ℕ) → page < page_count f → page_type new page ≡ rounded_kind (pages_of f) g page
-    kinds page below = elim (cases_Bool (is_free f page)) [
-      | inl free ↦ tidied.free page free ∙ sym (free_keeps (pages_of f) g page free)
-      | inr nonfree ↦ tidied.kinds page below nonfree ∙ kind_rounded (pages_of f) g wanted page rounded below
+    kinds : (page : ℕ) → page < page_count t.file → page_type new.tidied.file page ≡ rounded_kind (pages_of t.file) g page
+    kinds page below = elim (cases_Bool (is_free t.file page)) [
+      | inl free ↦ tidied.free page free ∙ sym (free_keeps (pages_of t.file) g page free)
+      | inr nonfree ↦ tidied.kinds page below nonfree ∙ kind_rounded (pages_of t.file) g wanted page rounded below
     ]
 
-pub own_stays : (f new : RegisterFile) (g chunk spare used lost : ℕ) (parts : List Run) → IsGrained f g chunk spare new used lost parts
-    → (page : ℕ) → page < page_count new → rounded_kind (pages_of new) g page ≡ page_type new page
-own_stays f new g chunk spare used lost parts is page below =
-    let count : page_count new ≡ page_count f = ap page_count is.tidied.file in
+pub own_stays : (t : Tidying) (g : ℕ) (new : Grained) → IsGrained t g new
+    → (page : ℕ) → page < page_count new.tidied.file → rounded_kind (pages_of new.tidied.file) g page ≡ page_type new.tidied.file page
+own_stays t g new is page below =
+    let count : page_count new.tidied.file ≡ page_count t.file = ap page_count is.tidied.file in
     is.stays page (omega (arith, count, below))
 
-pub no_second_parts : (f new newer : RegisterFile) (g chunk spare used lost : ℕ) (parts : List Run) → IsGrained f g chunk spare new used lost parts
-    → (others few number gone : ℕ) (lasts : List Run) → IsGrained new g others few newer number gone lasts → lasts ≡ []
-no_second_parts f new newer g chunk spare used lost parts is others few number gone lasts again =
-    no_parts (pages_of new) g lasts (own_stays f new g chunk spare used lost parts is) again.parts_are
+pub no_second_parts : (t again : Tidying) (g : ℕ) (new newer : Grained) → IsGrained t g new → again.file ≡ new.tidied.file → IsGrained again g newer → newer.parts ≡ []
+no_second_parts t again g new newer is same second =
+    no_parts (pages_of new.tidied.file) g newer.parts (own_stays t g new is) (subst (λ f. ArePartsOf (pages_of f) g newer.parts) same second.parts_are)
 
-pub no_second_loss : (f new newer : RegisterFile) (g chunk spare used lost : ℕ) (parts : List Run) → IsGrained f g chunk spare new used lost parts
-    → (others few number gone : ℕ) (lasts : List Run) → IsGrained new g others few newer number gone lasts → gone ≡ 0
-no_second_loss f new newer g chunk spare used lost parts is others few number gone lasts again =
-    again.lost_is ∙ none_lost (pages_of new) g (own_stays f new g chunk spare used lost parts is)
+pub no_second_loss : (t again : Tidying) (g : ℕ) (new newer : Grained) → IsGrained t g new → again.file ≡ new.tidied.file → IsGrained again g newer → newer.lost ≡ 0
+no_second_loss t again g new newer is same second =
+    second.lost_is ∙ ap (λ f. lost_pages (pages_of f) g) same ∙ none_lost (pages_of new.tidied.file) g (own_stays t g new is)
 
 -- what gives one map of the rounded types gives each
 gives_other : (f : RegisterFile) (g : ℕ) (a b : List Run) → AreRounded (pages_of f) g a → AreRounded (pages_of f) g b → (ranges : List Range) → Gives f a ranges → Gives f b ranges
@@ -116,8 +115,8 @@ one_least f g chunk a b left right =
     let above = right.least.none_shorter first (gives_other f g left.wanted right.wanted left.rounded right.rounded first first_gives) first_allowed in
     omega (arith, first_is, second_is, below, above)
 
-pub used_is_least : (f new : RegisterFile) (g chunk spare used lost : ℕ) (parts : List Run) → IsGrained f g chunk spare new used lost parts → IsLeastRounded f g chunk used
-used_is_least f new g chunk spare used lost parts is =
+pub used_is_least : (t : Tidying) (g : ℕ) (new : Grained) → IsGrained t g new → IsLeastRounded t.file g t.chunk new.tidied.used
+used_is_least t g new is =
     let tidied = is.tidied in
     record {
       wanted = is.wanted;
@@ -128,5 +127,5 @@ used_is_least f new g chunk spare used lost parts is =
       };
     }
 
-pub needs_is_least : (f : RegisterFile) (g chunk spare needs has : ℕ) → NeedsMore f g chunk spare needs has → IsLeastRounded f g chunk needs
-needs_is_least f g chunk spare needs has is = record { wanted = is.wanted; rounded = is.rounded; least = is.few.least }
+pub needs_is_least : (t : Tidying) (g needs has : ℕ) → NeedsMore t g needs has → IsLeastRounded t.file g t.chunk needs
+needs_is_least t g needs has is = record { wanted = is.wanted; rounded = is.rounded; least = is.few.least }

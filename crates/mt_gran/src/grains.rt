@@ -4,8 +4,9 @@ ghost use Rattle.mt_regs.specs.RegisterFile.{is_enabled, page_count};
 ghost use Rattle.mt_types.specs.Runs.{IsRunsOf};
 ghost use Rattle.mt_gran.specs.Granules.{AreRounded, lost_pages, pages_of};
 ghost use Rattle.mt_gran.specs.Grained.{IsGrained, IsWhy, NeedsMore};
-ghost use Rattle.mt_gran.specs.Listed.{runs_in};
+ghost use Rattle.mt_gran.specs.Listed.{grained_in, runs_in};
 ghost use Rattle.mt_gran.specs.Marks.{AreRunsOf, lost_mark};
+ghost use Rattle.mt_tidy.specs.Tidied.{tidying};
 
 use crate::lists::{lost_of, lost_parts, rounded_runs};
 use crate::{GranFault, RunList};
@@ -87,9 +88,9 @@ fn rounded_fit(
     requires accepted { IsAccepted f.now }
     requires enabled { is_enabled f.now ≡ true }
     requires size { g ≤ 28 }
-    ensures ok { IfOk result (λ tidied. IsGrained f.now g chunk spare tidied.file tidied.used lost.new.pages (runs_in lost.new.parts area.new.wanted)) }
+    ensures ok { IfOk result (λ tidied. IsGrained (tidying f.now chunk spare) g (grained_in tidied lost.new area.new.wanted)) }
     ensures few { (lost.new.parts ≤ 306) × (lost.new.parts ≤ length area.new.wanted) }
-    ensures err { IfErr result (λ few. NeedsMore f.now g chunk spare few.needs few.has) }
+    ensures err { IfErr result (λ few. NeedsMore (tidying f.now chunk spare) g few.needs few.has) }
 {
     f.is_register_file(); // a fact for the proof
     let count = own_runs_in(f, &mut area.own);
@@ -116,9 +117,9 @@ pub fn gran_in(
     lost: &mut Lost,
 ) -> Result<Tidied, GranFault>
     requires { g ≤ 28 }
-    ensures ok { IfOk result (λ tidied. IsGrained f.now g chunk spare tidied.file tidied.used lost.new.pages (runs_in lost.new.parts area.new.wanted)) }
+    ensures ok { IfOk result (λ tidied. IsGrained (tidying f.now chunk spare) g (grained_in tidied lost.new area.new.wanted)) }
     ensures few { IfOk result (λ _. (lost.new.parts ≤ 306) × (lost.new.parts ≤ length area.new.wanted)) }
-    ensures err { IfErr result (λ fault. IsWhy f.now g chunk spare fault) }
+    ensures err { IfErr result (IsWhy (tidying f.now chunk spare) g) }
 {
     if let Some(fault) = f.first_fault() {
         return Err(GranFault::Refused(fault));
@@ -136,9 +137,7 @@ pub fn gran_in(
 fn listed(tidied: Tidied, lost: Lost, area: &WorkArea) -> Grained
     requires few { lost.parts ≤ 306 }
     requires places { lost.parts ≤ length area.now.wanted }
-    ensures tidied { result.tidied ≡ tidied }
-    ensures lost { result.lost ≡ lost.pages }
-    ensures parts { result.parts ≡ runs_in lost.parts area.now.wanted }
+    ensures { result ≡ grained_in tidied lost area.now.wanted }
 {
     Grained {
         tidied,
@@ -158,8 +157,8 @@ pub fn gran(
     area: &mut WorkArea,
 ) -> Result<Grained, GranFault>
     requires { g ≤ 28 }
-    ensures ok { IfOk result (λ grained. IsGrained f.now g chunk spare grained.tidied.file grained.tidied.used grained.lost grained.parts) }
-    ensures err { IfErr result (λ fault. IsWhy f.now g chunk spare fault) }
+    ensures ok { IfOk result (IsGrained (tidying f.now chunk spare) g) }
+    ensures err { IfErr result (IsWhy (tidying f.now chunk spare) g) }
 {
     let mut lost = NONE_LOST;
     let tidied = gran_in(f, g, spare, chunk, area, &mut lost)?;
@@ -177,8 +176,8 @@ pub fn gran_enabled(
     requires accepted { IsAccepted f.now }
     requires enabled { is_enabled f.now ≡ true }
     requires size { g ≤ 28 }
-    ensures ok { IfOk result (λ grained. IsGrained f.now g chunk spare grained.tidied.file grained.tidied.used grained.lost grained.parts) }
-    ensures err { IfErr result (λ few. NeedsMore f.now g chunk spare few.needs few.has) }
+    ensures ok { IfOk result (IsGrained (tidying f.now chunk spare) g) }
+    ensures err { IfErr result (λ few. NeedsMore (tidying f.now chunk spare) g few.needs few.has) }
 {
     let mut lost = NONE_LOST;
     let tidied = rounded_fit(f, g, spare, chunk, area, &mut lost)?;

@@ -3,6 +3,7 @@ ghost use Rattle.mt_gran.specs.Sizes.{IsGranuleSize};
 ghost use Rattle.mt_plain.specs.Maps.{overwritten, plain_run};
 ghost use Rattle.mt_plain.specs.Plain.{file_in, is_file};
 ghost use Rattle.mt_plain.specs.Rounding.{IsGranAnswer, places};
+ghost use Rattle.mt_tidy.specs.Tidied.{tidying};
 
 use crate::answers::{DONE, FAULT, NO_FILE};
 use crate::maps::{put_run, room_status, run_words};
@@ -41,8 +42,8 @@ pub fn gran(
     ensures no_file { is_file r.now ≡ false → (result ≡ 2) × (places rounded.new need.new loss.new parts.new ≡ places rounded.old need.old loss.old parts.old) }
     ensures no_granule { is_file r.now ≡ true → ((log : ℕ) → ¬ IsGranuleSize size log)
         → (result ≡ 11) × (places rounded.new need.new loss.new parts.new ≡ places rounded.old need.old loss.old parts.old) }
-    ensures file { is_file r.now ≡ true → (log : ℕ) → IsGranuleSize size log
-        → IsGranAnswer (file_in r.now) log chunk spare result (places rounded.old need.old loss.old parts.old) (places rounded.new need.new loss.new parts.new) }
+    ensures file { is_file r.now ≡ true → IsGranAnswer (tidying (file_in r.now) chunk spare) size result
+        (places rounded.old need.old loss.old parts.old) (places rounded.new need.new loss.new parts.new) }
 {
     let Some(file) = file_of(r) else {
         return NO_FILE;

@@ -1,8 +1,9 @@
 ghost use Rattle.std.specs.Prelude.{◌≡◌, ◌≤◌, ◌-◌, drop, length, map, replicate, take, false, true};
 ghost use Rattle.std.specs.List.{list_all};
 ghost use Rattle.mt_plain.specs.Plain.{as_pair, file_in, has_no_other_pair, is_file, is_zero_pair};
-ghost use Rattle.mt_plain.specs.Tidying.{IsTidyAnswer};
+ghost use Rattle.mt_plain.specs.Tidying.{IsTidyAnswer, tidy_places};
 ghost use Rattle.mt_regs.specs.RegisterFile.{pair_count};
+ghost use Rattle.mt_tidy.specs.Tidied.{tidying};
 
 use crate::answers::{DONE, FAULT, NO_FILE};
 use crate::{PlainNeed, PlainPair, PlainRegisters, file_of};
@@ -83,7 +84,8 @@ pub fn tidy(
     need: &mut PlainNeed,
 ) -> u32
     ensures no_file { is_file r.now ≡ false → (result ≡ 2) × (tidied.new ≡ tidied.old) × (need.new ≡ need.old) }
-    ensures file { is_file r.now ≡ true → IsTidyAnswer (file_in r.now) chunk spare result tidied.old tidied.new need.old need.new }
+    ensures file { is_file r.now ≡ true
+        → IsTidyAnswer (tidying (file_in r.now) chunk spare) result (tidy_places tidied.old need.old) (tidy_places tidied.new need.new) }
 {
     let Some(file) = file_of(r) else {
         return NO_FILE;

@@ -35,7 +35,7 @@ use Rattle.mt_tidy.specs.Wanted.{IsBlock, IsRangeOf, IsWanted, Gives, is_free}
 use Rattle.mt_tidy.specs.declared.rules.Rules.{Rules}
 use Rattle.mt_tidy.specs.Cost.{rules_of}
 use Rattle.mt_tidy.specs.LeastList.{AreOf, AreUsable, IsLeastList}
-use Rattle.mt_tidy.specs.Tidied.{IsTidied, pair_for, with_ranges}
+use Rattle.mt_tidy.specs.Tidied.{IsTidied, pair_for, tidying, with_ranges}
 use Rattle.mt_tidy.proofs.WholeCost.{usable_runs, wanted_kind}
 
 -- the block of a range
@@ -262,7 +262,7 @@ module _ (f : RegisterFile) (wide : 32 ≤ f.width) (narrow : f.width ≤ 52) (a
 -- the file with the ranges of a least list is tidied
 pub tidied_file : (f : RegisterFile) → 32 ≤ f.width → f.width ≤ 52 → IsAccepted f → is_enabled f ≡ true → (wanted : List Run) → IsWanted f wanted
     → (chunk spare : ℕ) (ranges : List Range) → IsLeastList f wanted chunk ranges → (new : RegisterFile) (used : ℕ) → new ≡ with_ranges f ranges → used ≡ length ranges
-    → used ≤ pair_count f - spare → IsTidied f wanted chunk spare new used
+    → used ≤ pair_count f - spare → IsTidied (tidying f chunk spare) wanted (record { file = new; used = used })
 unfolding of
 tidied_file f wide narrow accepted enabled wanted good chunk spare ranges least new used file count enough = record {
   ranges = ranges;

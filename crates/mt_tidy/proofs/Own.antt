@@ -31,7 +31,8 @@ use Rattle.mt_tidy.specs.Ranges.{types_at}
 use Rattle.mt_tidy.specs.Wanted.{Gives, IsLeastFor, IsWanted, is_free}
 use Rattle.mt_tidy.specs.Keeps.{IsLeast, Keeps}
 use Rattle.mt_tidy.specs.Kept.{IsTidy, NeedsMore}
-use Rattle.mt_tidy.specs.Tidied.{IsTidied, IsTooFew}
+use Rattle.mt_tidy.specs.Tidied.{IsTidied, IsTooFew, tidying}
+use Rattle.mt_tidy.specs.declared.fits.Tidied.{Tidied}
 use Rattle.mt_tidy.proofs.Fitted.{checked_of}
 use Rattle.mt_tidy.proofs.WholeCost.{cost_is_least}
 
@@ -273,8 +274,8 @@ module _ (f : RegisterFile) (accepted : IsAccepted f) (enabled : is_enabled f �
     none_shorter = λ ranges gives allowed. least.none_shorter ranges (keeps_of ranges gives) allowed;
   }
 
-  pub tidy_of : (chunk spare : ℕ) (new : RegisterFile) (used : ℕ) → IsTidied f runs chunk spare new used → IsTidy f chunk spare new used
-  tidy_of chunk spare new used tidied = record {
+  pub tidy_of : (chunk spare : ℕ) (new : Tidied) → IsTidied (tidying f chunk spare) runs new → IsTidy (tidying f chunk spare) new
+  tidy_of chunk spare new tidied = record {
     old_accepted = accepted;
     enabled = enabled;
     ranges = tidied.ranges;
@@ -295,7 +296,7 @@ module _ (f : RegisterFile) (accepted : IsAccepted f) (enabled : is_enabled f �
     ];
   }
 
-  pub more_of : (chunk spare needs has : ℕ) → IsTooFew f runs chunk spare needs has → NeedsMore f chunk spare needs has
+  pub more_of : (chunk spare needs has : ℕ) → IsTooFew (tidying f chunk spare) runs needs has → NeedsMore (tidying f chunk spare) needs has
   more_of chunk spare needs has few = record {
     accepted = accepted;
     enabled = enabled;
@@ -306,7 +307,7 @@ module _ (f : RegisterFile) (accepted : IsAccepted f) (enabled : is_enabled f �
 
 -- a file that gives the file's own runs keeps each page's type
 pub tidy_file : (f : RegisterFile) → IsAccepted f → is_enabled f ≡ true → (runs : List Run) → IsRunsOf f runs
-    → (chunk spare : ℕ) (new : RegisterFile) (used : ℕ) → IsTidied f runs chunk spare new used → IsTidy f chunk spare new used
+    → (chunk spare : ℕ) (new : Tidied) → IsTidied (tidying f chunk spare) runs new → IsTidy (tidying f chunk spare) new
 tidy_file f accepted enabled runs are = tidy_of f accepted enabled runs (own_kinds f runs are)
 
 pub keeps_is_gives : (f : RegisterFile) → IsAccepted f → is_enabled f ≡ true → (runs : List Run) → IsRunsOf f runs
@@ -318,7 +319,7 @@ pub least_is_least_for : (f : RegisterFile) → IsAccepted f → is_enabled f �
 least_is_least_for f accepted enabled runs are chunk count = (least_for_of f accepted enabled runs (own_kinds f runs are) chunk count, least_of f accepted enabled runs (own_kinds f runs are) chunk count)
 
 pub needs_more : (f : RegisterFile) → IsAccepted f → is_enabled f ≡ true → (runs : List Run) → IsRunsOf f runs
-    → (chunk spare needs has : ℕ) → IsTooFew f runs chunk spare needs has → NeedsMore f chunk spare needs has
+    → (chunk spare needs has : ℕ) → IsTooFew (tidying f chunk spare) runs needs has → NeedsMore (tidying f chunk spare) needs has
 needs_more f accepted enabled runs are = more_of f accepted enabled runs (own_kinds f runs are)
 
 pub least_number : (f : RegisterFile) (chunk : ℕ) → IsRegisterFile f → IsAccepted f → is_enabled f ≡ true → (count : ℕ) × IsLeast f chunk count

@@ -1,5 +1,5 @@
 -- Which ranges divided blocks take, and a table of them in the order in which a search comes to the blocks (own).
-use Rattle.std.specs.Prelude.{◌≡◌, ℕ, zero, suc, ◌+◌, ◌^◌, ◌<◌, Bool, true, false, if◌then◌else◌, List, length, Option, None, Some, slice_get}
+use Rattle.std.specs.Prelude.{◌≡◌, ℕ, zero, suc, ◌+◌, ◌-◌, ◌^◌, ◌<◌, Bool, true, false, if◌then◌else◌, List, ◌++◌, length, Option, None, Some, slice_get}
 use Rattle.mt_kinds.specs.Types.{type_of_byte}
 use Rattle.mt_kinds.specs.declared.mem_type.MemType.{MemType}
 use Rattle.mt_kinds.specs.declared.mem_type.MemType.TheVariants.{UC, WC, WT, WP, WB}
@@ -9,7 +9,7 @@ use Rattle.mt_trie.specs.declared.wish.Wish.{Wish}
 use Rattle.mt_trie.specs.declared.wish.Wish.TheVariants.{Any, Only, Mixed}
 use Rattle.mt_tidy.specs.AllCosts.{AreWords, IsBelow}
 use Rattle.mt_tidy.specs.Cost.{Task, cost, divided, plus, wish}
-use Rattle.mt_tidy.specs.Fits.{Chosen}
+use Rattle.mt_tidy.specs.Fits.{Chosen, Laying, context_with, ranges_on}
 use Rattle.mt_tidy.specs.declared.costs.Choice.{Choice}
 use Rattle.mt_tidy.specs.declared.costs.Costs.{Costs}
 use Rattle.mt_tidy.specs.declared.costs.Divided.{Divided}
@@ -32,6 +32,13 @@ halves_cost k half first y = plus (cost k half first y) (cost k half (first + 2 
 -- in each context the choice leads to the least cost
 abbrev pub IsChoice : Task → ℕ → (Context → Option ℕ) → Choice → Type 0
 IsChoice k log halves choice = (x : Context) → Chosen k log halves x (range_at choice x)
+
+-- the range that is chosen for a divided block was laid on it, and leaves a context for its halves
+pub record Begun (k : Task) (log first : ℕ) (old new : Laying) : Type 0 where
+  pub choice : Option MemType
+  pub chosen : Chosen k log (halves_cost k (log - 1) first) old.context choice
+  pub context : new.context ≡ context_with old.context choice
+  pub after : new.ranges ≡ old.ranges ++ ranges_on first log choice
 
 -- Words of the costs of two halves of a block that is divided. Its pages want two types, so it has no cost over UC and none
 -- over a clash.

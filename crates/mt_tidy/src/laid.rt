@@ -1,9 +1,9 @@
 ghost use Rattle.std.specs.Prelude.{◌≡◌, ◌++◌, ◌+◌, ◌-◌, ◌≤◌, ◌<◌, ◌^◌, ℕ, None, Option, Some, length, if◌then◌else◌, slice_get};
 ghost use Rattle.std.specs.List.{All};
 ghost use Rattle.mt_ranges.specs.Blocks.{block_end};
-ghost use Rattle.mt_tidy.specs.Choosing.{HasChoices, IsChoice, divided_count, halves_cost};
+ghost use Rattle.mt_tidy.specs.Choosing.{Begun, HasChoices, IsChoice, divided_count, halves_cost, range_at};
 ghost use Rattle.mt_tidy.specs.Cost.{Task, cost, divided, leaves_type, only_cost, task_by, wish};
-ghost use Rattle.mt_tidy.specs.Fits.{Begun, Laid, ranges_on};
+ghost use Rattle.mt_tidy.specs.Fits.{Laid, context_with, laying, ranges_on};
 ghost use Rattle.mt_tidy.specs.LeastList.{MayBeUsed};
 ghost use Rattle.mt_tidy.specs.Room.{HasRoom};
 ghost use Rattle.mt_trie.specs.Wishes.{IsDefined};
@@ -78,7 +78,8 @@ fn next_choice(search: &Search, b: &Block, table: &mut CostTable) -> Choice
 // Adds the range of a choice for a divided block, and answers what is then left for the halves.
 fn begin_with(choice: Choice, b: &Block, x: Context, out: &mut ArrayVec<Range, 32>) -> Context
     requires room { (k : Task) × (h : Context → Option ℕ) × IsChoice k b.now.log h choice × HasRoom (divided k b.now.log h x) out.old.items }
-    ensures begun { (k : Task) (h : Context → Option ℕ) → IsChoice k b.now.log h choice → Begun k b.now.first b.now.log h x out.old.items out.new.items result }
+    ensures context { result ≡ context_with x (range_at choice x) }
+    ensures ranges { out.new.items ≡ out.old.items ++ ranges_on b.now.first b.now.log (range_at choice x) }
     ensures room { (k : Task) (h : Context → Option ℕ) → IsChoice k b.now.log h choice → HasRoom (divided k b.now.log h x) out.old.items → HasRoom (h result) out.new.items }
 {
     match range_at(choice, x) {
@@ -107,8 +108,7 @@ fn begin_over(
     requires count { table.old.count + 2 ^ b.now.log ≤ 2 ^ 41 }
     requires choices { HasChoices (task_by search.now.rules search.now.wanted) b.now.log b.now.first table.old.count table.old.choices }
     requires room { HasRoom (cost (task_by search.now.rules search.now.wanted) b.now.log b.now.first x) out.old.items }
-    ensures begun { Begun (task_by search.now.rules search.now.wanted) b.now.first b.now.log
-        (halves_cost (task_by search.now.rules search.now.wanted) (b.now.log - 1) b.now.first) x out.old.items out.new.items result }
+    ensures begun { Begun (task_by search.now.rules search.now.wanted) b.now.log b.now.first (laying x out.old.items) (laying result out.new.items) }
     ensures room { HasRoom (halves_cost (task_by search.now.rules search.now.wanted) (b.now.log - 1) b.now.first result) out.new.items }
     ensures choices { (i : ℕ) → slice_get table.new.choices i ≡ slice_get table.old.choices i }
     ensures count { table.new.count ≡ table.old.count + 1 }
@@ -142,7 +142,7 @@ pub fn lay_in(
     requires count { table.old.count + 2 ^ b.now.log ≤ 2 ^ 41 }
     requires choices { HasChoices (task_by search.now.rules search.now.wanted) b.now.log b.now.first table.old.count table.old.choices }
     requires room { HasRoom (cost (task_by search.now.rules search.now.wanted) b.now.log b.now.first x) out.old.items }
-    ensures laid { Laid (task_by search.now.rules search.now.wanted) b.now.log b.now.first x out.old.items out.new.items }
+    ensures laid { Laid (task_by search.now.rules search.now.wanted) b.now.log b.now.first (laying x out.old.items) out.new.items }
     ensures choices { (i : ℕ) → slice_get table.new.choices i ≡ slice_get table.old.choices i }
     ensures count { table.new.count ≡ table.old.count + divided_count (task_by search.now.rules search.now.wanted) b.now.log b.now.first }
 {

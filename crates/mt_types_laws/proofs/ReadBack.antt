@@ -8,7 +8,8 @@ use Rattle.mt_tidy.specs.declared.range.Range.{Range}
 use Rattle.mt_tidy.specs.Kept.{IsTidy}
 use Rattle.mt_tidy.specs.Wanted.{IsRangeOf}
 use Rattle.mt_ranges.specs.Match.{is_valid}
-use Rattle.mt_tidy.specs.Tidied.{IsTidied, StandsFor, pair_for, valid_count, with_ranges}
+use Rattle.mt_tidy.specs.Tidied.{IsTidied, StandsFor, Tidying, pair_for, valid_count, with_ranges}
+use Rattle.mt_tidy.specs.declared.fits.Tidied.{Tidied}
 use Rattle.mt_tidy.proofs.Fitted.{matches_is, type_is, valid_bit}
 
 abbrev none : ℕ × ℕ
@@ -73,8 +74,8 @@ pairs_number f ranges few =
 pub valid_number : (f : RegisterFile) (ranges : List Range) → valid_count (with_ranges f ranges) ≡ length ranges
 valid_number f ranges = valid_pairs f.width ranges (pair_count f - length ranges)
 
-pub used_by_fit : (f new : RegisterFile) (wanted : List Run) (chunk spare used : ℕ) → IsTidied f wanted chunk spare new used → valid_count new ≡ used
-used_by_fit f new wanted chunk spare used tidied = ap valid_count tidied.file ∙ valid_number f tidied.ranges ∙ sym tidied.count
+pub used_by_fit : (t : Tidying) (wanted : List Run) (new : Tidied) → IsTidied t wanted new → valid_count new.file ≡ new.used
+used_by_fit t wanted new tidied = ap valid_count tidied.file ∙ valid_number t.file tidied.ranges ∙ sym tidied.count
 
-pub used_by_tidy : (f new : RegisterFile) (chunk spare used : ℕ) → IsTidy f chunk spare new used → valid_count new ≡ used
-used_by_tidy f new chunk spare used tidy = ap valid_count tidy.file ∙ valid_number f tidy.ranges ∙ sym tidy.count
+pub used_by_tidy : (t : Tidying) (new : Tidied) → IsTidy t new → valid_count new.file ≡ new.used
+used_by_tidy t new tidy = ap valid_count tidy.file ∙ valid_number t.file tidy.ranges ∙ sym tidy.count

@@ -3,7 +3,7 @@ use Rattle.std.proofs.Common.{◌≡◌, ℕ, zero, suc, ◌-◌, true, List, []
 use Rattle.std.proofs.lemmas.Bool.{cases_lt}
 use Rattle.std.proofs.lemmas.Nat.{pow_pos}
 use Rattle.mt_regs.specs.declared.page_type.PageType.{PageType}
-use Rattle.mt_regs.specs.RegisterFile.{IsRegisterFile, RegisterFile, is_enabled, page_count}
+use Rattle.mt_regs.specs.RegisterFile.{IsRegisterFile, is_enabled, page_count}
 use Rattle.mt_regs.specs.Faults.{IsAccepted}
 use Rattle.mt_regs.proofs.Powers.{few_pages}
 use Rattle.mt_types.specs.declared.run.Run.{Run}
@@ -13,6 +13,8 @@ use Rattle.mt_types_laws.proofs.SomeTidy.{fit_or_more}
 use Rattle.mt_gran.specs.Granules.{lost_pages, pages_of}
 use Rattle.mt_gran.specs.Marks.{AreRunsOf, HaveMark, lost_mark, rounded_mark}
 use Rattle.mt_gran.specs.Grained.{IsGrained, NeedsMore}
+use Rattle.mt_gran.specs.declared.grains.Grained.{Grained}
+use Rattle.mt_tidy.specs.Tidied.{Tidying}
 use Rattle.mt_gran.proofs.RunsOf.{first_run, last_ends, longer_run, next_run, pass}
 use Rattle.mt_gran.proofs.Maps.{rounded_map}
 use Rattle.mt_gran.proofs.RoundedFit.{grained, rounded_wanted}
@@ -55,20 +57,17 @@ module _ (marks : ℕ → Option PageType) where
   all_runs zero = ([], (omega arith, λ page low high. absurd (omega arith)))
   all_runs (suc n) = let (list, are) = all_runs n in one_more n list are (marks n) refl
 
-pub rounded_or_more : (f : RegisterFile) → IsRegisterFile f → IsAccepted f → is_enabled f ≡ true → (g chunk spare : ℕ)
-    → ((new : RegisterFile) × (used : ℕ) × (lost : ℕ) × (parts : List Run) × IsGrained f g chunk spare new used lost parts) ⊎ ((needs : ℕ) × (has : ℕ) × NeedsMore f g chunk spare needs has)
-rounded_or_more f good accepted enabled g chunk spare =
+pub rounded_or_more : (t : Tidying) → IsRegisterFile t.file → IsAccepted t.file → is_enabled t.file ≡ true → (g : ℕ)
+    → ((new : Grained) × IsGrained t g new) ⊎ ((needs : ℕ) × (has : ℕ) × NeedsMore t g needs has)
+rounded_or_more t good accepted enabled g =
+    let f = t.file in
     let own = a_type_map f good in
     let wanted = all_runs (rounded_mark (pages_of f) g) (page_count f) in
     let parts = all_runs (lost_mark (pages_of f) g) (page_count f) in
     let rounded = rounded_map (pages_of f) g wanted.0 (pow_pos (f.width - 12)) (few_pages f.width good.narrow) wanted.1 in
-    elim (fit_or_more f good accepted enabled wanted.0 (rounded_wanted f good accepted enabled g own.0 wanted.0 own.1 rounded) chunk spare) [
-      | inl some ↦ inl (
-        some.0,
-        some.1,
-        lost_pages (pages_of f) g,
-        parts.0,
-        grained f accepted enabled g chunk spare wanted.0 rounded some.0 some.1 some.2 (lost_pages (pages_of f) g) refl parts.0 parts.1,
-      )
+    elim (fit_or_more t good accepted enabled wanted.0 (rounded_wanted f good accepted enabled g own.0 wanted.0 own.1 rounded)) [
+      | inl some ↦
+          let new : Grained = record { tidied = some.0; lost = lost_pages (pages_of f) g; parts = parts.0 } in
+          inl (new, grained t accepted enabled g wanted.0 rounded new some.1 refl parts.1)
       | inr more ↦ inr (more.0, more.1, record { accepted = accepted; enabled = enabled; wanted = wanted.0; rounded = rounded; few = more.2 })
     ]

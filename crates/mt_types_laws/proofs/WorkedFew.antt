@@ -11,7 +11,7 @@ use Rattle.mt_tidy.specs.declared.range.Range.{Range}
 use Rattle.mt_tidy.specs.Keeps.{Keeps}
 use Rattle.mt_tidy.specs.Kept.{NeedsMore}
 use Rattle.mt_tidy.specs.Ranges.{types_at}
-use Rattle.mt_tidy.specs.Tidied.{IsTooFew}
+use Rattle.mt_tidy.specs.Tidied.{IsTooFew, tidying}
 use Rattle.mt_tidy.specs.Wanted.{Gives, IsRangeOf}
 use Rattle.mt_types_laws.specs.WorkedRanges.{all_of, range, uncached, written_back}
 use Rattle.mt_tidy.proofs.Fitted.{kind_among}
@@ -41,7 +41,7 @@ given_range : (ranges : List Range) → Gives written_back (all_of WB) ranges �
 given_range [] g = absurd (cc (g.wanted_kinds 0 (omega arith) refl))
 given_range (r ∷ rs) g = omega arith
 
-pub whole_by_one : IsTooFew written_back (all_of WB) 0 8 1 0
+pub whole_by_one : IsTooFew (tidying written_back 0 8) (all_of WB) 1 0
 whole_by_one = record {
   has_is = refl;
   above = omega arith;
@@ -59,7 +59,7 @@ kept_range : (ranges : List Range) → Keeps written_back ranges → 1 ≤ lengt
 kept_range [] k = absurd (cc (k.same_types 0 (omega arith) ∙ kind 0 (omega arith)))
 kept_range (r ∷ rs) k = omega arith
 
-pub needs_more : NeedsMore written_back 0 8 1 0
+pub needs_more : NeedsMore (tidying written_back 0 8) 1 0
 needs_more = record {
   accepted = accepted;
   enabled = refl;

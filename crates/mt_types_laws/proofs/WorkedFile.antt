@@ -7,7 +7,7 @@ use Rattle.mt_kinds.specs.declared.mem_type.MemType.TheVariants.{UC, WC, WT, WP,
 use Rattle.mt_regs.specs.declared.page_type.PageType.TheVariants.{Kind}
 use Rattle.mt_types.specs.declared.run.Run.{Run}
 use Rattle.mt_tidy.specs.LeastList.{IsLeastList}
-use Rattle.mt_tidy.specs.Tidied.{IsTidied}
+use Rattle.mt_tidy.specs.Tidied.{IsTidied, tidying}
 use Rattle.mt_tidy.specs.Wanted.{Gives}
 use Rattle.mt_types_laws.specs.WorkedRanges.{all_of, uncached}
 use Rattle.mt_gran.specs.Grained.{IsGrained}
@@ -54,7 +54,7 @@ by_default = record {
 least : IsLeastList uncached (all_of UC) 0 []
 least = record { gives = by_default; allowed = tt; in_order = tt; none_shorter = λ others g a. omega arith }
 
-fitted : IsTidied uncached (all_of UC) 0 8 uncached 0
+fitted : IsTidied (tidying uncached 0 8) (all_of UC) (record { file = uncached; used = 0 })
 fitted = record {
   ranges = [];
   file = refl;
@@ -72,7 +72,7 @@ keeps_all g page t lost = absurd (cc (sym (loses_none g page t) ∙ lost))
 no_parts : (g : ℕ) → ArePartsOf (pages_of uncached) g []
 no_parts g = record { each = tt; in_order = tt; all = λ page within t lost. absurd (keeps_all g page t lost) }
 
-pub all_uncacheable : IsGrained uncached 4 0 8 uncached 0 0 []
+pub all_uncacheable : IsGrained (tidying uncached 0 8) 4 (record { tidied = record { file = uncached; used = 0 }; lost = 0; parts = [] })
 all_uncacheable = record {
   old_accepted = λ page within undefined. absurd (cc undefined);
   enabled = refl;

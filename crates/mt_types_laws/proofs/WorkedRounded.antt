@@ -4,6 +4,7 @@ use Rattle.std.specs.Prelude.{◌/◌, ◌^◌, slice_index_or}
 use Rattle.mt_kinds.specs.declared.mem_type.MemType.TheVariants.{UC, WB}
 use Rattle.mt_regs.specs.declared.page_type.PageType.TheVariants.{Kind}
 use Rattle.mt_types.specs.declared.run.Run.{Run}
+use Rattle.mt_tidy.specs.Tidied.{tidying}
 use Rattle.mt_types_laws.specs.WorkedRanges.{all_of, uncached, written_back}
 use Rattle.mt_types_laws.proofs.WorkedFew.{accepted, kind, whole_by_one}
 use Rattle.mt_gran.specs.Grained.{IsLeastRounded, NeedsMore}
@@ -36,5 +37,5 @@ map_of_one = record {
   of_run zero d within page below = rounds page below
   of_run (suc k) d within page below = absurd (omega (arith, within))
 
-pub needs_more : NeedsMore written_back 4 0 8 1 0
+pub needs_more : NeedsMore (tidying written_back 0 8) 4 1 0
 needs_more = record { accepted = accepted; enabled = refl; wanted = all_of WB; rounded = map_of_one; few = whole_by_one }

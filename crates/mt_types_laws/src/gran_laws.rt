@@ -9,19 +9,19 @@ ghost use Rattle.mt_gran.specs.Grained.{IsGrained, IsLeastRounded, NeedsMore};
 ghost use Rattle.mt_gran.specs.Granules.{TypedPages, is_whole, pages_of, rounded_kind};
 ghost use Rattle.mt_gran.specs.Parts.{ArePartsOf};
 ghost use Rattle.mt_gran.specs.Sizes.{IsGranuleSize, log_among};
+ghost use Rattle.mt_gran.specs.declared.grains.Grained.{Grained};
+ghost use Rattle.mt_tidy.specs.Tidied.{Tidying};
 
 /// The rounded types of a rounded file are its own types.
 pub fn the_rounded_file_keeps_its_types()
-    ensures { (f new : RegisterFile) (g chunk spare used lost : ℕ) (parts : List Run) → IsGrained f g chunk spare new used lost parts
-        → (page : ℕ) → page < page_count new → rounded_kind (pages_of new) g page ≡ page_type new page }
+    ensures { (t : Tidying) (g : ℕ) (new : Grained) → IsGrained t g new → (page : ℕ) → page < page_count new.tidied.file
+        → rounded_kind (pages_of new.tidied.file) g page ≡ page_type new.tidied.file page }
 {}
 
 /// Where a rounded file is rounded to granules of the same size, nothing is lost.
 pub fn a_second_rounding_loses_nothing()
-    ensures parts { (f new newer : RegisterFile) (g chunk spare used lost : ℕ) (parts : List Run) → IsGrained f g chunk spare new used lost parts
-        → (others few number gone : ℕ) (lasts : List Run) → IsGrained new g others few newer number gone lasts → lasts ≡ [] }
-    ensures lost { (f new newer : RegisterFile) (g chunk spare used lost : ℕ) (parts : List Run) → IsGrained f g chunk spare new used lost parts
-        → (others few number gone : ℕ) (lasts : List Run) → IsGrained new g others few newer number gone lasts → gone ≡ 0 }
+    ensures parts { (t again : Tidying) (g : ℕ) (new newer : Grained) → IsGrained t g new → again.file ≡ new.tidied.file → IsGrained again g newer → newer.parts ≡ [] }
+    ensures lost { (t again : Tidying) (g : ℕ) (new newer : Grained) → IsGrained t g new → again.file ≡ new.tidied.file → IsGrained again g newer → newer.lost ≡ 0 }
 {}
 
 /// A granule is whole exactly where all its pages that aren't free have one type.
@@ -38,15 +38,14 @@ pub fn a_file_has_one_list_of_parts()
 /// The rounded types have at most one least number of ranges, and it is the number that is returned or asked for.
 pub fn each_size_has_one_least_number()
     ensures one { (f : RegisterFile) (g chunk a b : ℕ) → IsLeastRounded f g chunk a → IsLeastRounded f g chunk b → a ≡ b }
-    ensures used { (f new : RegisterFile) (g chunk spare used lost : ℕ) (parts : List Run) → IsGrained f g chunk spare new used lost parts → IsLeastRounded f g chunk used }
-    ensures needs { (f : RegisterFile) (g chunk spare needs has : ℕ) → NeedsMore f g chunk spare needs has → IsLeastRounded f g chunk needs }
+    ensures used { (t : Tidying) (g : ℕ) (new : Grained) → IsGrained t g new → IsLeastRounded t.file g t.chunk new.tidied.used }
+    ensures needs { (t : Tidying) (g needs has : ℕ) → NeedsMore t g needs has → IsLeastRounded t.file g t.chunk needs }
 {}
 
 /// Each accepted file whose ranges are on can be rounded, or needs more pairs than may be used.
 pub fn each_file_is_rounded_or_needs_more()
-    ensures { (f : RegisterFile) → IsRegisterFile f → IsAccepted f → is_enabled f ≡ true → (g chunk spare : ℕ)
-        → ((new : RegisterFile) × (used : ℕ) × (lost : ℕ) × (parts : List Run) × IsGrained f g chunk spare new used lost parts)
-        ⊎ ((needs : ℕ) × (has : ℕ) × NeedsMore f g chunk spare needs has) }
+    ensures { (t : Tidying) → IsRegisterFile t.file → IsAccepted t.file → is_enabled t.file ≡ true → (g : ℕ)
+        → ((new : Grained) × IsGrained t g new) ⊎ ((needs : ℕ) × (has : ℕ) × NeedsMore t g needs has) }
 {}
 
 /// A size is that of granules of `2^log` pages exactly where it is `2^(12 + log)` bytes, of at most `2^28` pages.

@@ -4,7 +4,7 @@ ghost use Rattle.mt_regs.specs.declared.fault.Reason.TheVariants.{ReservedBit};
 ghost use Rattle.mt_tidy.specs.declared.faults.TidyFault.TheVariants.{Disabled, Refused};
 ghost use Rattle.mt_tidy.specs.Cost.{whole_cost};
 ghost use Rattle.mt_tidy.specs.Kept.{IsTidy, IsWhy};
-ghost use Rattle.mt_tidy.specs.Tidied.{StandsFor, with_ranges};
+ghost use Rattle.mt_tidy.specs.Tidied.{StandsFor, tidying, with_ranges};
 ghost use Rattle.mt_tidy.specs.Wanted.{IsLeastFor, IsWanted};
 ghost use Rattle.mt_types_laws.specs.WorkedRanges.{holed, range, uncached, with_reserved_bit};
 ghost use Rattle.mt_types_laws.specs.WorkedSmall.{apart, beside, seven};
@@ -20,16 +20,18 @@ pub fn worked_least_of_sixteen()
 /// The file of these two ranges is tidy with one pair of three to spare. Two files aren't tidy: the ranges of one aren't
 /// in order, and those of the other share pages.
 pub fn worked_sixteen_tidied()
-    ensures tidy { IsTidy apart 0x8000 1 (with_ranges apart holed) 2 }
-    ensures not_in_order { (t : IsTidy apart 0x8000 1 (with_ranges apart (range 7 0 UC ∷ range 0 3 WB ∷ [])) 2) → t.ranges ≡ range 7 0 UC ∷ range 0 3 WB ∷ [] → ⊥ }
-    ensures not_allowed { (t : IsTidy beside 0 0 (with_ranges beside (range 0 3 WB ∷ range 4 2 UC ∷ [])) 2) → t.ranges ≡ range 0 3 WB ∷ range 4 2 UC ∷ [] → ⊥ }
+    ensures tidy { IsTidy (tidying apart 0x8000 1) (record { file = with_ranges apart holed; used = 2 }) }
+    ensures not_in_order { (t : IsTidy (tidying apart 0x8000 1) (record { file = with_ranges apart (range 7 0 UC ∷ range 0 3 WB ∷ []); used = 2 }))
+        → t.ranges ≡ range 7 0 UC ∷ range 0 3 WB ∷ [] → ⊥ }
+    ensures not_allowed { (t : IsTidy (tidying beside 0 0) (record { file = with_ranges beside (range 0 3 WB ∷ range 4 2 UC ∷ []); used = 2 }))
+        → t.ranges ≡ range 0 3 WB ∷ range 4 2 UC ∷ [] → ⊥ }
 {}
 
 /// What isn't why nothing is tidied, for one thing.
 pub fn worked_why()
-    ensures enabled { IsWhy uncached 0 0 Disabled → ⊥ }
-    ensures disabled_and_not_accepted { IsWhy (record with_reserved_bit { default_type = 6 }) 0 0 Disabled → ⊥ }
-    ensures other_register { IsWhy with_reserved_bit 0 0 (Refused (record { msr = 0x201; reason = ReservedBit })) → ⊥ }
+    ensures enabled { IsWhy (tidying uncached 0 0) Disabled → ⊥ }
+    ensures disabled_and_not_accepted { IsWhy (tidying (record with_reserved_bit { default_type = 6 }) 0 0) Disabled → ⊥ }
+    ensures other_register { IsWhy (tidying with_reserved_bit 0 0) (Refused (record { msr = 0x201; reason = ReservedBit })) → ⊥ }
 {}
 
 /// A pair that stands for a range, and pairs that don't. Two fail in one part. The other isn't valid, so it matches no

@@ -21,7 +21,7 @@ grained_text-requires g c =
 pub returns-in-Ok-grained_text-clause-bytes : goal.returns-in-Ok-grained_text-clause-bytes
 returns-in-Ok-grained_text-clause-bytes g c =
     answers_with (FileAnswer c.args.f.now (Gran c.args.log c.args.spare c.args.chunk)) _ _ _ _ _ _
-    (grained c.args.log c.args.spare c.args.chunk c.in-Ok.grained.tidied.used c.in-Ok.grained.lost c.in-Ok.grained.parts c.in-Ok.grained.tidied.file c.in-Ok.ensures.ok)
+    (grained c.args.log c.args.spare c.args.chunk c.in-Ok.grained c.in-Ok.ensures.ok)
     (c.as_slice-in-Ok-grained_text.ensures.value ∙ c.in-Ok-grained_text.ensures
     ∙ ap (λ (parts : List Run). parts_text parts ++ lost_line c.in-Ok.grained.lost ++ used_line c.in-Ok.grained.tidied.used ++ canon (dump_of c.in-Ok.grained.tidied.file)) c.as_slice-parts.ensures.runs)
     c.written-in-Ok-grained_text.ensures.bytes

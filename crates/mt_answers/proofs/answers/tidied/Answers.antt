@@ -14,7 +14,7 @@ returns-then-not-is_enabled-clause-bytes g c =
 
 pub returns-in-Ok-clause-bytes : goal.returns-in-Ok-clause-bytes
 returns-in-Ok-clause-bytes g c =
-    answers_with (FileAnswer c.args.f.now (Tidy c.args.spare c.args.chunk)) _ _ _ _ _ _ (tidied c.args.spare c.args.chunk c.in-Ok.tidied.used c.in-Ok.tidied.file c.in-Ok.ensures.ok)
+    answers_with (FileAnswer c.args.f.now (Tidy c.args.spare c.args.chunk)) _ _ _ _ _ _ (tidied c.args.spare c.args.chunk c.in-Ok.tidied c.in-Ok.ensures.ok)
     (c.as_slice-in-Ok.ensures.value ∙ c.tidied_text-text.ensures) c.written-in-Ok.ensures.bytes
 
 pub returns-in-Err-clause-bytes : goal.returns-in-Err-clause-bytes

@@ -1,5 +1,6 @@
 use Rattle.std.proofs.lemmas.Result.{MatchResult-weaker}
-use Rattle.mt_gran.specs.Listed.{runs_in}
+use Rattle.mt_tidy.specs.Tidied.{tidying}
+use Rattle.mt_gran.specs.Listed.{grained_in, runs_in}
 use Rattle.mt_gran.proofs.RoundedFit.{grained, rounded_wanted}
 use Rattle.mt_gran.proofs.grains.rounded_fit.Goals as goal
 
@@ -11,9 +12,9 @@ fit-fitted-requires-clause-wanted c =
 pub returns-clause-ok : goal.returns-clause-ok
 returns-clause-ok c =
     MatchResult-weaker c.fit-fitted.result c.fit-fitted.ensures.ok
-    (λ t is. grained c.args.f.now c.requires.accepted c.requires.enabled c.args.g c.args.chunk c.args.spare (runs_in c.rounded_runs-count.result c.rounded_runs-count.new.list) c.rounded_runs-count.ensures.runs
-    t.file t.used is c.lost_in.result.pages c.lost_in.ensures.pages
-    (runs_in c.lost_in.result.parts c.lost_in.new.list) c.lost_in.ensures.runs)
+    (λ t is. grained (tidying c.args.f.now c.args.chunk c.args.spare) c.requires.accepted c.requires.enabled c.args.g
+    (runs_in c.rounded_runs-count.result c.rounded_runs-count.new.list) c.rounded_runs-count.ensures.runs
+    (grained_in t c.lost_in.result c.lost_in.new.list) is c.lost_in.ensures.pages c.lost_in.ensures.runs)
     (λ few is. tt)
 
 pub returns-clause-err : goal.returns-clause-err

@@ -21,7 +21,7 @@ returns-clause-ok c =
     MatchResult-weaker c.fit.result c.fit.ensures.ok
     (λ t is. tidy_of c.args.f.now c.requires.accepted c.requires.enabled _
     (keeps_kinds c.args.f.now _ (map_at c.args.f.now _ _ c.first_ranged.ensures c.map_from-count.ensures.map))
-    c.args.chunk c.args.spare t.file t.used is)
+    c.args.chunk c.args.spare t is)
     (λ few is. tt)
 
 pub returns-clause-err : goal.returns-clause-err
