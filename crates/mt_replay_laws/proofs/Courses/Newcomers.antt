@@ -1,5 +1,5 @@
 -- Which steps bring a processor up.
-use Rattle.std.proofs.Common.{◌≡◌, ◌⊎◌, ◌∙◌, ap, sym, refl, subst, inl, inr, ℕ, ◌<◌, length, nat_lt, Bool, true, false, if◌then◌else◌, List, Option, None}
+use Rattle.std.proofs.Common.{◌≡◌, ◌⊎◌, ◌∙◌, ap, refl, subst, inl, inr, ℕ, ◌<◌, length, nat_lt, Bool, true, false, if◌then◌else◌, List, Option, None}
 use Rattle.std.specs.Prelude.{◌&&◌, is_some, not}
 use Rattle.std.proofs.lemmas.Bool.{lt-ltb}
 use Rattle.mt_machine.specs.Machine.{Machine, Order}
