@@ -1,8 +1,8 @@
 -- What a command asks for, and that it can be done where the command fits.
-use Rattle.std.proofs.Common.{◌≡◌, ap, refl, subst, arith, ℕ, ◌<◌, true, false, length, Bool, if◌then◌else◌, Option}
+use Rattle.std.proofs.Common.{◌≡◌, ◌≢◌, ap, refl, subst, arith, ℕ, ◌<◌, true, false, length, Bool, if◌then◌else◌, Option}
 use Rattle.mt_regs.specs.RegisterFile.{RegisterFile}
 use Rattle.mt_machine.specs.Machine.{Machine}
-use Rattle.mt_script.specs.Accept.{Fits}
+use Rattle.mt_script.specs.Accept.{Fits, FitsAsk}
 use Rattle.mt_script.specs.Numbers.{is_register}
 use Rattle.mt_script.specs.Situation.{most_processors}
 use Rattle.mt_script.specs.Stages.{is_past_windows, takes_windows}
@@ -10,28 +10,22 @@ use Rattle.mt_script.specs.declared.command.Stage.{Stage}
 use Rattle.mt_script.specs.declared.command.Stage.TheVariants.{Rams}
 use Rattle.mt_script.specs.declared.command.Command.{Command}
 use Rattle.mt_script.specs.declared.command.Command.TheVariants as command
-use Rattle.mt_replay.specs.declared.task.Task.TheVariants as task
-use Rattle.mt_replay.specs.Doing.{CanDo}
+use Rattle.mt_script.specs.declared.command.Ask.{Ask}
+use Rattle.mt_script.specs.declared.command.Ask.TheVariants as ask
+use Rattle.mt_script.specs.declared.command.Newcomer.{Newcomer}
+use Rattle.mt_replay.specs.Doing.{CanAsk, CanDo}
 use Rattle.mt_replay.specs.Kept.{IsReplayState}
-use Rattle.mt_replay.specs.ReplayState.{ReplayState, task_of}
+use Rattle.mt_replay.specs.Parts.{IsFormed}
+use Rattle.mt_replay.specs.ReplayState.{ReplayState}
 use Rattle.mt_replay.proofs.Asked.{short_number}
 use Rattle.mt_replay.proofs.Keeping.States.{dump_here, first_here, mapping_fits}
 
-pub is_report : (c : Command) → task_of c ≡ task.Report → c ≡ command.Report
-is_report command.Report is = refl
-is_report other is = absurd (cc is)
-
-pub is_window : (c : Command) (base lines : ℕ) → task_of c ≡ task.Window base lines → c ≡ command.Ram base lines
-is_window (command.Ram b l) base lines is = cc is
-is_window other base lines is = absurd (cc is)
-
-pub is_up : (c : Command) → task_of c ≡ task.Up → c ≡ command.Up
-is_up command.Up is = refl
-is_up other is = absurd (cc is)
-
-pub is_join : (c : Command) → task_of c ≡ task.Join → c ≡ command.Join
-is_join command.Join is = refl
-is_join other is = absurd (cc is)
+-- what isn't one of these has at most one line
+pub is_formed : (c : Command) → c ≢ command.Report → ((base lines : ℕ) → c ≢ command.Ram base lines) → ((n : Newcomer) → c ≢ command.Newcomer n) → IsFormed c
+is_formed command.Report report window newcomer = report refl
+is_formed (command.Ram base lines) report window newcomer = window base lines refl
+is_formed (command.Newcomer n) report window newcomer = newcomer n refl
+is_formed other report window newcomer = tt
 
 before_commands : (stage : Stage) → takes_windows stage ≡ true → is_past_windows stage ≡ false
 before_commands Rams takes = refl
@@ -45,18 +39,18 @@ module _ (s : ReplayState) (h : IsReplayState s) where
       let count = h.count still in
       omega (arith, most, count, within)
 
-  pub can_do : (c : Command) → Fits s.now c → CanDo s.machine (task_of c)
+  can_ask : (k : ℕ) (a : Ask) → FitsAsk s.now a → CanAsk s.machine k a
+  can_ask k (ask.Load address) fits = fits
+  can_ask k (ask.Store address value) fits = fits
+  can_ask k (ask.Map x) fits = mapping_fits s h k x fits.0.1 fits.1.1 fits.2
+  can_ask k (ask.Msr number) fits =
+      let file = first_here s.now h.situation h.past in
+      short_number file.0 number file.2 (subst (λ (o : Option RegisterFile). is_register o number ≡ true) file.1 fits)
+  can_ask k other fits = tt
+
+  pub can_do : (c : Command) → Fits s.now c → CanDo s.machine c
+  can_do (command.Ask k a) fits = can_ask k a fits.1
   can_do (command.Selfsnoop k) fits =
       let dump = dump_here s.now h.situation h.past in
       (is_there k fits.0 fits.1, ap (λ (m : Machine). m.order) (h.fresh dump.0 dump.1 fits.0).1)
-  can_do (command.Load k address) fits = fits.1
-  can_do (command.Store k address value) fits = (fits.1, fits.2)
-  can_do (command.Map k address physical index global) fits = mapping_fits s h k address physical index global fits.1.1 fits.2.1 fits.3
-  can_do (command.Invlpg k address) fits = λ p at. tt
-  can_do (command.Cr3 k) fits = λ p at. tt
-  can_do (command.Pge k on) fits = λ p at. tt
-  can_do (command.Cd k on) fits = λ p at. tt
-  can_do (command.Msr k number) fits =
-      let file = first_here s.now h.situation h.past in
-      short_number file.0 number file.2 (subst (λ (o : Option RegisterFile). is_register o number ≡ true) file.1 fits.1)
   can_do other fits = tt

@@ -21,25 +21,20 @@ use Rattle.mt_script.specs.Words.{place_of}
 use Rattle.mt_script.specs.Numbers.{fault_at}
 use Rattle.mt_script.specs.Commands.{command_of, end_fault}
 use Rattle.mt_script.specs.Accept.{Fits, accepted, finished}
-use Rattle.mt_script.specs.Head.{HeadStep, end_step, goes_on, head_step, is_end_command, offends, shows, step_in_dump, step_of_answer, step_of_command}
-use Rattle.mt_script.specs.Script.{offence_after, offence_in, script_offence}
+use Rattle.mt_script.specs.Head.{HeadStep, end_step, goes_on, head_step, is_end_command, offends, shows, step_in_dump, step_of_answer}
+use Rattle.mt_script.specs.Script.{head_line, offence_after, offence_in, script_offence}
 use Rattle.mt_script.specs.declared.command.Command.{Command}
-use Rattle.mt_script.specs.declared.command.Command.TheVariants as command
 use Rattle.mt_script.specs.declared.command.Stage.{Stage}
 use Rattle.mt_script.specs.declared.command.Stage.TheVariants.{Rams, Commands}
 use Rattle.mt_script.specs.declared.fault.ScriptFault.{ScriptFault}
 use Rattle.mt_script.specs.declared.fault.ScriptReason.TheVariants.{NoEnd, OutOfRange}
 use Rattle.mt_script.specs.declared.fault.Offence.{Offence}
 use Rattle.mt_script.specs.declared.fault.Offence.TheVariants as offence
+use Rattle.mt_script.proofs.Heads.{accepted_dump}
 use Rattle.mt_script.proofs.Keeping.{accepted_is, start_is}
 use Rattle.mt_replay.specs.Heads.{HeadEnd, end_after, head_end, head_of, has_offence, shows_dump, stays_open}
-use Rattle.mt_replay.specs.Statuses.{ShowsAfter, ShowsAt, ShowsDump, ShowsIn, head_line, shown_by}
+use Rattle.mt_replay.specs.Statuses.{ShowsAfter, ShowsAt, ShowsDump, ShowsIn, shown_by}
 use Rattle.mt_replay.proofs.Keeping.States.{command_known}
-
--- only the dump's end gives a situation its dump
-pub dump_after : (now : Situation) (c : Command) → (accepted now c).dump ≡ now.dump
-dump_after now command.Blank = refl
-dump_after now other = refl
 
 -- ---- one line
 
@@ -82,10 +77,11 @@ module _ (number : ℕ) (line : List ℕ) (Later : Dump → Situation → List R
   in_dump dump true = ended dump (read_from place before []) refl
   in_dump dump false = another (offence_of before (said_of number line)) refl
 
-  of_command : (c : Command) → Fits now c → (dump : Bool) → is_in_dump now.stage ≡ dump → LeadsTo now (λ d. ShowsAfter d (head_line now before (said_of number line)) (Later d) c dump) Later (step_of_command now before number line c dump)
+  of_command : (c : Command) → Fits now c → (dump : Bool) → is_in_dump now.stage ≡ dump
+      → LeadsTo now (λ d. ShowsAfter d (head_line now before (said_of number line)) (Later d) c dump) Later (if dump then step_in_dump now before number line (is_end_command c) else goes_on (accepted now c) before)
   of_command c fits true dump = in_dump dump (is_end_command c)
   of_command c fits false dump =
-      (accepted_is now is c fits (λ in_dump. absurd (let e = sym dump ∙ in_dump in cc e)), clean, dump_after now c, λ d. (λ shown. shown, λ shown. shown))
+      (accepted_is now is c fits (λ in_dump. absurd (let e = sym dump ∙ in_dump in cc e)), clean, accepted_dump now c, λ d. (λ shown. shown, λ shown. shown))
 
   abbrev Asked : Dump → Type 0
   Asked d = (c : Command) × (command_of now number line ≡ Ok c) × ShowsAfter d (head_line now before (said_of number line)) (Later d) c (is_in_dump now.stage)

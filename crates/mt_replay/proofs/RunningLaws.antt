@@ -1,15 +1,12 @@
 -- What a replay keeps to between two lines.
-use Rattle.std.proofs.Common.{◌≡◌, ◌∙◌, ap, sym, refl, subst, arith, inl, inr, ℕ, ◌||◌, ◌≤◌, Bool, false, List, [], Option, None, Some}
-use Rattle.std.specs.Prelude.{◌⊎◌}
+use Rattle.std.proofs.Common.{◌≡◌, ◌∙◌, ap, sym, refl, subst, arith, ℕ, ◌||◌, ◌≤◌, Bool, false, List, [], None, Some}
 use Rattle.mt_text.specs.declared.place.Place.{Place}
-use Rattle.mt_ports.specs.declared.status.Status.TheVariants.{BadText, Done}
 use Rattle.mt_output.specs.Lines.{accepted_line}
 use Rattle.mt_script.specs.Situation.{Situation}
 use Rattle.mt_script.specs.Commands.{end_fault}
-use Rattle.mt_script.specs.declared.fault.ScriptFault.{ScriptFault}
 use Rattle.mt_stream.specs.Laws.{AreLaws, IsLongLed}
 use Rattle.mt_stream.specs.Lines.{AtLine, Path, at_line}
-use Rattle.mt_replay.specs.Running.{HasErasAt, HasOutput, IsAt, end_of_run, line_at, path_from, replay_running, setup_of}
+use Rattle.mt_replay.specs.Running.{HasErasAt, HasOutput, IsAt, end_of_run, line_at, path_from, replay_running}
 use Rattle.mt_replay.specs.Transcript.{ScriptState, in_body, in_head, told_at_end, told_lines, told_offence}
 use Rattle.mt_replay.specs.declared.line.Run.{Run}
 use Rattle.mt_replay.specs.declared.line.Run.TheVariants as run

@@ -1,6 +1,6 @@
 -- What a run makes of one line.
 use Rattle.std.proofs.Common.{◌≡◌, ◌∙◌, ap, sym, refl, subst, inr, ℕ, ◌+◌, true, List, [], ◌++◌, Option, None, Some, Result, Ok, Err, append-nil, inl, ◌∷◌, ◌||◌, Bool, false, ⊎_elim}
-use Rattle.std.specs.Prelude.{MatchOption, MatchResult}
+use Rattle.std.specs.Prelude.{MatchOption, MatchResult, ◌⊎◌}
 use Rattle.mt_ports.specs.Puts.{AppendsFront}
 use Rattle.mt_ports.specs.declared.status.Failed.{Failed}
 use Rattle.mt_stream.specs.declared.ending.Stop.{Stop}
@@ -22,6 +22,7 @@ use Rattle.mt_script.specs.Commands.{command_of}
 use Rattle.mt_script.specs.Head.{goes_on, head_step, shows}
 use Rattle.mt_script.specs.declared.command.Command.{Command}
 use Rattle.mt_script.specs.declared.command.Command.TheVariants as command
+use Rattle.mt_script.specs.declared.command.Section.TheVariants.{Register}
 use Rattle.mt_script.specs.declared.fault.ScriptFault.{ScriptFault}
 use Rattle.mt_replay.specs.Kept.{HasEras, IsReplayState}
 use Rattle.mt_replay.specs.Parts.{AsksForMemory}
@@ -90,8 +91,14 @@ quiet_command s (command.Ram base lines) fits takes = (takes, refl)
 quiet_command s (command.Selfsnoop k) fits takes = (takes, refl)
 quiet_command s command.Blank fits takes = (takes, refl)
 quiet_command s command.DumpLine fits takes = (takes, refl)
-quiet_command s (command.Register msr value) fits takes = (takes, refl)
+quiet_command s (command.Section (Register msr value)) fits takes = (takes, refl)
 quiet_command s other fits takes = absurd (cc takes)
+
+-- one that asks for memory stands where windows may be added, or brings a processor up
+asks_where : (s : ReplayState) (c : Command) → Fits s.now c → AsksForMemory s.machine c → (takes_windows s.now.stage ≡ true) ⊎ (is_newcomer c ≡ true)
+asks_where s (command.Ram base lines) fits wants = inl fits.0
+asks_where s (command.Newcomer n) fits wants = inr refl
+asks_where s other fits wants = absurd wants
 
 pub leads : (s : ReplayState) (c : Command) (number : ℕ) (line : List ℕ) → command_of s.now number line ≡ Ok c → (end : Option Place) (lines : List (List ℕ))
     → from_line number line (in_body s) end lines ≡ behind (command_text s c) (body_lines end (number + 1) lines (state_after s c))
@@ -133,8 +140,7 @@ module _ (s new : ReplayState) (c : Command) (number : ℕ) (line : List ℕ) (i
       none lines on off = absurd (let e : true ≡ false = sym (comes lines on) ∙ off in cc e)
 
       asked_early : (lines : List (List ℕ)) → AsksForMemory s.machine c → (came || newcomers_from number (line ∷ lines) (in_body s)) ≡ false → so_far ≡ accepted_line
-      asked_early lines (inl w) off = quiet (subst (Fits s.now) w.2 fits).0
-      asked_early lines (inr w) off = ⊎_elim (λ up. none lines (ap is_newcomer up) off) (λ join. none lines (ap is_newcomer join) off) w.1
+      asked_early lines wants off = ⊎_elim (λ takes. quiet takes) (λ on. none lines on off) (asks_where s c fits wants)
   command_takes writer sink (Err failed) does asks came so_far quiet = record {
     text = command_text s c;
     front = λ end lines. ((body_lines end (number + 1) lines (state_after s c)).text, ap (λ (t : Transcript). t.text) (leads s c number line asked end lines));

@@ -18,8 +18,7 @@ use Rattle.mt_replay.specs.Steps.{course}
 use Rattle.mt_replay.specs.Transcript.{ScriptState, in_body, in_head, transcript}
 
 abbrev pub is_newcomer : Command → Bool
-is_newcomer command.Up = true
-is_newcomer command.Join = true
+is_newcomer (command.Newcomer n) = true
 is_newcomer other = false
 
 -- ---- behind the dump

@@ -1,5 +1,5 @@
 -- A script between two lines after its dump: what stands set up, the machine, and what a command writes and leaves (own).
---     task_of command      what the command asks for
+--     effect state command      what the command writes and leaves where its processor is there
 --     command_text state command      what the command writes
 --     state_after state command      what it leaves
 use Rattle.std.specs.Prelude.{ℕ, ◌/◌, ◌&&◌, nat_lt, not, Bool, true, false, List, [], length, if◌then◌else◌, slice_get, Option, None, Some, is_some}
@@ -37,14 +37,12 @@ use Rattle.mt_script.specs.declared.command.Stage.{Stage}
 use Rattle.mt_script.specs.declared.command.Stage.TheVariants.{InUpdate}
 use Rattle.mt_script.specs.declared.command.Command.{Command}
 use Rattle.mt_script.specs.declared.command.Command.TheVariants as command
-use Rattle.mt_replay.specs.declared.task.Task.{Task}
-use Rattle.mt_replay.specs.declared.task.Task.TheVariants as task
-use Rattle.mt_replay.specs.declared.task.Act.{Act}
-use Rattle.mt_replay.specs.declared.task.Act.TheVariants as act
-use Rattle.mt_replay.specs.declared.task.Ask.{Ask}
-use Rattle.mt_replay.specs.declared.task.Ask.TheVariants as ask
-use Rattle.mt_replay.specs.declared.task.Section.{Section}
-use Rattle.mt_replay.specs.declared.task.Section.TheVariants as section
+use Rattle.mt_script.specs.declared.command.Section.TheVariants.{Update, Begin, Register, End}
+use Rattle.mt_script.specs.declared.command.Ask.{Ask}
+use Rattle.mt_script.specs.declared.command.Ask.TheVariants as ask
+use Rattle.mt_script.specs.declared.command.Mapped.{Mapped}
+use Rattle.mt_script.specs.declared.command.Newcomer.{Newcomer}
+use Rattle.mt_script.specs.declared.command.Newcomer.TheVariants.{Up, Join}
 use Rattle.mt_replay.specs.FirstFault.{first_fault}
 use Rattle.mt_replay.specs.Texts.{absent_line, call_fault_line, called_line, cancel_line, complete_line, done_line, full_line, go_line, joined_line, memory_line, no_line, register_line, report_text, retired_line, ruled_line, stepped_line, under_way_line, up_line}
 
@@ -66,8 +64,8 @@ abbrev pub controlled_line : Machine → ℕ → Control → List ℕ
 controlled_line m k c = ruled_line (control m.system k c).answer
 
 -- addresses are of bytes, and a mapping is of pages
-abbrev pub mapping : ℕ → ℕ → ℕ → Bool → Mapping
-mapping address physical index global = record { vpage = address / page_bytes; ppage = physical / page_bytes; index = index; global = global }
+abbrev pub mapping : Mapped → Mapping
+mapping x = record { vpage = x.address / page_bytes; ppage = x.physical / page_bytes; index = x.index; global = x.global }
 
 -- ---- updates
 
@@ -138,131 +136,93 @@ may_go m = not (is_some m.order) && nat_lt 1 (length m.system.processors)
 abbrev pub stays_line : Machine → List ℕ → List ℕ
 stays_line m cause = if is_some m.order then under_way_line else cause
 
-abbrev pub up_text : Machine → List ℕ
-up_text m = if may_come m then up_line (length m.system.processors) else stays_line m full_line
-
-abbrev pub join_text : Machine → List ℕ
-join_text m = if may_come m then joined_line (length m.system.processors) else stays_line m full_line
+abbrev pub newcomer_text : Machine → Newcomer → List ℕ
+newcomer_text m Up = if may_come m then up_line (length m.system.processors) else stays_line m full_line
+newcomer_text m Join = if may_come m then joined_line (length m.system.processors) else stays_line m full_line
 
 abbrev pub retire_text : Machine → List ℕ
 retire_text m = if may_go m then retired_line (last_number m.system) else stays_line m no_line
 
-abbrev pub after_up : Machine → Machine
-after_up m = if may_come m then brought_up m else m
-
-abbrev pub after_join : Machine → Machine
-after_join m = if may_come m then admitted m else m
+abbrev pub after_newcomer : Machine → Newcomer → Machine
+after_newcomer m Up = if may_come m then brought_up m else m
+after_newcomer m Join = if may_come m then admitted m else m
 
 abbrev pub after_retire : Machine → Machine
 after_retire m = if may_go m then without_last m else m
 
--- ---- what a command asks for
+-- ---- what a command does where its processor is there, and what it writes
 
-abbrev pub task_of : Command → Task
-task_of (command.Ram base lines) = task.Window base lines
-task_of (command.Selfsnoop k) = task.Act (act.Selfsnoop k)
-task_of (command.Load k address) = task.Act (act.Ask k (ask.Access (op.Load address)))
-task_of (command.Store k address value) = task.Act (act.Ask k (ask.Access (op.Store address value)))
-task_of (command.Fence k) = task.Act (act.Ask k (ask.Access op.Fence))
-task_of (command.Map k address physical index global) = task.Act (act.Ask k (ask.Control (control_of.Map (mapping address physical index global))))
-task_of (command.Invlpg k address) = task.Act (act.Ask k (ask.Control (control_of.Invlpg address)))
-task_of (command.Cr3 k) = task.Act (act.Ask k (ask.Control control_of.Cr3))
-task_of (command.Pge k on) = task.Act (act.Ask k (ask.Control (control_of.Pge on)))
-task_of (command.Cd k on) = task.Act (act.Ask k (ask.Control (control_of.Cd on)))
-task_of command.Update = task.Act (act.Section section.Begin)
-task_of command.Begin = task.Act (act.Section section.Begin)
-task_of command.Go = task.Act act.Go
-task_of command.Cancel = task.Act act.Cancel
-task_of command.Report = task.Report
-task_of (command.Step k) = task.Act (act.Ask k ask.Step)
-task_of command.Up = task.Up
-task_of command.Join = task.Join
-task_of command.Retire = task.Act act.Retire
-task_of (command.Word address) = task.Act (act.Word address)
-task_of (command.Msr k number) = task.Act (act.Ask k (ask.Register number))
-task_of (command.Register number value) = task.Act (act.Section (section.Register number value))
-task_of command.End = task.Act (act.Section section.End)
-task_of other = task.Act act.Nothing
-
--- ---- what is done, and what it writes
-
--- of a processor that is asked, if any, where it is there
 pub record Effect : Type 0 where
   pub text : List ℕ
   pub machine : Machine
-  pub goal : RegisterFile
 
-abbrev pub leads_to : ReplayState → List ℕ → Machine → Effect
-leads_to s text m = record { text = text; machine = m; goal = s.goal }
+abbrev pub leads_to : List ℕ → Machine → Effect
+leads_to text m = record { text = text; machine = m }
 
+abbrev pub accessed : Machine → ℕ → Op → Effect
+accessed m k o = leads_to (accessed_line m k o) (next m (Accesses k o))
+
+abbrev pub controlled : Machine → ℕ → Control → Effect
+controlled m k c = leads_to (controlled_line m k c) (next m (Controls k c))
+
+-- what is asked of processor k
 abbrev pub asked_of : ReplayState → ℕ → Ask → Effect
-asked_of s k (ask.Access o) = leads_to s (accessed_line s.machine k o) (next s.machine (Accesses k o))
-asked_of s k (ask.Control c) = leads_to s (controlled_line s.machine k c) (next s.machine (Controls k c))
-asked_of s k ask.Step = leads_to s (stepped_line (file_at (step_after s.machine k).system.processors k s.goal) (step_answer s.machine k)) (step_after s.machine k)
-asked_of s k (ask.Register number) = leads_to s (register_line number (register_value s k number)) s.machine
+asked_of s k (ask.Load address) = accessed s.machine k (op.Load address)
+asked_of s k (ask.Store address value) = accessed s.machine k (op.Store address value)
+asked_of s k ask.Fence = accessed s.machine k op.Fence
+asked_of s k (ask.Map x) = controlled s.machine k (control_of.Map (mapping x))
+asked_of s k (ask.Invlpg address) = controlled s.machine k (control_of.Invlpg address)
+asked_of s k ask.Cr3 = controlled s.machine k control_of.Cr3
+asked_of s k (ask.Pge on) = controlled s.machine k (control_of.Pge on)
+asked_of s k (ask.Cd on) = controlled s.machine k (control_of.Cd on)
+asked_of s k ask.Step = leads_to (stepped_line (file_at (step_after s.machine k).system.processors k s.goal) (step_answer s.machine k)) (step_after s.machine k)
+asked_of s k (ask.Msr number) = leads_to (register_line number (register_value s k number)) s.machine
 
-abbrev pub laid : ReplayState → Section → Effect
-laid s section.Begin = record { text = []; machine = s.machine; goal = first_file s }
-laid s (section.Register number value) = record { text = []; machine = s.machine; goal = with_register s.goal number value }
-laid s section.End =
-    leads_to s
+abbrev pub effect : ReplayState → Command → Effect
+effect s (command.Ram base lines) = leads_to [] (grown (window base lines) s.machine)
+effect s (command.Selfsnoop k) = leads_to [] (snooped k s.machine)
+effect s (command.Section End) =
+    leads_to
     (if is_update s.now.stage then update_line s.machine s.goal else call_line s.machine s.goal)
     (if is_update s.now.stage then after_update s.machine s.goal else after_call s.machine s.goal)
+effect s (command.Ask k a) = asked_of s k a
+effect s (command.Newcomer n) = leads_to (newcomer_text s.machine n) (after_newcomer s.machine n)
+effect s command.Retire = leads_to (retire_text s.machine) (after_retire s.machine)
+effect s command.Go = leads_to (go_line (is_undecided (go_of s.machine))) (after_word Goes s.machine)
+effect s command.Cancel = leads_to (cancel_line (is_undecided (go_of s.machine))) (after_word Cancels s.machine)
+effect s command.Report = leads_to (report_text s.machine.system.processors) s.machine
+effect s (command.Word address) = leads_to (memory_line (memory_word s.machine.system.memory address)) s.machine
+effect s other = leads_to [] s.machine
 
-abbrev pub acted : ReplayState → Act → Effect
-acted s (act.Ask k a) = asked_of s k a
-acted s act.Go = leads_to s (go_line (is_undecided (go_of s.machine))) (after_word Goes s.machine)
-acted s act.Cancel = leads_to s (cancel_line (is_undecided (go_of s.machine))) (after_word Cancels s.machine)
-acted s (act.Word address) = leads_to s (memory_line (memory_word s.machine.system.memory address)) s.machine
-acted s act.Retire = leads_to s (retire_text s.machine) (after_retire s.machine)
-acted s (act.Selfsnoop k) = leads_to s [] (snooped k s.machine)
-acted s (act.Section line) = laid s line
-acted s act.Nothing = leads_to s [] s.machine
+abbrev pub present_text : ReplayState → Command → List ℕ
+present_text s c = (effect s c).text
 
-abbrev pub effect : ReplayState → Task → Effect
-effect s task.Report = leads_to s (report_text s.machine.system.processors) s.machine
-effect s (task.Window base lines) = leads_to s [] (grown (window base lines) s.machine)
-effect s task.Up = leads_to s (up_text s.machine) (after_up s.machine)
-effect s task.Join = leads_to s (join_text s.machine) (after_join s.machine)
-effect s (task.Act a) = acted s a
+abbrev pub present_after : ReplayState → Command → Machine
+present_after s c = (effect s c).machine
 
--- the processor of which something is asked
-abbrev pub asked : Task → Option ℕ
-asked (task.Act (act.Ask k a)) = Some k
-asked other = None
-
--- it isn't there: it went, or hasn't come up yet
-abbrev pub misses : Machine → Task → Bool
-misses m t = option_map_or (λ k. not (nat_lt k (length m.system.processors))) (asked t) false
-
-abbrev pub done_text : ReplayState → Task → List ℕ
-done_text s t = if misses s.machine t then absent_line else (effect s t).text
-
-abbrev pub done_after : ReplayState → Task → Machine
-done_after s t = if misses s.machine t then s.machine else (effect s t).machine
+-- a line of a section changes the goal
+abbrev pub goal_after : ReplayState → Command → RegisterFile
+goal_after s (command.Section Update) = first_file s
+goal_after s (command.Section Begin) = first_file s
+goal_after s (command.Section (Register number value)) = with_register s.goal number value
+goal_after s other = s.goal
 
 -- ---- commands
 
-abbrev pub present_text : ReplayState → Command → List ℕ
-present_text s c = (effect s (task_of c)).text
-
-abbrev pub present_after : ReplayState → Command → Machine
-present_after s c = (effect s (task_of c)).machine
-
+-- the processor of which something is asked
 abbrev pub named : Command → Option ℕ
-named c = asked (task_of c)
+named (command.Ask k a) = Some k
+named other = None
 
+-- it isn't there: it went, or hasn't come up yet
 abbrev pub is_absent : Machine → Command → Bool
-is_absent m c = misses m (task_of c)
+is_absent m c = option_map_or (λ k. not (nat_lt k (length m.system.processors))) (named c) false
 
 abbrev pub command_text : ReplayState → Command → List ℕ
-command_text s c = done_text s (task_of c)
+command_text s c = if is_absent s.machine c then absent_line else present_text s c
 
 abbrev pub machine_after : ReplayState → Command → Machine
-machine_after s c = done_after s (task_of c)
-
-abbrev pub goal_after : ReplayState → Command → RegisterFile
-goal_after s c = (effect s (task_of c)).goal
+machine_after s c = if is_absent s.machine c then s.machine else present_after s c
 
 abbrev pub state_after : ReplayState → Command → ReplayState
 state_after s c = record { now = accepted s.now c; machine = machine_after s c; goal = goal_after s c }

@@ -17,7 +17,7 @@ use Rattle.mt_script.specs.Stages.{is_in_dump}
 use Rattle.mt_script.specs.Accept.{accepted}
 use Rattle.mt_script.specs.Commands.{command_of}
 use Rattle.mt_script.specs.Head.{is_end_command}
-use Rattle.mt_script.specs.Script.{script_offence}
+use Rattle.mt_script.specs.Script.{HeadLine, head_line, script_offence}
 use Rattle.mt_script.specs.declared.command.Command.{Command}
 use Rattle.mt_script.specs.declared.fault.Offence.{Offence}
 use Rattle.mt_output.specs.Lines.{accepted_line, dump_refused_line, offence_line}
@@ -36,15 +36,6 @@ abbrev pub ShowsDump : List ℕ → Dump → Type 0
 ShowsDump text dump = shown_by (head_of text) ≡ Some dump
 
 -- ---- the same line by line
-
--- A line up to the dump's end: what stands set up, the dump's lines before it, and what it says as a line of the dump.
-pub record HeadLine : Type 0 where
-  pub now : Situation
-  pub before : List Reading
-  pub says : Reading
-
-abbrev pub head_line : Situation → List Reading → Reading → HeadLine
-head_line now before says = record { now = now; before = before; says = says }
 
 -- A line of the dump, which ends it where the last argument is true: the lines before it then show the dump, with a file for each
 -- of the processors, or in version 1 one for all.

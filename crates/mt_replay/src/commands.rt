@@ -10,7 +10,7 @@ ghost use Rattle.mt_core.specs.Arises.{grown};
 ghost use Rattle.mt_core.specs.Rounds.{in_order};
 ghost use Rattle.mt_core.specs.Steps.{step_after, step_answer};
 ghost use Rattle.mt_machine.specs.Update.{updated};
-ghost use Rattle.mt_replay.specs.ReplayState.{accessed_line, after_call, after_join, after_retire, after_up, after_update, after_word, call_fault, call_line, controlled_line, asked_of, done_after, done_text, file_at, is_undecided, join_text, mapping, may_come, memory_word, retire_text, task_of, up_text, update_line};
+ghost use Rattle.mt_replay.specs.ReplayState.{accessed_line, after_call, after_newcomer, after_retire, after_update, after_word, asked_of, call_fault, call_line, command_text, controlled_line, file_at, is_undecided, machine_after, mapping, may_come, memory_word, newcomer_text, retire_text, update_line};
 ghost use Rattle.mt_script.specs.Situation.{Situation};
 ghost use Rattle.mt_replay.specs.Doing.{CanAsk};
 ghost use Rattle.mt_replay.specs.Parts.{state};
@@ -19,7 +19,6 @@ ghost use Rattle.mt_regs.specs.Registers.{HasThreeDigits, value_at};
 ghost use Rattle.std.specs.Option.{option_map_or};
 ghost use Rattle.mt_kinds.specs.Sizes.{most_lines};
 
-use crate::task::{Act, Ask, Section, Task};
 use crate::texts::{
     append_done, append_ruled, append_stepped, call_fault_line, called_line, cancel_line,
     complete_line, full_line, go_line, joined_line, memory_line, register_line, retired_line,
@@ -34,7 +33,7 @@ use mt_ports::{Gate, NoMemory};
 use mt_ram::RamFault;
 use mt_regs::RegFile;
 use mt_rendezvous::{Caller, update_with};
-use mt_script::Command;
+use mt_script::{Ask, Command, Mapped, Newcomer};
 use mt_tlb::Mapping;
 use std::alloc::Global;
 use std::sync::Wait;
@@ -234,56 +233,14 @@ pub(crate) fn add_window(core: &mut Core, base: u64, lines: u32) -> Result<(), N
 }
 
 // Addresses are of bytes, and a mapping is of pages.
-fn mapping(address: u64, physical: u64, index: u8, global: bool) -> Mapping
-    ensures { result ≡ mapping address physical index global }
+fn mapping(asked: Mapped) -> Mapping
+    ensures { result ≡ mapping asked }
 {
     Mapping {
-        vpage: address / PAGE_BYTES,
-        ppage: physical / PAGE_BYTES,
-        index,
-        global,
-    }
-}
-
-/// What a command asks for.
-#[inline(always)]
-pub(crate) fn task_of(c: &Command) -> Task
-    ensures { result ≡ task_of c.now }
-{
-    match *c {
-        Command::Report => Task::Report,
-        Command::Ram(base, lines) => Task::Window(base, lines),
-        Command::Up => Task::Up,
-        Command::Join => Task::Join,
-        Command::Load(k, address) => Task::Act(Act::Ask(k, Ask::Access(Op::Load(address)))),
-        Command::Store(k, address, value) => {
-            Task::Act(Act::Ask(k, Ask::Access(Op::Store(address, value))))
-        }
-        Command::Fence(k) => Task::Act(Act::Ask(k, Ask::Access(Op::Fence))),
-        Command::Map(k, address, physical, index, global) => {
-            let x = mapping(address, physical, index, global);
-            Task::Act(Act::Ask(k, Ask::Control(Control::Map(x))))
-        }
-        Command::Invlpg(k, address) => Task::Act(Act::Ask(
-            k,
-            Ask::Control(Control::Invlpg(address)),
-        )),
-        Command::Cr3(k) => Task::Act(Act::Ask(k, Ask::Control(Control::Cr3))),
-        Command::Pge(k, on) => Task::Act(Act::Ask(k, Ask::Control(Control::Pge(on)))),
-        Command::Cd(k, on) => Task::Act(Act::Ask(k, Ask::Control(Control::Cd(on)))),
-        Command::Step(k) => Task::Act(Act::Ask(k, Ask::Step)),
-        Command::Msr(k, msr) => Task::Act(Act::Ask(k, Ask::Register(msr))),
-        Command::Go => Task::Act(Act::Go),
-        Command::Cancel => Task::Act(Act::Cancel),
-        Command::Word(address) => Task::Act(Act::Word(address)),
-        Command::Retire => Task::Act(Act::Retire),
-        Command::Selfsnoop(k) => Task::Act(Act::Selfsnoop(k)),
-        Command::Update | Command::Begin => Task::Act(Act::Section(Section::Begin)),
-        Command::Register { msr, value } => Task::Act(Act::Section(Section::Register(msr, value))),
-        Command::End => Task::Act(Act::Section(Section::End)),
-        Command::Cpus(_) | Command::Dump | Command::Blank | Command::DumpLine => {
-            Task::Act(Act::Nothing)
-        }
+        vpage: asked.address / PAGE_BYTES,
+        ppage: asked.physical / PAGE_BYTES,
+        index: asked.index,
+        global: asked.global,
     }
 }
 
@@ -296,10 +253,16 @@ fn ask_present(writer: &mut Writer, core: &mut Core, k: u32, ask: Ask)
     ensures after { (now : Situation) (goal : RegisterFile) → core.new ≡ (asked_of (state now core.old goal) k ask).machine }
 {
     match ask {
-        Ask::Access(op) => access(writer, core, k, op),
-        Ask::Control(c) => control(writer, core, k, c),
+        Ask::Load(address) => access(writer, core, k, Op::Load(address)),
+        Ask::Store(address, value) => access(writer, core, k, Op::Store(address, value)),
+        Ask::Fence => access(writer, core, k, Op::Fence),
+        Ask::Map(asked) => control(writer, core, k, Control::Map(mapping(asked))),
+        Ask::Invlpg(address) => control(writer, core, k, Control::Invlpg(address)),
+        Ask::Cr3 => control(writer, core, k, Control::Cr3),
+        Ask::Pge(on) => control(writer, core, k, Control::Pge(on)),
+        Ask::Cd(on) => control(writer, core, k, Control::Cd(on)),
         Ask::Step => step(writer, core, k),
-        Ask::Register(msr) => register(writer, core, k, msr),
+        Ask::Msr(msr) => register(writer, core, k, msr),
     }
 }
 
@@ -307,8 +270,8 @@ fn ask_present(writer: &mut Writer, core: &mut Core, k: u32, ask: Ask)
 pub(crate) fn ask_one(writer: &mut Writer, core: &mut Core, k: u32, ask: Ask)
     requires line { length writer.old + LINE_ROOM ≤ WRITER_ROOM }
     requires fits { CanAsk core.old k ask }
-    ensures text { (now : Situation) (goal : RegisterFile) → writer.new ≡ writer.old ++ done_text (state now core.old goal) (Task.Act (Act.Ask k ask)) }
-    ensures after { (now : Situation) (goal : RegisterFile) → core.new ≡ done_after (state now core.old goal) (Task.Act (Act.Ask k ask)) }
+    ensures text { (now : Situation) (goal : RegisterFile) → writer.new ≡ writer.old ++ command_text (state now core.old goal) (Command.Ask k ask) }
+    ensures after { (now : Situation) (goal : RegisterFile) → core.new ≡ machine_after (state now core.old goal) (Command.Ask k ask) }
 {
     if (k as usize) < core.system().cpus().len() {
         ask_present(writer, core, k, ask);
@@ -317,13 +280,12 @@ pub(crate) fn ask_one(writer: &mut Writer, core: &mut Core, k: u32, ask: Ask)
     }
 }
 
-/// Brings a processor up, where one may come. The line says so, or why none does. The error comes only
-/// where one may come and the allocator has no room; nothing then changes.
-pub(crate) fn bring_up(core: &mut Core) -> Result<LineBuffer, NoMemory>
+// Brings a processor up, where one may come, which stays blank.
+fn bring_up(core: &mut Core) -> Result<LineBuffer, NoMemory>
     requires some { 0 < length core.old.system.processors }
     requires room { HasEraRoom core.old }
-    ensures text { IfOk result (λ line. line.items ≡ up_text core.old) }
-    ensures after { OnOk result (core.new ≡ after_up core.old) }
+    ensures text { IfOk result (λ line. line.items ≡ newcomer_text core.old Newcomer.Up) }
+    ensures after { OnOk result (core.new ≡ after_newcomer core.old Newcomer.Up) }
     ensures asks { OnErr result (may_come core.old ≡ true) }
     ensures kept { OnErr result (core.new ≡ core.old) }
 {
@@ -336,12 +298,12 @@ pub(crate) fn bring_up(core: &mut Core) -> Result<LineBuffer, NoMemory>
     }
 }
 
-/// The same, and leads all through the newcomer's update.
-pub(crate) fn admit(core: &mut Core) -> Result<LineBuffer, NoMemory>
+// The same, and leads all through the newcomer's update.
+fn admit(core: &mut Core) -> Result<LineBuffer, NoMemory>
     requires some { 0 < length core.old.system.processors }
     requires room { HasEraRoom core.old }
-    ensures text { IfOk result (λ line. line.items ≡ join_text core.old) }
-    ensures after { OnOk result (core.new ≡ after_join core.old) }
+    ensures text { IfOk result (λ line. line.items ≡ newcomer_text core.old Newcomer.Join) }
+    ensures after { OnOk result (core.new ≡ after_newcomer core.old Newcomer.Join) }
     ensures asks { OnErr result (may_come core.old ≡ true) }
     ensures kept { OnErr result (core.new ≡ core.old) }
 {
@@ -351,6 +313,22 @@ pub(crate) fn admit(core: &mut Core) -> Result<LineBuffer, NoMemory>
         Err(UpFault::UnderWay) => Ok(under_way_line()),
         Err(UpFault::Full) => Ok(full_line()),
         Err(UpFault::NoMemory) => Err(NoMemory),
+    }
+}
+
+/// Brings a processor in, where one may come. The line says so, or why none does. The error comes only
+/// where one may come and the allocator has no room; nothing then changes.
+pub(crate) fn bring_in(core: &mut Core, newcomer: Newcomer) -> Result<LineBuffer, NoMemory>
+    requires some { 0 < length core.old.system.processors }
+    requires room { HasEraRoom core.old }
+    ensures text { IfOk result (λ line. line.items ≡ newcomer_text core.old newcomer) }
+    ensures after { OnOk result (core.new ≡ after_newcomer core.old newcomer) }
+    ensures asks { OnErr result (may_come core.old ≡ true) }
+    ensures kept { OnErr result (core.new ≡ core.old) }
+{
+    match newcomer {
+        Newcomer::Up => bring_up(core),
+        Newcomer::Join => admit(core),
     }
 }
 

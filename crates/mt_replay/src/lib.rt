@@ -7,10 +7,8 @@ mod replayer;
 mod report;
 mod running;
 mod summing;
-mod task;
 mod texts;
 
 pub use replayer::Replayer;
 pub use running::{replay, replay_with};
 pub use summing::{Totals, summary, summary_with};
-pub use task::{Act, Ask, Section, Task};

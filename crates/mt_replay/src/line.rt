@@ -8,23 +8,21 @@ ghost use Rattle.mt_script.specs.Accept.{Fits};
 ghost use Rattle.mt_script.specs.Stages.{is_in_dump};
 ghost use Rattle.mt_dump.specs.ForProcessors.{has_each};
 ghost use Rattle.mt_replay.specs.Kept.{HasEras};
-ghost use Rattle.mt_replay.specs.Parts.{AsksForMemory};
-ghost use Rattle.mt_replay.specs.ReplayState.{ReplayState, command_text, may_come, state_after, task_of};
+ghost use Rattle.mt_replay.specs.Parts.{AsksForMemory, IsFormed};
+ghost use Rattle.mt_replay.specs.ReplayState.{ReplayState, command_text, may_come, state_after};
 ghost use Rattle.mt_replay.specs.Running.{AsksAt, CarriesOut, HasEraRoomAt, HasErasAt, IsAt, HasOutput, Writes, StandsAt, dump_at, line_at, setup_of};
 ghost use Rattle.mt_stream.specs.Lines.{IfGoesOn, Takes};
 ghost use Rattle.mt_output.specs.Ports.{change, port};
 ghost use Rattle.mt_replay.specs.Summing.{Begins, Lasts, state_in};
 ghost use Rattle.mt_replay.specs.Transcript.{ScriptState, in_body};
 
-use crate::commands::task_of;
 use crate::replayer::Replayer;
-use crate::task::{Act, Task};
 use mt_dump::Dump;
 use mt_output::{LineBuffer, Writer, accepted_line, dump_refused_line, offence_line};
 use mt_ports::{Failed, Gate, NoMemory, Sink};
 use mt_regs::first_refusal;
 use mt_rendezvous::Caller;
-use mt_script::{Command, Head, Offence, Setup, read_command};
+use mt_script::{Command, Head, Newcomer, Offence, Setup, read_command};
 use mt_stream::{Stop, tell};
 use mt_text::Line;
 use std::alloc::Global;
@@ -106,18 +104,17 @@ fn begin<K: Sink>(
     }
 }
 
-// Does a command that asks for this act. Its line is formed behind the bytes that wait, once there is room for it.
+// Does a command that asks for no memory. Its line is formed behind the bytes that wait, once there is room for it.
 fn form<R: Threads + Wait + Sync, K: Sink, G: Gate>(
     caller: &Caller<R, G>,
     alloc: Global,
     replayer: &mut Replayer,
     c: &Command,
-    asked: Act,
     writer: &mut Writer,
     sink: &mut K,
 ) -> Result<(), Failed>
     requires fits { Fits replayer.old.now c.now }
-    requires asked { task_of c.now ≡ Task.Act asked }
+    requires formed { IsFormed c.now }
     requires room { HasEraRoom replayer.old.machine }
     ensures bytes { Adds (command_text replayer.old c.now) (change writer.old writer.new) (port K.taken sink.old sink.new) result }
     ensures after { OnOk result (replayer.new ≡ state_after replayer.old c.now) }
@@ -125,7 +122,7 @@ fn form<R: Threads + Wait + Sync, K: Sink, G: Gate>(
 {
     match writer.make_room(sink) {
         Ok(()) => {
-            replayer.run(caller, alloc, c, asked, writer);
+            replayer.run(caller, alloc, c, writer);
             Ok(())
         }
         Err(failed) => Err(failed),
@@ -151,38 +148,22 @@ fn write_newcomer<K: Sink>(
     }
 }
 
-// Brings a processor up and writes the line of it. It returns a stop if memory is refused.
+// Brings a processor in and writes the line of it. It returns a stop if memory is refused.
 #[inline(never)]
-fn bring_up<K: Sink>(
+fn bring_in<K: Sink>(
     replayer: &mut Replayer,
+    newcomer: Newcomer,
     writer: &mut Writer,
     sink: &mut K,
 ) -> Result<Option<Stop>, Failed>
-    requires fits { Fits replayer.old.now Command.Up }
+    requires fits { Fits replayer.old.now (Command.Newcomer newcomer) }
     requires room { HasEraRoom replayer.old.machine }
-    ensures bytes { CarriesOut (change replayer.old replayer.new) Command.Up (change writer.old writer.new) (port K.taken sink.old sink.new) result }
+    ensures bytes { CarriesOut (change replayer.old replayer.new) (Command.Newcomer newcomer) (change writer.old writer.new) (port K.taken sink.old sink.new) result }
     ensures asks { (stop : Stop) → result ≡ Ok (Some stop) → may_come replayer.old.machine ≡ true }
     ensures refused { (stop : Stop) → result ≡ Ok (Some stop) → stop ≡ Stop.NoMemory }
     ensures cause { HasCause (K.faults sink.old) (K.faults sink.new) result }
 {
-    write_newcomer(replayer.bring_up(), writer, sink)
-}
-
-// The same, with its update.
-#[inline(never)]
-fn admit<K: Sink>(
-    replayer: &mut Replayer,
-    writer: &mut Writer,
-    sink: &mut K,
-) -> Result<Option<Stop>, Failed>
-    requires fits { Fits replayer.old.now Command.Join }
-    requires room { HasEraRoom replayer.old.machine }
-    ensures bytes { CarriesOut (change replayer.old replayer.new) Command.Join (change writer.old writer.new) (port K.taken sink.old sink.new) result }
-    ensures asks { (stop : Stop) → result ≡ Ok (Some stop) → may_come replayer.old.machine ≡ true }
-    ensures refused { (stop : Stop) → result ≡ Ok (Some stop) → stop ≡ Stop.NoMemory }
-    ensures cause { HasCause (K.faults sink.old) (K.faults sink.new) result }
-{
-    write_newcomer(replayer.admit(), writer, sink)
+    write_newcomer(replayer.bring_in(newcomer), writer, sink)
 }
 
 // Does a command and writes what it says. It returns a stop if memory is refused.
@@ -201,18 +182,17 @@ fn do_command<R: Threads + Wait + Sync, K: Sink, G: Gate>(
     ensures refused { (stop : Stop) → result ≡ Ok (Some stop) → stop ≡ Stop.NoMemory }
     ensures cause { HasCause (K.faults sink.old) (K.faults sink.new) result }
 {
-    match task_of(c) {
-        Task::Report => match replayer.report(writer, sink) {
+    match *c {
+        Command::Report => match replayer.report(writer, sink) {
             Ok(()) => Ok(None),
             Err(failed) => Err(failed),
         },
-        Task::Window(base, lines) => match replayer.add_window(base, lines) {
+        Command::Ram(base, lines) => match replayer.add_window(base, lines) {
             Ok(()) => Ok(None),
             Err(_) => Ok(Some(Stop::NoMemory)),
         },
-        Task::Up => bring_up(replayer, writer, sink),
-        Task::Join => admit(replayer, writer, sink),
-        Task::Act(asked) => match form(caller, alloc, replayer, c, asked, writer, sink) {
+        Command::Newcomer(newcomer) => bring_in(replayer, newcomer, writer, sink),
+        _ => match form(caller, alloc, replayer, c, writer, sink) {
             Ok(()) => Ok(None),
             Err(failed) => Err(failed),
         },

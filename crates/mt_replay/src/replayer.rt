@@ -12,16 +12,12 @@ ghost use Rattle.mt_ports.specs.Causes.{HasCause};
 ghost use Rattle.mt_output.specs.Writing.{Adds};
 ghost use Rattle.mt_output.specs.Ports.{change, port};
 ghost use Rattle.mt_replay.specs.Kept.{IsReplayState};
-ghost use Rattle.mt_replay.specs.Doing.{CanAct};
-ghost use Rattle.mt_replay.specs.declared.task.Task.{Task};
-ghost use Rattle.mt_replay.specs.Parts.{state};
-ghost use Rattle.mt_replay.specs.ReplayState.{acted, after_call, after_update, call_line, command_text, done_after, done_text, file_at, first_state, is_update, laid, may_come, state_after, task_of, update_line, with_register};
+ghost use Rattle.mt_replay.specs.Doing.{CanDo};
+ghost use Rattle.mt_replay.specs.Parts.{IsFormed, state};
+ghost use Rattle.mt_replay.specs.ReplayState.{after_call, after_update, call_line, command_text, file_at, first_state, goal_after, is_update, machine_after, may_come, state_after, update_line, with_register};
 
-use crate::commands::{
-    add_window, admit, ask_one, bring_up, call, cancel, go, retire, update, word,
-};
+use crate::commands::{add_window, ask_one, bring_in, call, cancel, go, retire, update, word};
 use crate::report::write_report;
-use crate::task::{Act, Section};
 use mt_core::Core;
 use mt_dump::Dump;
 use mt_output::{LINE_ROOM, LineBuffer, WRITER_ROOM, Writer};
@@ -29,7 +25,7 @@ use mt_ports::{Failed, Gate, NoMemory, Sink};
 use mt_ram::Ram;
 use mt_regs::RegFile;
 use mt_rendezvous::Caller;
-use mt_script::{Command, Setup, Stage};
+use mt_script::{Command, Newcomer, Section, Setup, Stage};
 use std::alloc::Global;
 use std::marker::Model;
 use std::sync::Wait;
@@ -116,52 +112,48 @@ fn take_section_line<R: Threads + Wait + Sync, G: Gate>(
     requires some { 0 < length core.old.system.processors }
     requires fits { All (FitsGoal goal.old) core.old.system.processors }
     requires room { HasEraRoom core.old }
-    ensures text { (now : Situation) → now.stage ≡ stage → writer.new ≡ writer.old ++ (laid (state now core.old goal.old) line).text }
-    ensures machine { (now : Situation) → now.stage ≡ stage → core.new ≡ (laid (state now core.old goal.old) line).machine }
-    ensures goal { (now : Situation) → goal.new ≡ (laid (state now core.old goal.old) line).goal }
+    ensures text { (now : Situation) → now.stage ≡ stage → writer.new ≡ writer.old ++ command_text (state now core.old goal.old) (Command.Section line) }
+    ensures machine { (now : Situation) → now.stage ≡ stage → core.new ≡ machine_after (state now core.old goal.old) (Command.Section line) }
+    ensures goal { (now : Situation) → goal.new ≡ goal_after (state now core.old goal.old) (Command.Section line) }
 {
     match line {
-        Section::Begin => begin_goal(core, goal),
-        Section::Register(msr, value) => set(goal, msr, value),
+        Section::Update | Section::Begin => begin_goal(core, goal),
+        Section::Register { msr, value } => set(goal, msr, value),
         Section::End => end_section(caller, alloc, writer, core, goal, stage),
     }
 }
 
-// Does what asks for no memory.
-fn do_act<R: Threads + Wait + Sync, G: Gate>(
+// Does a command that asks for no memory, and has at most one line.
+fn do_formed<R: Threads + Wait + Sync, G: Gate>(
     caller: &Caller<R, G>,
     alloc: Global,
     writer: &mut Writer,
     setup: &Setup,
     core: &mut Core,
     goal: &mut RegFile,
-    act: Act,
+    c: &Command,
 )
     requires line { length writer.old + LINE_ROOM ≤ WRITER_ROOM }
     requires state { IsReplayState (state setup.now core.old goal.old) }
-    requires can { CanAct core.old act }
+    requires formed { IsFormed c.now }
+    requires can { CanDo core.old c.now }
     requires room { HasEraRoom core.old }
-    ensures text { writer.new ≡ writer.old ++ done_text (state setup.now core.old goal.old) (Task.Act act) }
-    ensures machine { core.new ≡ done_after (state setup.now core.old goal.old) (Task.Act act) }
-    ensures goal { goal.new ≡ (acted (state setup.now core.old goal.old) act).goal }
+    ensures text { writer.new ≡ writer.old ++ command_text (state setup.now core.old goal.old) c.now }
+    ensures machine { core.new ≡ machine_after (state setup.now core.old goal.old) c.now }
+    ensures goal { goal.new ≡ goal_after (state setup.now core.old goal.old) c.now }
 {
-    match act {
-        Act::Ask(k, asked) => ask_one(writer, core, k, asked),
-        Act::Go => go(writer, core),
-        Act::Cancel => cancel(writer, core),
-        Act::Word(address) => word(writer, core, address),
-        Act::Retire => retire(writer, core),
-        Act::Selfsnoop(k) => core.self_snoop(k),
-        Act::Section(line) => take_section_line(
-            caller,
-            alloc,
-            writer,
-            core,
-            goal,
-            line,
-            setup.stage(),
-        ),
-        Act::Nothing => {}
+    match *c {
+        Command::Ask(k, asked) => ask_one(writer, core, k, asked),
+        Command::Section(line) => {
+            take_section_line(caller, alloc, writer, core, goal, line, setup.stage())
+        }
+        Command::Selfsnoop(k) => core.self_snoop(k),
+        Command::Retire => retire(writer, core),
+        Command::Go => go(writer, core),
+        Command::Cancel => cancel(writer, core),
+        Command::Word(address) => word(writer, core, address),
+        Command::Blank | Command::Cpus(_) | Command::Dump | Command::DumpLine => {}
+        Command::Ram(..) | Command::Newcomer(_) | Command::Report => unreachable!(),
     }
 }
 
@@ -205,31 +197,30 @@ impl Replayer {
         let _ = &self.goal;
     }
 
-    /// Does a command that asks for this act, and adds its line to the bytes that wait. An update runs each
-    /// processor on a thread of its own, where the gate and the allocator let it.
+    /// Does a command that asks for no memory, and adds its line, if it has one, to the bytes that wait. An update runs
+    /// each processor on a thread of its own, where the gate and the allocator let it.
     pub fn run<R: Threads + Wait + Sync, G: Gate>(
         &mut self,
         caller: &Caller<R, G>,
         alloc: Global,
         c: &Command,
-        asked: Act,
         writer: &mut Writer,
     )
         requires line { length writer.old + LINE_ROOM ≤ WRITER_ROOM }
         requires fits { Fits self.old.now c.now }
-        requires asked { task_of c.now ≡ Task.Act asked }
+        requires formed { IsFormed c.now }
         requires room { HasEraRoom self.old.machine }
         ensures text { writer.new ≡ writer.old ++ command_text self.old c.now }
         ensures after { self.new ≡ state_after self.old c.now }
     {
-        do_act(
+        do_formed(
             caller,
             alloc,
             writer,
             &self.setup,
             &mut self.core,
             &mut self.goal,
-            asked,
+            c,
         );
         self.setup.accept(c);
     }
@@ -247,34 +238,19 @@ impl Replayer {
         Ok(())
     }
 
-    /// Brings a processor up, where one may come, and answers the line that says so, or why none does. The
+    /// Brings a processor in, where one may come, and returns the line that says so, or why none does. The
     /// error comes only where one may come and the allocator has no room; nothing then changes.
     #[inline(never)]
-    pub fn bring_up(&mut self) -> Result<LineBuffer, NoMemory>
-        requires fits { Fits self.old.now Command.Up }
+    pub fn bring_in(&mut self, newcomer: Newcomer) -> Result<LineBuffer, NoMemory>
+        requires fits { Fits self.old.now (Command.Newcomer newcomer) }
         requires room { HasEraRoom self.old.machine }
-        ensures text { IfOk result (λ line. line.items ≡ command_text self.old Command.Up) }
-        ensures after { OnOk result (self.new ≡ state_after self.old Command.Up) }
+        ensures text { IfOk result (λ line. line.items ≡ command_text self.old (Command.Newcomer newcomer)) }
+        ensures after { OnOk result (self.new ≡ state_after self.old (Command.Newcomer newcomer)) }
         ensures asks { OnErr result (may_come self.old.machine ≡ true) }
         ensures kept { OnErr result (self.new ≡ self.old) }
     {
-        let line = bring_up(&mut self.core)?;
-        self.setup.accept(&Command::Up);
-        Ok(line)
-    }
-
-    /// The same, and leads all processors through the newcomer's update.
-    #[inline(never)]
-    pub fn admit(&mut self) -> Result<LineBuffer, NoMemory>
-        requires fits { Fits self.old.now Command.Join }
-        requires room { HasEraRoom self.old.machine }
-        ensures text { IfOk result (λ line. line.items ≡ command_text self.old Command.Join) }
-        ensures after { OnOk result (self.new ≡ state_after self.old Command.Join) }
-        ensures asks { OnErr result (may_come self.old.machine ≡ true) }
-        ensures kept { OnErr result (self.new ≡ self.old) }
-    {
-        let line = admit(&mut self.core)?;
-        self.setup.accept(&Command::Join);
+        let line = bring_in(&mut self.core, newcomer)?;
+        self.setup.accept(&Command::Newcomer(newcomer));
         Ok(line)
     }
 

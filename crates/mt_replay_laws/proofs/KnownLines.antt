@@ -12,6 +12,7 @@ use Rattle.mt_script.specs.Commands.{command_of}
 use Rattle.mt_script.specs.Head.{HeadStep, goes_on, head_step, offends, shows}
 use Rattle.mt_script.specs.declared.command.Command.{Command}
 use Rattle.mt_script.specs.declared.command.Command.TheVariants as command
+use Rattle.mt_script.specs.declared.command.Section.TheVariants.{Register}
 use Rattle.mt_script.specs.declared.command.Stage.{Stage}
 use Rattle.mt_script.specs.declared.command.Stage.TheVariants.{NeedCpus, NeedDump}
 use Rattle.mt_script.specs.declared.fault.ScriptFault.{ScriptFault}
@@ -43,7 +44,7 @@ past_kept now (command.Ram base lines) past fits = past
 past_kept now (command.Selfsnoop k) past fits = past
 past_kept now command.Blank past fits = past
 past_kept now command.DumpLine past fits = past
-past_kept now (command.Register msr value) past fits = past
+past_kept now (command.Section (Register msr value)) past fits = past
 past_kept now other past fits = refl
 
 by_dump : (now : Situation) (before : List Reading) (number : ℕ) (line : List ℕ) (dump : Dump) → head_step now before number line ≡ shows dump → (refusal : Option (ℕ × Fault)) → first_refusal dump.files ≡ refusal

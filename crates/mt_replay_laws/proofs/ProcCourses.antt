@@ -1,8 +1,8 @@
 -- What requests leave that are carried out on machines one after the other.
 use Rattle.std.proofs.Common.{◌≡◌, ◌∙◌, ap, sym, refl, subst, arith, ℕ, ◌+◌, ◌<◌, ◌==◌, Bool, true, false, List, [], ◌∷◌, ◌++◌, length, Option, None, Some, Result, Ok, Err, append_assoc}
-use Rattle.std.specs.Prelude.{◌||◌, codes, if◌then◌else◌, replicate}
+use Rattle.std.specs.Prelude.{◌||◌, codes, replicate}
 use Rattle.std.specs.List.{AllByRecursion}
-use Rattle.std.specs.Option.{option_map, option_map_or}
+use Rattle.std.specs.Option.{option_map_or}
 use Rattle.std.proofs.lemmas.List.{length-map}
 use Rattle.mt_text.specs.Text.{end_of, lines_of, words_of}
 use Rattle.mt_text.specs.declared.place.Place.{Place}

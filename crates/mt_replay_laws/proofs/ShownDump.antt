@@ -11,13 +11,14 @@ use Rattle.mt_script.specs.Commands.{command_of}
 use Rattle.mt_script.specs.Script.{script_offence}
 use Rattle.mt_script.specs.declared.command.Command.{Command}
 use Rattle.mt_script.specs.declared.fault.ScriptFault.{ScriptFault}
+use Rattle.mt_script.proofs.Heads.{accepted_dump}
 use Rattle.mt_replay.specs.Heads.{HeadEnd, head_of, has_offence, shows_dump, stays_open}
 use Rattle.mt_replay_laws.specs.Through.{HoldsAlong}
 use Rattle.mt_replay.specs.Steps.{begins_by, begins_with, left, steps_in, steps_of}
 use Rattle.mt_replay.specs.ReplayState.{ReplayState, state_after}
 use Rattle.mt_replay.specs.Statuses.{ShowsDump}
 use Rattle.mt_replay_laws.specs.Through.{StatesHaveTheShownDump}
-use Rattle.mt_replay.proofs.Heads.{Comes, comes, dump_after}
+use Rattle.mt_replay.proofs.Heads.{Comes, comes}
 
 module _ (dump : Dump) where
   abbrev Has : ReplayState → Type 0
@@ -32,7 +33,7 @@ module _ (dump : Dump) where
         where
           by : (answer : Result Command ScriptFault) → AllByRecursion (λ step. Has (left step)) (steps_of s number (steps_in (number + 1) lines) answer)
           by (Err fault) = tt
-          by (Ok c) = later (state_after s c) (dump_after s.now c ∙ h)
+          by (Ok c) = later (state_after s c) (accepted_dump s.now c ∙ h)
 
   -- ---- whole scripts
 

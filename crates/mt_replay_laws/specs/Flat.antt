@@ -19,6 +19,9 @@ use Rattle.mt_flat.specs.Seen.{flat_after, flat_takes}
 use Rattle.mt_script.specs.Commands.{command_of, end_fault}
 use Rattle.mt_script.specs.declared.command.Command.{Command}
 use Rattle.mt_script.specs.declared.command.Command.TheVariants as command
+use Rattle.mt_script.specs.declared.command.Section.TheVariants.{End}
+use Rattle.mt_script.specs.declared.command.Ask.TheVariants as ask
+use Rattle.mt_script.specs.declared.command.Newcomer.TheVariants.{Join}
 use Rattle.mt_script.specs.declared.fault.ScriptFault.{ScriptFault}
 use Rattle.mt_script.specs.declared.fault.Offence.TheVariants as offence
 use Rattle.mt_replay.specs.Texts.{absent_line, done_line}
@@ -51,18 +54,18 @@ abbrev pub flat_retired : Machine → Flat → Flat
 flat_retired m f = if may_go m then empty_all (last_number m.system) f else f
 
 abbrev pub flat_present : ReplayState → Command → Flat → Flat
-flat_present s (command.Load k address) f = flat_accessed s.machine k (op.Load address) f
-flat_present s (command.Store k address value) f = flat_accessed s.machine k (op.Store address value) f
-flat_present s (command.Fence k) f = flat_accessed s.machine k op.Fence f
-flat_present s (command.Map k address physical index global) f = flat_controlled s.machine k (control_of.Map (mapping address physical index global)) f
-flat_present s (command.Invlpg k address) f = flat_controlled s.machine k (control_of.Invlpg address) f
-flat_present s (command.Cr3 k) f = flat_controlled s.machine k control_of.Cr3 f
-flat_present s (command.Pge k on) f = flat_controlled s.machine k (control_of.Pge on) f
-flat_present s (command.Cd k on) f = flat_controlled s.machine k (control_of.Cd on) f
-flat_present s (command.Step k) f = flat_stepped s.machine k f
-flat_present s command.Join f = flat_joined s.machine f
+flat_present s (command.Ask k (ask.Load address)) f = flat_accessed s.machine k (op.Load address) f
+flat_present s (command.Ask k (ask.Store address value)) f = flat_accessed s.machine k (op.Store address value) f
+flat_present s (command.Ask k ask.Fence) f = flat_accessed s.machine k op.Fence f
+flat_present s (command.Ask k (ask.Map x)) f = flat_controlled s.machine k (control_of.Map (mapping x)) f
+flat_present s (command.Ask k (ask.Invlpg address)) f = flat_controlled s.machine k (control_of.Invlpg address) f
+flat_present s (command.Ask k ask.Cr3) f = flat_controlled s.machine k control_of.Cr3 f
+flat_present s (command.Ask k (ask.Pge on)) f = flat_controlled s.machine k (control_of.Pge on) f
+flat_present s (command.Ask k (ask.Cd on)) f = flat_controlled s.machine k (control_of.Cd on) f
+flat_present s (command.Ask k ask.Step) f = flat_stepped s.machine k f
+flat_present s (command.Newcomer Join) f = flat_joined s.machine f
 flat_present s command.Retire f = flat_retired s.machine f
-flat_present s command.End f = if is_update s.now.stage then flat_updated s.machine s.goal f else f
+flat_present s (command.Section End) f = if is_update s.now.stage then flat_updated s.machine s.goal f else f
 flat_present s other f = f
 
 abbrev pub flat_command : ReplayState → Command → Flat → Flat
@@ -76,7 +79,7 @@ flat_done m f k address (Value value kind) = Value (option_map_or (λ word. flat
 flat_done m f k address other = other
 
 abbrev pub flat_present_text : ReplayState → Flat → Command → List ℕ
-flat_present_text s f (command.Load k address) = done_line (flat_done s.machine f k address (access s.machine.system k (op.Load address)).answer)
+flat_present_text s f (command.Ask k (ask.Load address)) = done_line (flat_done s.machine f k address (access s.machine.system k (op.Load address)).answer)
 flat_present_text s f other = present_text s other
 
 abbrev pub flat_text : ReplayState → Flat → Command → List ℕ

@@ -24,6 +24,8 @@ use Rattle.mt_script.specs.Commands.{command_of}
 use Rattle.mt_script.specs.Script.{script_offence}
 use Rattle.mt_script.specs.declared.command.Command.{Command}
 use Rattle.mt_script.specs.declared.command.Command.TheVariants as command
+use Rattle.mt_script.specs.declared.command.Section.TheVariants.{Update, Begin, Register, End}
+use Rattle.mt_script.specs.declared.command.Newcomer.TheVariants.{Up, Join}
 use Rattle.mt_script.specs.declared.fault.Offence.{Offence}
 use Rattle.mt_output.specs.Lines.{accepted_line, dump_refused_line, line, refused_line}
 use Rattle.mt_replay.specs.Kept.{start_of}
@@ -102,10 +104,10 @@ IsSectionCall step = (wrote step ≡ called_line) ⊎ ((era : ℕ) × (wrote ste
 
 -- so does a processor that comes up, and one that joins
 abbrev pub ComesUp : ScriptStep → ℕ → Type 0
-ComesUp step k = (step.command ≡ command.Up) × (wrote step ≡ up_line k)
+ComesUp step k = (step.command ≡ command.Newcomer Up) × (wrote step ≡ up_line k)
 
 abbrev pub Joins : ScriptStep → ℕ → Type 0
-Joins step k = (step.command ≡ command.Join) × (wrote step ≡ joined_line k)
+Joins step k = (step.command ≡ command.Newcomer Join) × (wrote step ≡ joined_line k)
 
 abbrev pub IsNewcomer : ScriptStep → Type 0
 IsNewcomer step = (k : ℕ) × (ComesUp step k ⊎ Joins step k)
@@ -117,7 +119,7 @@ IsCall step = IsSectionCall step ⊎ IsNewcomer step
 -- an update is accepted exactly where none is under way and its goal has no fault
 abbrev pub AcceptedWhereIdleAndWhole : Type 0
 AcceptedWhereIdleAndWhole =
-    (text : List ℕ) (front rest : List ScriptStep) (step : ScriptStep) → course text ≡ front ++ step ∷ rest → step.command ≡ command.End
+    (text : List ℕ) (front rest : List ScriptStep) (step : ScriptStep) → course text ≡ front ++ step ∷ rest → step.command ≡ command.Section End
     → IsCall step ↔ ((step.before.machine.order ≡ None) × IsAccepted step.before.goal)
 
 -- that of a newcomer exactly where none is under way and fewer than sixteen processors stand; its number is the next
@@ -144,7 +146,7 @@ next_era step = common_era step.before.machine.system.processors + 1
 
 -- a line of a section gives the goal one register
 abbrev pub given : RegisterFile → Command → RegisterFile
-given goal (command.Register number value) = with_register goal number value
+given goal (command.Section (Register number value)) = with_register goal number value
 given goal other = goal
 
 abbrev pub goal_of : RegisterFile → List ScriptStep → RegisterFile
@@ -158,9 +160,9 @@ pub record SectionOf (front : List ScriptStep) (call : ScriptStep) : Type 0 wher
   pub opens : ScriptStep
   pub lines : List ScriptStep
   pub stand : front ≡ before ++ opens ∷ lines
-  pub begins : (opens.command ≡ command.Update) ⊎ (opens.command ≡ command.Begin)
-  pub no_other_end : NoneOf (λ step. step.command ≡ command.End) lines
-  pub ends : call.command ≡ command.End
+  pub begins : (opens.command ≡ command.Section Update) ⊎ (opens.command ≡ command.Section Begin)
+  pub no_other_end : NoneOf (λ step. step.command ≡ command.Section End) lines
+  pub ends : call.command ≡ command.Section End
   pub goal : call.before.goal ≡ goal_of (first_file opens.before) lines
 
 -- each call but for a newcomer ends a section of this script, which gives its goal
@@ -170,8 +172,7 @@ GoalsAreOfTheirSections =
 
 -- for a newcomer the goal is processor 0's registers
 abbrev pub goal_by : Command → ReplayState → RegisterFile
-goal_by command.Up s = first_file s
-goal_by command.Join s = first_file s
+goal_by (command.Newcomer n) s = first_file s
 goal_by other s = s.goal
 
 abbrev pub called_goal : ScriptStep → RegisterFile

@@ -21,6 +21,9 @@ use Rattle.mt_core.specs.declared.stepped.Stepped.TheVariants.{Did}
 use Rattle.mt_script.specs.Accept.{Fits}
 use Rattle.mt_script.specs.declared.command.Command.{Command}
 use Rattle.mt_script.specs.declared.command.Command.TheVariants as command
+use Rattle.mt_script.specs.declared.command.Section.TheVariants.{End}
+use Rattle.mt_script.specs.declared.command.Ask.TheVariants as ask
+use Rattle.mt_script.specs.declared.command.Newcomer.TheVariants.{Join}
 use Rattle.mt_output.specs.Lines.{refused_line}
 use Rattle.mt_replay.specs.Kept.{IsReplayState, start_like}
 use Rattle.mt_replay_laws.specs.Coming.{BringsUp}
@@ -31,7 +34,7 @@ use Rattle.mt_replay.specs.Texts.{absent_line, called_line, complete_line, joine
 
 -- the end of a section writes this line, and changes no processor, no word and no order
 abbrev pub EndsIdle : ReplayState → List ℕ → Type 0
-EndsIdle s text = (command_text s command.End ≡ text) × (machine_after s command.End ≡ s.machine)
+EndsIdle s text = (command_text s (command.Section End) ≡ text) × (machine_after s (command.Section End) ≡ s.machine)
 
 -- in both kinds of section
 abbrev pub RefusedCallsChangeNothing : Type 0
@@ -43,7 +46,7 @@ CallsUnderWayChangeNothing = (s : ReplayState) → IsSome s.machine.order → En
 
 -- it calls for no update: neither as the end of a section, nor for a newcomer
 abbrev pub IsWithoutCall : ReplayState → Command → Type 0
-IsWithoutCall s c = (c ≡ command.End → IsSome (call_fault s.machine s.goal)) × (BringsUp c → may_come s.machine ≡ false)
+IsWithoutCall s c = (c ≡ command.Section End → IsSome (call_fault s.machine s.goal)) × (BringsUp c → may_come s.machine ≡ false)
 
 -- each of these commands fits in its turn, and none calls for an update; a processor may be retired
 abbrev pub AreWithoutCall : ReplayState → List Command → Type 0
@@ -61,35 +64,35 @@ emptied_now m = now (emptied m.system (each_processor m.system))
 -- The machine after a whole update to the goal, and after commands since.
 pub record IsSettledAfter (s : ReplayState) (m : Machine) : Type 0 where
   pub era : ℕ
-  pub line_is : command_text s command.End ≡ complete_line era
+  pub line_is : command_text s (command.Section End) ≡ complete_line era
   pub risen : era ≡ common_era s.machine.system.processors + 1
   pub eras : All (λ p. p.era ≡ era) m.system.processors
   pub settled : IsSettled m.system era s.goal
-  pub stays_settled : (since : List Command) → AreWithoutCall (state_after s command.End) since → IsSettled (state_after_all (state_after s command.End) since).machine.system era s.goal
+  pub stays_settled : (since : List Command) → AreWithoutCall (state_after s (command.Section End)) since → IsSettled (state_after_all (state_after s (command.Section End)) since).machine.system era s.goal
   pub no_order : m.order ≡ None
   pub windows : m.system.memory.windows ≡ s.machine.system.memory.windows
   pub words : (address : ℕ) → IsSome (place s.machine.system.memory address)
       → word_at m.system.memory address ≡ emptied_now s.machine address  -- as it was once the buffers were emptied
 
 abbrev pub CompleteUpdatesSettle : Type 0
-CompleteUpdatesSettle = (s : ReplayState) → IsReplayState s → is_update s.now.stage ≡ true → call_fault s.machine s.goal ≡ None → IsSettledAfter s (machine_after s command.End)
+CompleteUpdatesSettle = (s : ReplayState) → IsReplayState s → is_update s.now.stage ≡ true → call_fault s.machine s.goal ≡ None → IsSettledAfter s (machine_after s (command.Section End))
 
 -- The machine after a processor was brought up and admitted, and after commands since: all processors, the newcomer among them, have
 -- the first one's registers.
 pub record IsAdmittedAfter (s : ReplayState) (m : Machine) : Type 0 where
-  pub line_is : command_text s command.Join ≡ joined_line (length s.machine.system.processors)
+  pub line_is : command_text s (command.Newcomer Join) ≡ joined_line (length s.machine.system.processors)
   pub one_more : length m.system.processors ≡ length s.machine.system.processors + 1
   pub eras : All (λ p. p.era ≡ common_era s.machine.system.processors + 1) m.system.processors
   pub settled : IsSettled m.system (common_era s.machine.system.processors + 1) (first_file s)
-  pub stays_settled : (since : List Command) → AreWithoutCall (state_after s command.Join) since
-      → IsSettled (state_after_all (state_after s command.Join) since).machine.system (common_era s.machine.system.processors + 1) (first_file s)
+  pub stays_settled : (since : List Command) → AreWithoutCall (state_after s (command.Newcomer Join)) since
+      → IsSettled (state_after_all (state_after s (command.Newcomer Join)) since).machine.system (common_era s.machine.system.processors + 1) (first_file s)
   pub idle : m.order ≡ None
   pub windows : m.system.memory.windows ≡ s.machine.system.memory.windows
   pub words : (address : ℕ) → IsSome (place s.machine.system.memory address)
       → word_at m.system.memory address ≡ emptied_now (with_newcomer s.machine) address  -- as it was once the buffers were emptied
 
 abbrev pub JoinsSettle : Type 0
-JoinsSettle = (s : ReplayState) → IsReplayState s → Fits s.now command.Join → may_come s.machine ≡ true → IsAdmittedAfter s (machine_after s command.Join)
+JoinsSettle = (s : ReplayState) → IsReplayState s → Fits s.now (command.Newcomer Join) → may_come s.machine ≡ true → IsAdmittedAfter s (machine_after s (command.Newcomer Join))
 
 -- a command does nothing on a processor that isn't there
 abbrev pub AbsentProcessorsDoNothing : Type 0
@@ -108,7 +111,7 @@ AbsentWhereNoProcessor =
 abbrev pub AcceptedCallsAreUnderWay : Type 0
 AcceptedCallsAreUnderWay =
     (s : ReplayState) → is_update s.now.stage ≡ false → call_fault s.machine s.goal ≡ None
-    → (command_text s command.End ≡ called_line) × (machine_after s command.End ≡ next s.machine (Calls s.goal))
+    → (command_text s (command.Section End) ≡ called_line) × (machine_after s (command.Section End) ≡ next s.machine (Calls s.goal))
 
 -- a goal is refused nothing exactly where no update is under way and it has no fault
 abbrev pub AcceptedWhereIdle : Type 0
@@ -119,15 +122,15 @@ AcceptedWhereIdle = (s : ReplayState) → (call_fault s.machine s.goal ≡ None)
 -- from a step that releases on, and up to the next call, each processor has the goal's registers and holds nothing older than the update
 abbrev pub ReleasedStatesSettle : Type 0
 ReleasedStatesSettle =
-    (s : ReplayState) (k : ℕ) (since : List Command) → IsReplayState s → Fits s.now (command.Step k) → step_answer s.machine k ≡ Did Release
-    → AreWithoutCall (state_after s (command.Step k)) since
-    → (o : Order) × (s.machine.order ≡ Some o) × IsSettled (state_after_all (state_after s (command.Step k)) since).machine.system (o.from_era + 1) o.goal
+    (s : ReplayState) (k : ℕ) (since : List Command) → IsReplayState s → Fits s.now (command.Ask k ask.Step) → step_answer s.machine k ≡ Did Release
+    → AreWithoutCall (state_after s (command.Ask k ask.Step)) since
+    → (o : Order) × (s.machine.order ≡ Some o) × IsSettled (state_after_all (state_after s (command.Ask k ask.Step)) since).machine.system (o.from_era + 1) o.goal
 
 -- ---- words
 
 -- the word that a command stores, where the access is answered Stored
 abbrev pub stored_by : ReplayState → Command → Option ℕ
-stored_by s (command.Store k address value) = stored_word s.machine (Accesses k (op.Store address value))
+stored_by s (command.Ask k (ask.Store address value)) = stored_word s.machine (Accesses k (op.Store address value))
 stored_by s other = None
 
 abbrev pub stored_by_all : ReplayState → List Command → List ℕ
@@ -142,14 +145,14 @@ AreHeld value s since =
 -- from a complete update on, and up to the next call: the value that the update left
 abbrev pub UpdatedWordsAreHeld : Type 0
 UpdatedWordsAreHeld =
-    (s : ReplayState) (since : List Command) → IsReplayState s → is_update s.now.stage ≡ true → call_fault s.machine s.goal ≡ None → AreWithoutCall (state_after s command.End) since
-    → AreHeld (word_at (machine_after s command.End).system.memory) (state_after s command.End) since
+    (s : ReplayState) (since : List Command) → IsReplayState s → is_update s.now.stage ≡ true → call_fault s.machine s.goal ≡ None → AreWithoutCall (state_after s (command.Section End)) since
+    → AreHeld (word_at (machine_after s (command.Section End)).system.memory) (state_after s (command.Section End)) since
 
 -- from the first release of an update on, and up to the next call: the value that the word had before the first pass
 abbrev pub ReleasedWordsAreHeld : Type 0
 ReleasedWordsAreHeld =
-    (s : ReplayState) (d : Dump) (o : Order) (k : ℕ) (since : List Command) → IsReplayState s → s.now.dump ≡ Some d → Fits s.now (command.Step k)
+    (s : ReplayState) (d : Dump) (o : Order) (k : ℕ) (since : List Command) → IsReplayState s → s.now.dump ≡ Some d → Fits s.now (command.Ask k ask.Step)
     → step_answer s.machine k ≡ Did Release → s.machine.order ≡ Some o → All (λ q. has_released o q ≡ false) s.machine.system.processors
-    → AreWithoutCall (state_after s (command.Step k)) since
-    → (p : Machine) × Arises p × (s.now.moving ≡ false → Reached (start_like s d) p) × IsFirstRelease p (machine_after s (command.Step k)) o
-    × AreHeld (now p.system) (state_after s (command.Step k)) since
+    → AreWithoutCall (state_after s (command.Ask k ask.Step)) since
+    → (p : Machine) × Arises p × (s.now.moving ≡ false → Reached (start_like s d) p) × IsFirstRelease p (machine_after s (command.Ask k ask.Step)) o
+    × AreHeld (now p.system) (state_after s (command.Ask k ask.Step)) since

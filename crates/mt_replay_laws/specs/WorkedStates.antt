@@ -8,7 +8,8 @@ use Rattle.mt_machine.specs.Machine.{Machine, MachineEvent, Calls, run}
 use Rattle.mt_machine.specs.Update.{updated}
 use Rattle.mt_machine_laws.specs.MachineWorkedRuns.{bare_file, idle, machine_of, mapping, palette, store}
 use Rattle.mt_script.specs.Situation.{Situation, at_start}
-use Rattle.mt_script.specs.declared.command.Command.TheVariants.{Join}
+use Rattle.mt_script.specs.declared.command.Command.TheVariants as command
+use Rattle.mt_script.specs.declared.command.Newcomer.TheVariants.{Join}
 use Rattle.mt_script.specs.declared.command.Stage.{Stage}
 use Rattle.mt_script.specs.declared.command.Stage.TheVariants.{Commands, InDump, InUpdate}
 use Rattle.mt_replay.specs.ReplayState.{ReplayState, first_state, machine_after}
@@ -84,7 +85,7 @@ late_after_end = machine_of (risen ∷ risen ∷ [])
 -- ---- after joins
 
 abbrev pub after_join : ReplayState → Machine
-after_join s = machine_after s Join
+after_join s = machine_after s (command.Newcomer Join)
 
 -- a word is dirty in a cache
 abbrev pub stored : ReplayState

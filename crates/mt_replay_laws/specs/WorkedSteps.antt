@@ -8,6 +8,8 @@ use Rattle.mt_machine_laws.specs.RunWorkedRuns.{pair_order}
 use Rattle.mt_machine_laws.specs.CoreWorkedRuns.{come, come_again}
 use Rattle.mt_script.specs.declared.command.Command.{Command}
 use Rattle.mt_script.specs.declared.command.Command.TheVariants as command
+use Rattle.mt_script.specs.declared.command.Section.TheVariants.{Begin, End}
+use Rattle.mt_script.specs.declared.command.Ask.TheVariants as ask
 use Rattle.mt_script.specs.declared.command.Stage.TheVariants.{Commands, InBegin}
 use Rattle.mt_replay.specs.ReplayState.{ReplayState}
 use Rattle.mt_replay_laws.specs.Headline.{Keeps}
@@ -18,17 +20,17 @@ abbrev pub step_of : Command → ReplayState → ScriptStep
 step_of c s = record { number = 1; command = c; before = s }
 
 abbrev pub begins : ScriptStep
-begins = step_of command.Begin (resting Commands)
+begins = step_of (command.Section Begin) (resting Commands)
 
 abbrev pub calls : ScriptStep
-calls = step_of command.End (resting InBegin)
+calls = step_of (command.Section End) (resting InBegin)
 
 -- the end of a section while an update is under way
 abbrev pub is_late : ScriptStep
-is_late = step_of command.End (busy InBegin)
+is_late = step_of (command.Section End) (busy InBegin)
 
 abbrev pub passes_by : List Processor → ScriptStep
-passes_by ps = step_of (command.Step 0) (state_of Commands (calling pair_order ps))
+passes_by ps = step_of (command.Ask 0 ask.Step) (state_of Commands (calling pair_order ps))
 
 abbrev pub passes : ScriptStep
 passes = passes_by (come ∷ come ∷ [])
@@ -41,7 +43,7 @@ abbrev pub releases : ScriptStep
 releases = passes_by (come_again ∷ come_again ∷ [])
 
 abbrev pub first_store : ScriptStep
-first_store = step_of (command.Store 0 0x1000 7) painted
+first_store = step_of (command.Ask 0 (ask.Store 0x1000 7)) painted
 
 -- ---- what an update keeps
 

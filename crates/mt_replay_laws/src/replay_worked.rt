@@ -9,6 +9,9 @@ ghost use Rattle.mt_machine.specs.Start.{zero_memory};
 ghost use Rattle.mt_machine_laws.specs.MachineWorkedRuns.{bare_file, idle, machine_of, one_window, palette, store};
 ghost use Rattle.mt_ports.specs.declared.status.Status.TheVariants.{Done};
 ghost use Rattle.mt_script.specs.declared.command.Command.TheVariants as asks;
+ghost use Rattle.mt_script.specs.declared.command.Section.TheVariants.{Begin, Register, End};
+ghost use Rattle.mt_script.specs.declared.command.Ask.TheVariants as ask;
+ghost use Rattle.mt_script.specs.declared.command.Newcomer.TheVariants.{Up, Join};
 ghost use Rattle.mt_script.specs.declared.command.Stage.TheVariants as stage;
 ghost use Rattle.mt_stream.specs.Transcript.{transcript_with};
 ghost use Rattle.mt_replay_laws.specs.Flat.{flat_done, flat_told_in};
@@ -38,14 +41,14 @@ pub fn worked_refusals()
 /// Steps that call for an update, by each of the four lines, and steps that don't.
 pub fn worked_calling_steps()
     ensures section { IsCall calls }
-    ensures complete { IsCall (step_of asks.End (resting stage.InUpdate)) }
-    ensures up { IsCall (step_of asks.Up (crowd 2)) }
-    ensures join { IsCall (step_of asks.Join (crowd 2)) }
+    ensures complete { IsCall (step_of (asks.Section End) (resting stage.InUpdate)) }
+    ensures up { IsCall (step_of (asks.Newcomer Up) (crowd 2)) }
+    ensures join { IsCall (step_of (asks.Newcomer Join) (crowd 2)) }
     ensures retire { IsCall (step_of asks.Retire (crowd 2)) → ⊥ }
-    ensures other_number { ComesUp (step_of asks.Up (crowd 2)) 3 → ⊥ }
-    ensures other_joined { Joins (step_of asks.Join (crowd 2)) 3 → ⊥ }
-    ensures called { IsCalled (step_of asks.Up (crowd 2)) }
-    ensures joined_not_called { IsCalled (step_of asks.Join (crowd 2)) → ⊥ }
+    ensures other_number { ComesUp (step_of (asks.Newcomer Up) (crowd 2)) 3 → ⊥ }
+    ensures other_joined { Joins (step_of (asks.Newcomer Join) (crowd 2)) 3 → ⊥ }
+    ensures called { IsCalled (step_of (asks.Newcomer Up) (crowd 2)) }
+    ensures joined_not_called { IsCalled (step_of (asks.Newcomer Join) (crowd 2)) → ⊥ }
 {}
 
 /// A section and an update of a few steps, and what isn't theirs in one part; and refused steps.
@@ -63,10 +66,10 @@ pub fn worked_short_updates()
 
 /// The other parts of sections and updates, each with what fails in it.
 pub fn worked_updates_of_steps()
-    ensures other_goal { (u : SectionOf (begins ∷ []) (step_of asks.End (record (resting stage.InBegin) { goal = bare_file 0x806 }))) → u.opens ≡ begins → u.lines ≡ [] → ⊥ }
+    ensures other_goal { (u : SectionOf (begins ∷ []) (step_of (asks.Section End) (record (resting stage.InBegin) { goal = bare_file 0x806 }))) → u.opens ≡ begins → u.lines ≡ [] → ⊥ }
     ensures two_sections { (u : SectionOf (begins ∷ calls ∷ []) calls) → u.lines ≡ calls ∷ [] → ⊥ }
-    ensures begun_by_a_fence { (u : SectionOf (step_of (asks.Fence 0) (resting stage.Commands) ∷ []) calls) → u.opens ≡ step_of (asks.Fence 0) (resting stage.Commands) → ⊥ }
-    ensures ended_by_a_register { SectionOf (begins ∷ []) (step_of (asks.Register 0x2ff 0x806) (resting stage.InBegin)) → ⊥ }
+    ensures begun_by_a_fence { (u : SectionOf (step_of (asks.Ask 0 ask.Fence) (resting stage.Commands) ∷ []) calls) → u.opens ≡ step_of (asks.Ask 0 ask.Fence) (resting stage.Commands) → ⊥ }
+    ensures ended_by_a_register { SectionOf (begins ∷ []) (step_of (asks.Section (Register 0x2ff 0x806)) (resting stage.InBegin)) → ⊥ }
     ensures no_call { (u : UpdateOf (begins ∷ passes ∷ []) releases) → u.call ≡ begins → ⊥ }
     ensures no_pass { (u : UpdateOf (calls ∷ begins ∷ []) releases) → u.pass ≡ begins → ⊥ }
     ensures no_release { (u : UpdateOf (calls ∷ passes ∷ []) begins) → u.first ≡ begins → ⊥ }
@@ -76,21 +79,21 @@ pub fn worked_updates_of_steps()
 
 /// Steps with a newcomer, and steps that leave the machine as it was.
 pub fn worked_moving_steps()
-    ensures newcomer { HasNewcomer (step_of asks.Join (crowd 2)) }
-    ensures only_called { HasNewcomer (step_of asks.Up (crowd 2)) → ⊥ }
-    ensures full { Stays (step_of asks.Up (crowd 16)) full_line }
-    ensures other_line { Stays (step_of asks.Up (crowd 16)) no_line → ⊥ }
-    ensures came { Stays (step_of asks.Up (crowd 2)) (up_line 2) → ⊥ }
+    ensures newcomer { HasNewcomer (step_of (asks.Newcomer Join) (crowd 2)) }
+    ensures only_called { HasNewcomer (step_of (asks.Newcomer Up) (crowd 2)) → ⊥ }
+    ensures full { Stays (step_of (asks.Newcomer Up) (crowd 16)) full_line }
+    ensures other_line { Stays (step_of (asks.Newcomer Up) (crowd 16)) no_line → ⊥ }
+    ensures came { Stays (step_of (asks.Newcomer Up) (crowd 2)) (up_line 2) → ⊥ }
 {}
 
 /// Commands of which none calls for an update, and lists in which one does or doesn't fit.
 pub fn worked_without_call()
-    ensures under_way { AreWithoutCall (busy stage.Commands) (asks.Begin ∷ asks.End ∷ asks.Report ∷ []) }
-    ensures full { AreWithoutCall (crowd 16) (asks.Up ∷ asks.Join ∷ []) }
-    ensures no_such_processor { AreWithoutCall painted (asks.Blank ∷ asks.Fence 2 ∷ []) → ⊥ }
-    ensures called { AreWithoutCall (resting stage.InBegin) (asks.End ∷ []) → ⊥ }
-    ensures up { AreWithoutCall (crowd 2) (asks.Up ∷ []) → ⊥ }
-    ensures room_again { AreWithoutCall (crowd 16) (asks.Retire ∷ asks.Join ∷ []) → ⊥ }
+    ensures under_way { AreWithoutCall (busy stage.Commands) (asks.Section Begin ∷ asks.Section End ∷ asks.Report ∷ []) }
+    ensures full { AreWithoutCall (crowd 16) (asks.Newcomer Up ∷ asks.Newcomer Join ∷ []) }
+    ensures no_such_processor { AreWithoutCall painted (asks.Blank ∷ asks.Ask 2 ask.Fence ∷ []) → ⊥ }
+    ensures called { AreWithoutCall (resting stage.InBegin) (asks.Section End ∷ []) → ⊥ }
+    ensures up { AreWithoutCall (crowd 2) (asks.Newcomer Up ∷ []) → ⊥ }
+    ensures room_again { AreWithoutCall (crowd 16) (asks.Retire ∷ asks.Newcomer Join ∷ []) → ⊥ }
 {}
 
 /// What holds of each state that lines lead to, and what doesn't of the first or the last.
@@ -102,11 +105,11 @@ pub fn worked_each_state()
 
 /// The words that commands store, and words that aren't held.
 pub fn worked_words()
-    ensures in_turn { stored_by_all painted (asks.Store 0 0x6000 1 ∷ asks.Map 0 0x6000 0x100000 0 false ∷ asks.Store 0 0x6010 1 ∷ asks.Load 0 0x1008 ∷ asks.Store 1 0x1000 2 ∷ []) ≡
+    ensures in_turn { stored_by_all painted (asks.Ask 0 (ask.Store 0x6000 1) ∷ asks.Ask 0 (ask.Map (record { address = 0x6000; physical = 0x100000; index = 0; global = false })) ∷ asks.Ask 0 (ask.Store 0x6010 1) ∷ asks.Ask 0 (ask.Load 0x1008) ∷ asks.Ask 1 (ask.Store 0x1000 2) ∷ []) ≡
         0x100010 ∷ 0x100000 ∷ [] }
-    ensures stored { stored_in (first_store ∷ step_of (asks.Load 0 0x1008) painted ∷ step_of (asks.Store 0 0x6000 1) painted ∷ []) ≡ 0x100000 ∷ [] }
-    ensures emptied_since { AreHeld (λ address. 0) (painted_by (store 0 0x3008 7 ∷ [])) (asks.Fence 0 ∷ []) → ⊥ }
-    ensures other_word_stored { AreHeld (λ address. 0) (painted_by (store 0 0x3000 7 ∷ [])) (asks.Store 0 0x1008 1 ∷ asks.Fence 0 ∷ []) → ⊥ }
+    ensures stored { stored_in (first_store ∷ step_of (asks.Ask 0 (ask.Load 0x1008)) painted ∷ step_of (asks.Ask 0 (ask.Store 0x6000 1)) painted ∷ []) ≡ 0x100000 ∷ [] }
+    ensures emptied_since { AreHeld (λ address. 0) (painted_by (store 0 0x3008 7 ∷ [])) (asks.Ask 0 ask.Fence ∷ []) → ⊥ }
+    ensures other_word_stored { AreHeld (λ address. 0) (painted_by (store 0 0x3000 7 ∷ [])) (asks.Ask 0 (ask.Store 0x1008 1) ∷ asks.Ask 0 ask.Fence ∷ []) → ⊥ }
 {}
 
 /// What isn't settled after a whole update: `only_called` in two parts, the others in one.

@@ -21,6 +21,9 @@ ghost use Rattle.mt_script.specs.Commands.{command_of};
 ghost use Rattle.mt_script.specs.Numbers.{fault_at};
 ghost use Rattle.mt_script.specs.Script.{script_offence};
 ghost use Rattle.mt_script.specs.declared.command.Command.TheVariants as asks;
+ghost use Rattle.mt_script.specs.declared.command.Section.TheVariants.{End};
+ghost use Rattle.mt_script.specs.declared.command.Ask.TheVariants as ask;
+ghost use Rattle.mt_script.specs.declared.command.Newcomer.TheVariants.{Join};
 ghost use Rattle.mt_script.specs.declared.command.Stage.TheVariants as stage;
 ghost use Rattle.mt_script.specs.declared.fault.Offence.{Offence};
 ghost use Rattle.mt_script.specs.declared.fault.Offence.TheVariants as offence;
@@ -57,7 +60,7 @@ pub fn worked_laws_of_sections()
     ensures those_registers { GoalsAreOfTheirSections → SectionOf (take 2 (course section_script)) (section_at 2) }
     ensures follow { StepsFollow → (section_at 3).before ≡ left (section_at 2) }
     ensures line { StepsAreOfTheirLines → (above : List (List ℕ)) × (line : List ℕ) × (below : List (List ℕ))
-        × (lines_of section_script ≡ above ++ line ∷ below) × ((section_at 2).number ≡ length above + 1) × (command_of (section_at 2).before.now (section_at 2).number line ≡ Ok asks.End) }
+        × (lines_of section_script ≡ above ++ line ∷ below) × ((section_at 2).number ≡ length above + 1) × (command_of (section_at 2).before.now (section_at 2).number line ≡ Ok (asks.Section End)) }
 {}
 
 /// The laws of transcripts, at that script and at one whose dump is refused.
@@ -75,7 +78,7 @@ pub fn worked_laws_of_movers()
     ensures newcomer { NewcomersWhereIdle → IsCall (join_at 1) ↔ ((join_at 1).before.machine.order ≡ None) × (length (join_at 1).before.machine.system.processors < 16) }
     ensures retires { RetiresWhereIdle → (left (step_of asks.Retire (crowd 2))).machine ≡ without_last (crowd 2).machine }
     ensures under_way { StaysUnderWay → Stays (step_of asks.Retire (crowd_in_update 2)) under_way_line }
-    ensures full { StaysFull → Stays (step_of asks.Join (crowd 16)) full_line }
+    ensures full { StaysFull → Stays (step_of (asks.Newcomer Join) (crowd 16)) full_line }
     ensures alone { StaysAlone → Stays (step_of asks.Retire (crowd 1)) no_line }
 {}
 
@@ -107,15 +110,15 @@ pub fn worked_laws_of_statuses()
 pub fn worked_laws_of_calls()
     ensures refused { RefusedCallsChangeNothing → EndsIdle (record (resting stage.InBegin) { goal = bare_file 0x803 }) (refused_line (record { msr = 0x2ff; reason = UnsupportedType })) }
     ensures under_way { CallsUnderWayChangeNothing → EndsIdle (busy stage.InUpdate) under_way_line }
-    ensures called { AcceptedCallsAreUnderWay → (command_text (resting stage.InBegin) asks.End ≡ called_line)
-        × (machine_after (resting stage.InBegin) asks.End ≡ next (resting stage.InBegin).machine (Calls (bare_file 0x800))) }
-    ensures absent { AbsentProcessorsDoNothing → (command_text (crowd 1) (asks.Store 1 0x1000 7) ≡ absent_line) × (machine_after (crowd 1) (asks.Store 1 0x1000 7) ≡ (crowd 1).machine) }
+    ensures called { AcceptedCallsAreUnderWay → (command_text (resting stage.InBegin) (asks.Section End) ≡ called_line)
+        × (machine_after (resting stage.InBegin) (asks.Section End) ≡ next (resting stage.InBegin).machine (Calls (bare_file 0x800))) }
+    ensures absent { AbsentProcessorsDoNothing → (command_text (crowd 1) (asks.Ask 1 (ask.Store 0x1000 7)) ≡ absent_line) × (machine_after (crowd 1) (asks.Ask 1 (ask.Store 0x1000 7)) ≡ (crowd 1).machine) }
 {}
 
 /// The laws of states after an update, at the worked script's complete update and first release, and after a join.
 pub fn worked_laws_of_told_updates()
     ensures complete { CompleteUpdatesSettle → IsSettledAfter (step_at 44).before (left (step_at 44)).machine }
-    ensures words { UpdatedWordsAreHeld → AreHeld (word_at (left (step_at 44)).machine.system.memory) (left (step_at 44)) (asks.Load 0 0x1000 ∷ []) }
+    ensures words { UpdatedWordsAreHeld → AreHeld (word_at (left (step_at 44)).machine.system.memory) (left (step_at 44)) (asks.Ask 0 (ask.Load 0x1000) ∷ []) }
     ensures released { ReleasedStatesSettle → (o : Order) × ((step_at 37).before.machine.order ≡ Some o) × IsSettled (left (step_at 37)).machine.system (o.from_era + 1) o.goal }
     ensures held { ReleasedWordsAreHeld → (p : Machine) × IsFirstRelease p (left (step_at 37)).machine (record pair_order { goal = bare_file 0x800 }) × AreHeld (now p.system) (left (step_at 37)) [] }
     ensures joined { JoinsSettle → IsAdmittedAfter just_dumped (after_join just_dumped) }
@@ -124,7 +127,7 @@ pub fn worked_laws_of_told_updates()
 /// The laws of each state, at a script's first state and at the one that a join leaves.
 pub fn worked_laws_of_states()
     ensures scripts { ScriptsKeep → IsReplayState just_dumped }
-    ensures commands { CommandsKeep → IsReplayState just_dumped → IsReplayState (state_after just_dumped asks.Join) }
-    ensures eras { CommandsFinishOne → IsReplayState just_dumped → HasEras 1 (state_after just_dumped asks.Join) }
+    ensures commands { CommandsKeep → IsReplayState just_dumped → IsReplayState (state_after just_dumped (asks.Newcomer Join)) }
+    ensures eras { CommandsFinishOne → IsReplayState just_dumped → HasEras 1 (state_after just_dumped (asks.Newcomer Join)) }
     ensures stale { NothingIsStale → IsReplayState just_dumped → All (λ p. stale_count p ≡ 0) just_dumped.machine.system.processors }
 {}

@@ -1,6 +1,6 @@
 -- Each fault of a line stands at a word that the line has, or past the limit of a line.
 use Rattle.std.proofs.Common.{◌≡◌, ℕ, ◌≤◌, ◌<◌, ◌-◌, ◌%◌, ◌^◌, ◌==◌, ◌&&◌, not, nat_eq, nat_lt, nat_le, Bool, true, false, List, length, Option, Some, None, Result, Ok, Err, refl, subst, [], ◌∷◌, zero, suc, arith, inl, inr}
-use Rattle.std.specs.Prelude.{codes, if◌then◌else◌, IfSome, ⊤}
+use Rattle.std.specs.Prelude.{if◌then◌else◌, IfSome, ⊤}
 use Rattle.std.specs.Set.{is_member}
 use Rattle.std.specs.Result.{IfErr}
 use Rattle.std.specs.List.{slice_get}
@@ -14,25 +14,25 @@ use Rattle.mt_text.specs.declared.fault.NumberFault.TheVariants.{NotDigit, TooLa
 use Rattle.mt_text.specs.declared.place.Place.{Place}
 use Rattle.mt_script.specs.Situation.{Situation, file_of, most_processors}
 use Rattle.mt_script.specs.Words.{word_of, text_of, place_of}
-use Rattle.mt_script.specs.Numbers.{fault_at, tested, limited, with, any, count_in, processor_in, value_in, aligned_in, physical_in, register_in, base_in, has_room, is_register, is_writable, address_limit}
-use Rattle.mt_dump.specs.Line.{is_word}
+use Rattle.mt_script.specs.Numbers.{fault_at, tested, limited, with, any, count_in, processor_in, value_in, aligned_in, register_in, base_in, has_room, is_register, is_writable, address_limit}
 use Rattle.mt_script.specs.Rows.{row_of, fits}
 use Rattle.mt_script.specs.Shape.{bad_line, shape_fault}
 use Rattle.mt_script.specs.Stages.{stands}
 use Rattle.mt_text_laws.specs.Places.{StandsIn}
-use Rattle.mt_script.specs.Commands.{Answer, verb_answer, row_line, outside, is_end, in_section, not_too_long, in_stage, command_of}
+use Rattle.mt_script.specs.Commands.{Answer, ask_in, verb_answer, row_line, outside, is_end, in_section, not_too_long, in_stage, command_of}
 use Rattle.mt_script.specs.declared.command.Stage.{Stage}
 use Rattle.mt_script.specs.declared.command.Stage.TheVariants.{NeedCpus, NeedDump, InDump, Rams, Commands, InUpdate, InBegin}
 use Rattle.mt_script.specs.declared.row.Row.{Row}
 use Rattle.mt_script.specs.declared.row.Verb.TheVariants as verb
-use Rattle.mt_script.specs.declared.command.Command.{Command}
+use Rattle.mt_script.specs.declared.row.AskVerb.{AskVerb}
+use Rattle.mt_script.specs.declared.row.AskVerb.TheVariants as ask_verb
 use Rattle.mt_script.specs.declared.command.Command.TheVariants as command
 use Rattle.mt_script.proofs.Table.{row_all}
 use Rattle.mt_script.specs.declared.fault.ScriptReason.{ScriptReason}
 use Rattle.mt_script.specs.declared.fault.ScriptReason.TheVariants.{BadLine, OutOfRange, UnknownRegister, NotNow, Repeated}
 use Rattle.mt_script.specs.declared.fault.ScriptFault.{ScriptFault}
 
-fails_with : (P : ScriptFault → Type 0) (number : Result ℕ ScriptFault) (next : ℕ → Answer) → IfErr number P → ((n : ℕ) → IfErr (next n) P) → IfErr (with number next) P
+fails_with : {A B : Type 0} (P : ScriptFault → Type 0) (value : Result A ScriptFault) (next : A → Result B ScriptFault) → IfErr value P → ((a : A) → IfErr (next a) P) → IfErr (with value next) P
 fails_with P (Err fault) next here later = here
 fails_with P (Ok n) next here later = later n
 
@@ -115,52 +115,45 @@ module _ (line : ℕ) (words : List (ℕ × List ℕ)) where
       fails_with AtWord (count_in line words 2 1 4096) _ (count_fails 2 1 4096 (omega arith)) (λ lines.
       fails_if AtWord (has_room now base lines) _ _ (λ room. tt) (λ miss. word_at 2 OutOfRange (omega arith))))
 
-  load_fails : (now : Situation) → 3 ≤ length words → IfErr (verb_answer now line words verb.Load) AtWord
-  load_fails now has =
-      fails_with AtWord (processor_in now line words 1) _ (processor_fails now (omega arith)) (λ k.
-      fails_with AtWord (aligned_in line words 2 8 (2 ^ 48)) _ (aligned_fails 2 8 (2 ^ 48) (omega arith)) (λ address. tt))
+  selfsnoop_fails : (now : Situation) → 2 ≤ length words → IfErr (verb_answer now line words verb.Selfsnoop) AtWord
+  selfsnoop_fails now has = fails_with AtWord (processor_in now line words 1) _ (processor_fails now (omega arith)) (λ k. tt)
 
-  store_fails : (now : Situation) → 4 ≤ length words → IfErr (verb_answer now line words verb.Store) AtWord
-  store_fails now has =
-      fails_with AtWord (processor_in now line words 1) _ (processor_fails now (omega arith)) (λ k.
-      fails_with AtWord (aligned_in line words 2 8 (2 ^ 48)) _ (aligned_fails 2 8 (2 ^ 48) (omega arith)) (λ address.
-      fails_with AtWord (value_in line words 3) _ (value_fails 3 (omega arith)) (λ value. tt)))
-
-  map_fails : (now : Situation) → 5 ≤ length words → IfErr (verb_answer now line words verb.Map) AtWord
-  map_fails now has =
-      fails_with AtWord (processor_in now line words 1) _ (processor_fails now (omega arith)) (λ k.
-      fails_with AtWord (aligned_in line words 2 4096 (2 ^ 48)) _ (aligned_fails 2 4096 (2 ^ 48) (omega arith)) (λ address.
-      fails_with AtWord (aligned_in line words 3 4096 (address_limit (file_of now))) _ (aligned_fails 3 4096 (address_limit (file_of now)) (omega arith)) (λ physical.
-      fails_with AtWord (count_in line words 4 0 7) _ (count_fails 4 0 7 (omega arith)) (λ index. tt))))
-
-  invlpg_fails : (now : Situation) → 3 ≤ length words → IfErr (verb_answer now line words verb.Invlpg) AtWord
-  invlpg_fails now has =
-      fails_with AtWord (processor_in now line words 1) _ (processor_fails now (omega arith)) (λ k.
-      fails_with AtWord (aligned_in line words 2 1 (2 ^ 48)) _ (aligned_fails 2 1 (2 ^ 48) (omega arith)) (λ address. tt))
-
-  word_fails : (now : Situation) → 2 ≤ length words → IfErr (with (physical_in now line words 1 8) (λ address. Ok (command.Word address))) AtWord
+  word_fails : (now : Situation) → 2 ≤ length words → IfErr (verb_answer now line words verb.Word) AtWord
   word_fails now has = fails_with AtWord (aligned_in line words 1 8 (address_limit (file_of now))) _ (aligned_fails 1 8 (address_limit (file_of now)) (omega arith)) (λ address. tt)
 
-  msr_fails : (now : Situation) → 3 ≤ length words → IfErr (verb_answer now line words verb.Msr) AtWord
-  msr_fails now has =
-      fails_with AtWord (processor_in now line words 1) _ (processor_fails now (omega arith)) (λ k.
-      fails_with AtWord (register_in now line words 2) _ (register_fails now (omega arith)) (λ msr. tt))
+  -- what is asked of a processor
+  asked_fails : (now : Situation) (asked : AskVerb) → 2 ≤ length words → IfErr (ask_in now line words asked) AtWord → IfErr (verb_answer now line words (verb.Ask asked)) AtWord
+  asked_fails now asked has fails = fails_with AtWord (processor_in now line words 1) _ (processor_fails now (omega arith)) (λ k. fails_with AtWord (ask_in now line words asked) (λ a. Ok (command.Ask k a)) fails (λ a. tt))
+
+  load_fails : (now : Situation) → 3 ≤ length words → IfErr (ask_in now line words ask_verb.Load) AtWord
+  load_fails now has = fails_with AtWord (aligned_in line words 2 8 (2 ^ 48)) _ (aligned_fails 2 8 (2 ^ 48) (omega arith)) (λ address. tt)
+
+  store_fails : (now : Situation) → 4 ≤ length words → IfErr (ask_in now line words ask_verb.Store) AtWord
+  store_fails now has =
+      fails_with AtWord (aligned_in line words 2 8 (2 ^ 48)) _ (aligned_fails 2 8 (2 ^ 48) (omega arith)) (λ address.
+      fails_with AtWord (value_in line words 3) _ (value_fails 3 (omega arith)) (λ value. tt))
+
+  map_fails : (now : Situation) → 5 ≤ length words → IfErr (ask_in now line words ask_verb.Map) AtWord
+  map_fails now has =
+      fails_with AtWord (aligned_in line words 2 4096 (2 ^ 48)) _ (aligned_fails 2 4096 (2 ^ 48) (omega arith)) (λ address.
+      fails_with AtWord (aligned_in line words 3 4096 (address_limit (file_of now))) _ (aligned_fails 3 4096 (address_limit (file_of now)) (omega arith)) (λ physical.
+      fails_with AtWord (count_in line words 4 0 7) _ (count_fails 4 0 7 (omega arith)) (λ index. tt)))
+
+  invlpg_fails : (now : Situation) → 3 ≤ length words → IfErr (ask_in now line words ask_verb.Invlpg) AtWord
+  invlpg_fails now has = fails_with AtWord (aligned_in line words 2 1 (2 ^ 48)) _ (aligned_fails 2 1 (2 ^ 48) (omega arith)) (λ address. tt)
+
+  msr_fails : (now : Situation) → 3 ≤ length words → IfErr (ask_in now line words ask_verb.Msr) AtWord
+  msr_fails now has = fails_with AtWord (register_in now line words 2) _ (register_fails now (omega arith)) (λ msr. tt)
 
   -- the numbers of a row's line fail at its words, where it has as many as it must
   abbrev pub RowFails : Situation → Row → Type 0
   RowFails now row = row.least ≤ length words → IfErr (verb_answer now line words row.verb) AtWord
 
   rows_fail : (now : Situation) (word : List ℕ) → IfSome (row_of word) (RowFails now)
-  rows_fail now = row_all (RowFails now) (cpus_fails now, (bare, (ram_fails now, (one command.Selfsnoop, (load_fails now, (store_fails now, (one command.Fence, (map_fails now, (invlpg_fails now, (one command.Cr3, (switch command.Pge, (switch command.Cd, (bare, (bare, (bare, (bare, (bare, (one command.Step, (bare, (bare, (bare, (word_fails now, (msr_fails now, tt)))))))))))))))))))))))
+  rows_fail now = row_all (RowFails now) (cpus_fails now, (bare, (ram_fails now, (selfsnoop_fails now, ((λ has. asked_fails now ask_verb.Load (omega arith) (load_fails now has)), ((λ has. asked_fails now ask_verb.Store (omega arith) (store_fails now has)), ((λ has. asked_fails now ask_verb.Fence has tt), ((λ has. asked_fails now ask_verb.Map (omega arith) (map_fails now has)), ((λ has. asked_fails now ask_verb.Invlpg (omega arith) (invlpg_fails now has)), ((λ has. asked_fails now ask_verb.Cr3 has tt), ((λ has. asked_fails now ask_verb.Pge (omega arith) tt), ((λ has. asked_fails now ask_verb.Cd (omega arith) tt), (bare, (bare, (bare, (bare, (bare, ((λ has. asked_fails now ask_verb.Step has tt), (bare, (bare, (bare, (word_fails now, ((λ has. asked_fails now ask_verb.Msr (omega arith) (msr_fails now has)), tt)))))))))))))))))))))))
     where
       bare : 1 ≤ length words → ⊤
       bare has = tt
-
-      one : (make : ℕ → Command) → 2 ≤ length words → IfErr (with (processor_in now line words 1) (λ k. Ok (make k))) AtWord
-      one make has = fails_with AtWord (processor_in now line words 1) _ (processor_fails now (omega arith)) (λ k. tt)
-
-      switch : (make : ℕ → Bool → Command) → 3 ≤ length words → IfErr (with (processor_in now line words 1) (λ k. Ok (make k (is_word (codes "on") (text_of words 2))))) AtWord
-      switch make has = fails_with AtWord (processor_in now line words 1) _ (processor_fails now (omega arith)) (λ k. tt)
 
   -- the words of a row, and then what follows
   shape_fails : (row : Row) (answer : Answer) → 1 ≤ length words → (row.least ≤ length words → IfErr answer AtWord) → IfErr (option_map_or (λ fault. Err fault) (shape_fault line words row) answer) AtWord

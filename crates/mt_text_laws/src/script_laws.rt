@@ -9,6 +9,7 @@ ghost use Rattle.mt_script.specs.declared.fault.ScriptFault.{ScriptFault};
 ghost use Rattle.mt_script.specs.Script.{script_offence, IsGoodScript};
 ghost use Rattle.mt_script.specs.declared.command.Command.{Command};
 ghost use Rattle.mt_script.specs.declared.command.Command.TheVariants as command;
+ghost use Rattle.mt_script.specs.declared.command.Newcomer.{Newcomer};
 
 /// Each command that a line is read as fits the situation.
 pub fn a_command_fits()
@@ -33,10 +34,10 @@ pub fn a_selfsnoop_names_a_processor()
 
 /// Processors may have come or gone exactly from the first `up`, `join` or `retire` line on.
 pub fn processors_move_by_their_lines()
-    ensures { (now : Situation) (c : Command) → ((accepted now c).moving ≡ true) ↔ ((now.moving ≡ true) ⊎ ((c ≡ command.Up) ⊎ ((c ≡ command.Join) ⊎ (c ≡ command.Retire)))) }
+    ensures { (now : Situation) (c : Command) → ((accepted now c).moving ≡ true) ↔ ((now.moving ≡ true) ⊎ (((n : Newcomer) × (c ≡ command.Newcomer n)) ⊎ (c ≡ command.Retire))) }
 {}
 
 /// A line that brings a processor up begins with the word `up` or `join`.
 pub fn newcomers_come_by_their_lines()
-    ensures { (now : Situation) (number : ℕ) (line : List ℕ) (c : Command) → command_of now number line ≡ Ok c → (c ≡ command.Up) ⊎ (c ≡ command.Join) → brings_up line ≡ true }
+    ensures { (now : Situation) (number : ℕ) (line : List ℕ) (n : Newcomer) → command_of now number line ≡ Ok (command.Newcomer n) → brings_up line ≡ true }
 {}

@@ -16,16 +16,7 @@ same_state s = record { now = in_commands s.now; machine = s.machine; goal = s.g
 
 -- a command on a processor leaves the goal, and may stand behind any other
 only_named : (s : ReplayState) (c : Command) → is_absent s.machine c ≡ true → (accepted s.now c ≡ in_commands s.now) × (goal_after s c ≡ s.goal)
-only_named s (command.Load k address) is = (refl, refl)
-only_named s (command.Store k address value) is = (refl, refl)
-only_named s (command.Fence k) is = (refl, refl)
-only_named s (command.Map k address physical index global) is = (refl, refl)
-only_named s (command.Invlpg k address) is = (refl, refl)
-only_named s (command.Cr3 k) is = (refl, refl)
-only_named s (command.Pge k on) is = (refl, refl)
-only_named s (command.Cd k on) is = (refl, refl)
-only_named s (command.Step k) is = (refl, refl)
-only_named s (command.Msr k number) is = (refl, refl)
+only_named s (command.Ask k a) is = (refl, refl)
 only_named s other is = absurd (cc is)
 
 pub absent_now : (s : ReplayState) (c : Command) → is_absent s.machine c ≡ true → accepted s.now c ≡ in_commands s.now

@@ -18,8 +18,10 @@ use Rattle.mt_core.proofs.Settling.{is_quiet_without_order}
 use Rattle.mt_core.proofs.Stepping.{is_sound}
 use Rattle.mt_admit.specs.Admission.{admitted, brought_up, first_file}
 use Rattle.mt_admit.proofs.Calling.{call_enabled, reset_count}
+use Rattle.mt_script.specs.declared.command.Newcomer.{Newcomer}
+use Rattle.mt_script.specs.declared.command.Newcomer.TheVariants.{Up, Join}
 use Rattle.mt_replay.specs.Kept.{CameFromRest}
-use Rattle.mt_replay.specs.ReplayState.{after_join, after_retire, after_up, may_come, may_go}
+use Rattle.mt_replay.specs.ReplayState.{after_newcomer, after_retire, may_come, may_go}
 use Rattle.mt_replay.proofs.Keeping.Kinds.{eras_risen}
 use Rattle.mt_replay.proofs.Keeping.Machines.{Follows, follows_event, follows_update}
 
@@ -146,15 +148,13 @@ module _ (m : Machine) (a : Arises m) (came : CameFromRest m) (some : 1 ≤ leng
       windows = gone_windows m.system (is_sound m a);
     }
 
-  pub moves_up : Moves m (after_up m)
-  moves_up = one (may_come m) refl
+  pub moves_newcomer : (n : Newcomer) → Moves m (after_newcomer m n)
+  moves_newcomer Up = one (may_come m) refl
     where
       one : (b : Bool) → may_come m ≡ b → Moves m (if b then brought_up m else m)
       one true is = comes_up (idle_to_come m is) (few_to_come m is)
       one false is = stays_same
-
-  pub moves_join : Moves m (after_join m)
-  moves_join = one (may_come m) refl
+  moves_newcomer Join = one (may_come m) refl
     where
       one : (b : Bool) → may_come m ≡ b → Moves m (if b then admitted m else m)
       one true is = joins (idle_to_come m is) (few_to_come m is)

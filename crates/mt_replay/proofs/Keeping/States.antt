@@ -39,23 +39,27 @@ use Rattle.mt_script.specs.Situation.{Situation, file_of}
 use Rattle.mt_script.specs.Numbers.{address_limit, has_room}
 use Rattle.mt_script.specs.Kept.{IsSituation}
 use Rattle.mt_script.specs.Stages.{is_in_dump, is_past_dump, takes_cpus, takes_dump, takes_registers, takes_windows}
-use Rattle.mt_script.specs.Accept.{Fits, accepted, in_commands, in_motion, in_section_of}
+use Rattle.mt_script.specs.Accept.{Fits, FitsAsk, accepted, in_commands, in_motion, in_section_of}
 use Rattle.mt_script.specs.declared.command.Stage.{Stage}
 use Rattle.mt_script.specs.declared.command.Stage.TheVariants.{NeedCpus, NeedDump, InDump, Rams, Commands, InUpdate, InBegin}
 use Rattle.mt_script.specs.declared.command.Command.{Command}
 use Rattle.mt_script.specs.declared.command.Command.TheVariants as command
+use Rattle.mt_script.specs.declared.command.Section.TheVariants as section
+use Rattle.mt_script.specs.declared.command.Ask.{Ask}
+use Rattle.mt_script.specs.declared.command.Ask.TheVariants as ask
+use Rattle.mt_script.specs.declared.command.Mapped.{Mapped}
 use Rattle.mt_script.specs.Commands.{command_of}
 use Rattle.mt_script.proofs.Fitting.{command_fits}
 use Rattle.mt_script.proofs.Keeping.{accepted_is}
 use Rattle.mt_replay.specs.FirstFault.{first_fault}
 use Rattle.mt_replay.specs.Kept.{CommandsKeep, IsReplayState, windows_of, start_like}
-use Rattle.mt_replay.specs.ReplayState.{ReplayState, after_call, after_join, after_retire, after_up, after_update, after_word, call_fault, each_processor, first_file, is_absent, is_update, machine_after, mapping, state_after, with_register}
+use Rattle.mt_replay.specs.ReplayState.{ReplayState, after_call, after_newcomer, after_retire, after_update, after_word, call_fault, each_processor, first_file, is_absent, is_update, machine_after, mapping, state_after, with_register}
 use Rattle.mt_dump.proofs.ForProcessors.{first_file_is as first_is_file}
 use Rattle.mt_replay.proofs.FirstFault.{first_fault_is_first}
 use Rattle.mt_replay.proofs.Keeping.Absent.{absent_now, present_state, state_absent, state_there}
 use Rattle.mt_replay.proofs.Keeping.Kinds.{fits_with_value}
 use Rattle.mt_replay.proofs.Keeping.Machines.{Follows, follows_access, follows_control, follows_event, follows_same, follows_step, follows_update, follows_word}
-use Rattle.mt_replay.proofs.Keeping.Moving.{Moves, came_on, moves_join, moves_retire, moves_up, no_older_now, rests_now}
+use Rattle.mt_replay.proofs.Keeping.Moving.{Moves, came_on, moves_newcomer, moves_retire, no_older_now, rests_now}
 use Rattle.mt_replay.proofs.Keeping.Windows.{grown_start, memory_is_quiet, room_memory, windows_then}
 
 -- what a line is read as fits
@@ -154,7 +158,7 @@ follows_called s n h later = one (call_fault s.machine s.goal) refl
     one None is = later (call_enabled s h is)
     one (Some fault) is = follows_same s.machine h.arises
 
-pub follows_end : (s : ReplayState) → IsReplayState s → Follows s.machine (machine_after s command.End)
+pub follows_end : (s : ReplayState) → IsReplayState s → Follows s.machine (machine_after s (command.Section section.End))
 follows_end s h = one (is_update s.now.stage)
   where
     one : (b : Bool) → Follows s.machine (if b then after_update s.machine s.goal else after_call s.machine s.goal)
@@ -194,7 +198,7 @@ module _ (s : ReplayState) (h : IsReplayState s) where
 
   -- ---- commands
 
-  not_end : (c : Command) → is_in_dump s.now.stage ≡ true → c ≢ command.End
+  not_end : (c : Command) → is_in_dump s.now.stage ≡ true → c ≢ command.Section section.End
   not_end c dump = absurd (not_in_dump s.now.stage h.past dump)
 
   is_after : (c : Command) → Fits s.now c → IsSituation (accepted s.now c)
@@ -243,15 +247,15 @@ module _ (s : ReplayState) (h : IsReplayState s) where
       let width : w - 12 ≡ v - 12 = ap (λ n. n - 12) same in
       subst (λ (n : ℕ). physical / 4096 < 2 ^ n) width (omega (arith, parts, below))
 
-  pub mapping_fits : (k address physical index : ℕ) (global : Bool) → address < 2 ^ 48 → physical < address_limit (file_of s.now) → index ≤ 7
-      → (p : Processor) → slice_get s.machine.system.processors k ≡ Some p → FitsControl p (control_of.Map (mapping address physical index global))
-  mapping_fits k address physical index global low within few p at =
+  pub mapping_fits : (k : ℕ) (x : Mapped) → x.address < 2 ^ 48 → x.physical < address_limit (file_of s.now) → x.index ≤ 7
+      → (p : Processor) → slice_get s.machine.system.processors k ≡ Some p → FitsControl p (control_of.Map (mapping x))
+  mapping_fits k x low within few p at =
       let dump = dump_here s.now h.situation h.past in
       let f : RegisterFile = first_file_of dump.0 in
       let fits = all_get (FitsGoal f) s.machine.system.processors (h.kind dump.0 dump.1) k p at in
-      let below : physical < 2 ^ f.width = subst (λ (o : Option Dump). physical < address_limit (option_map first_file_of o)) dump.1 within in
+      let below : x.physical < 2 ^ f.width = subst (λ (o : Option Dump). x.physical < address_limit (option_map first_file_of o)) dump.1 within in
       let wide = (first_is_file dump.0 dump.2).wide in
-      (omega arith, page_in physical f.width p.file.width (omega arith) fits.width below, omega arith)
+      (omega arith, page_in x.physical f.width p.file.width (omega arith) fits.width below, omega arith)
 
   grows : (base lines : ℕ) → takes_windows s.now.stage ≡ true → base % 64 ≡ 0 → 0 < lines → has_room s.now base lines ≡ true → IsSituation (accepted s.now (command.Ram base lines)) → IsReplayState (state_after s (command.Ram base lines))
   grows base lines windows aligned some room is =
@@ -314,37 +318,39 @@ module _ (s : ReplayState) (h : IsReplayState s) where
         fresh = λ d same takes. ((h.fresh d same windows).0, started d same);
       }
 
+  kept_asked : (k : ℕ) (a : Ask) → FitsAsk s.now a → IsSituation (in_commands s.now) → IsReplayState (present_state s (command.Ask k a))
+  kept_asked k (ask.Load address) fits is = accesses k (op.Load address) fits is
+  kept_asked k (ask.Store address value) fits is = accesses k (op.Store address value) fits is
+  kept_asked k ask.Fence fits is = accesses k op.Fence tt is
+  kept_asked k (ask.Map x) fits is = controls k (control_of.Map (mapping x)) (mapping_fits k x fits.0.1 fits.1.1 fits.2) is
+  kept_asked k (ask.Invlpg address) fits is = controls k (control_of.Invlpg address) (λ p at. tt) is
+  kept_asked k ask.Cr3 fits is = controls k control_of.Cr3 (λ p at. tt) is
+  kept_asked k (ask.Pge on) fits is = controls k (control_of.Pge on) (λ p at. tt) is
+  kept_asked k (ask.Cd on) fits is = controls k (control_of.Cd on) (λ p at. tt) is
+  kept_asked k ask.Step fits is = goes_on (step_after s.machine k) is (follows_step s.machine k h.arises)
+  kept_asked k (ask.Msr number) fits is = stays is
+
   kept_there : (c : Command) → Fits s.now c → IsSituation (accepted s.now c) → IsReplayState (present_state s c)
+  kept_there command.Blank fits is = h
   kept_there (command.Cpus n) fits is = absurd (not_cpus s.now.stage h.past fits.0)
   kept_there command.Dump fits is = absurd (not_dump s.now.stage h.past fits)
+  kept_there command.DumpLine fits is = absurd (not_in_dump s.now.stage h.past fits)
   kept_there (command.Ram base lines) fits is = grows base lines fits.0 fits.1 (omega (arith, fits.2)) fits.4 is
   kept_there (command.Selfsnoop k) fits is = snoops k fits.0
-  kept_there (command.Load k address) fits is = accesses k (op.Load address) fits.1 is
-  kept_there (command.Store k address value) fits is = accesses k (op.Store address value) (fits.1, fits.2) is
-  kept_there (command.Fence k) fits is = accesses k op.Fence tt is
-  kept_there (command.Map k address physical index global) fits is = controls k (control_of.Map (mapping address physical index global)) (mapping_fits k address physical index global fits.1.1 fits.2.1 fits.3) is
-  kept_there (command.Invlpg k address) fits is = controls k (control_of.Invlpg address) (λ p at. tt) is
-  kept_there (command.Cr3 k) fits is = controls k control_of.Cr3 (λ p at. tt) is
-  kept_there (command.Pge k on) fits is = controls k (control_of.Pge on) (λ p at. tt) is
-  kept_there (command.Cd k on) fits is = controls k (control_of.Cd on) (λ p at. tt) is
-  kept_there command.Update fits is = begins InUpdate refl (λ takes. cc takes) is
-  kept_there command.Begin fits is = begins InBegin refl (λ takes. cc takes) is
+  kept_there (command.Section section.Update) fits is = begins InUpdate refl (λ takes. cc takes) is
+  kept_there (command.Section section.Begin) fits is = begins InBegin refl (λ takes. cc takes) is
+  kept_there (command.Section (section.Register number value)) fits is =
+      state_on s (accepted s.now (command.Section (section.Register number value))) s.machine (with_register s.goal number value) h is h.past refl refl refl refl (no_windows s.now.stage fits.0) (follows_same s.machine h.arises)
+      (register_is number value (written s.goal number value) refl) (register_fits value (register_of s.goal number))
+  kept_there (command.Section section.End) fits is =
+      state_on s (in_section_of Commands s.now) (machine_after s (command.Section section.End)) s.goal h is refl refl refl refl refl (λ takes. cc takes) (follows_end s h) h.goal_file h.goal
+  kept_there (command.Ask k a) fits is = kept_asked k a fits.1 is
+  kept_there (command.Newcomer n) fits is = in_flux (after_newcomer s.machine n) is (moves_newcomer s.machine h.arises h.came h.some h.few n)
+  kept_there command.Retire fits is = in_flux (after_retire s.machine) is (moves_retire s.machine h.arises h.came h.some h.few)
   kept_there command.Go fits is = goes_on (after_word Goes s.machine) is (follows_word s.machine Goes h.arises (λ pending. pending))
   kept_there command.Cancel fits is = goes_on (after_word Cancels s.machine) is (follows_word s.machine Cancels h.arises (λ pending. pending))
   kept_there command.Report fits is = stays is
-  kept_there (command.Step k) fits is = goes_on (step_after s.machine k) is (follows_step s.machine k h.arises)
-  kept_there command.Up fits is = in_flux (after_up s.machine) is (moves_up s.machine h.arises h.came h.some h.few)
-  kept_there command.Join fits is = in_flux (after_join s.machine) is (moves_join s.machine h.arises h.came h.some h.few)
-  kept_there command.Retire fits is = in_flux (after_retire s.machine) is (moves_retire s.machine h.arises h.came h.some h.few)
   kept_there (command.Word address) fits is = stays is
-  kept_there (command.Msr k number) fits is = stays is
-  kept_there command.Blank fits is = h
-  kept_there command.DumpLine fits is = absurd (not_in_dump s.now.stage h.past fits)
-  kept_there (command.Register number value) fits is =
-      state_on s (accepted s.now (command.Register number value)) s.machine (with_register s.goal number value) h is h.past refl refl refl refl (no_windows s.now.stage fits.0) (follows_same s.machine h.arises)
-      (register_is number value (written s.goal number value) refl) (register_fits value (register_of s.goal number))
-  kept_there command.End fits is =
-      state_on s (in_section_of Commands s.now) (machine_after s command.End) s.goal h is refl refl refl refl refl (λ takes. cc takes) (follows_end s h) h.goal_file h.goal
 
   kept : (c : Command) → Fits s.now c → IsReplayState (state_after s c)
   kept c fits = one (is_absent s.machine c) refl

@@ -15,7 +15,8 @@ use Rattle.mt_dump.specs.Dumps.{Dump}
 use Rattle.mt_script.specs.Situation.{Situation}
 use Rattle.mt_script.specs.Stages.{is_in_dump}
 use Rattle.mt_script.specs.Commands.{command_of, end_fault}
-use Rattle.mt_script.specs.Head.{step_of_answer, step_of_command}
+use Rattle.mt_script.specs.Accept.{accepted}
+use Rattle.mt_script.specs.Head.{goes_on, is_end_command, step_in_dump, step_of_answer}
 use Rattle.mt_script.specs.Script.{offence_after, offence_in, script_offence}
 use Rattle.mt_script.specs.declared.command.Command.{Command}
 use Rattle.mt_script.specs.declared.fault.ScriptFault.{ScriptFault}
@@ -60,7 +61,7 @@ ends_in end number (line ∷ lines) = one (ends_in end (number + 1) lines)
     one later s h = by (command_of s.now number line) refl
       where
         on : (c : Command) → IsReplayState (state_after s c) → (dump : Bool) → is_in_dump s.now.stage ≡ dump
-            → Ends (behind (command_text s c) (body_lines (Some end) (number + 1) lines (state_after s c))) (offence_after s.now (offence_in end (number + 1) lines) (step_of_command s.now [] number line c dump))
+            → Ends (behind (command_text s c) (body_lines (Some end) (number + 1) lines (state_after s c))) (offence_after s.now (offence_in end (number + 1) lines) (if dump then step_in_dump s.now [] number line (is_end_command c) else goes_on (accepted s.now c) []))
         on c kept true dump = absurd (let past = sym (not_past_in_dump s.now.stage dump) ∙ h.past in cc past)
         on c kept false dump = ends_behind (command_text s c) (body_lines (Some end) (number + 1) lines (state_after s c)) (offence_in end (number + 1) lines (state_after s c).now []) (later (state_after s c) kept)
 

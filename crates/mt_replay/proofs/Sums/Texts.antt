@@ -14,6 +14,10 @@ use Rattle.mt_machine.specs.declared.event.Event.{Event}
 use Rattle.mt_machine.specs.declared.event.Event.TheVariants as event
 use Rattle.mt_machine.specs.declared.phase.Phase.{Phase}
 use Rattle.mt_machine.specs.declared.phase.Phase.TheVariants as phase
+use Rattle.mt_machine.specs.declared.op.Op.{Op}
+use Rattle.mt_machine.specs.declared.op.Op.TheVariants as op
+use Rattle.mt_machine.specs.declared.control.Control.{Control}
+use Rattle.mt_machine.specs.declared.control.Control.TheVariants as control_of
 use Rattle.mt_machine.specs.Access.{access}
 use Rattle.mt_machine.specs.Control.{control}
 use Rattle.mt_machine.specs.Machine.{Machine, common_era, go_of}
@@ -25,6 +29,12 @@ use Rattle.mt_core.specs.declared.fault.CallFault.TheVariants as call
 use Rattle.mt_core.specs.declared.stepped.Stepped.{Stepped}
 use Rattle.mt_core.specs.declared.stepped.Stepped.TheVariants as stepped
 use Rattle.mt_script.specs.declared.command.Command.{Command}
+use Rattle.mt_script.specs.declared.command.Command.TheVariants as command
+use Rattle.mt_script.specs.declared.command.Section.TheVariants.{End}
+use Rattle.mt_script.specs.declared.command.Ask.{Ask}
+use Rattle.mt_script.specs.declared.command.Ask.TheVariants as ask
+use Rattle.mt_script.specs.declared.command.Newcomer.{Newcomer}
+use Rattle.mt_script.specs.declared.command.Newcomer.TheVariants.{Up, Join}
 use Rattle.mt_script.specs.declared.fault.ScriptFault.{ScriptFault}
 use Rattle.mt_script.specs.declared.fault.Offence.{Offence}
 use Rattle.mt_script.specs.declared.fault.Offence.TheVariants as offence
@@ -34,15 +44,8 @@ use Rattle.mt_script.specs.Situation.{Situation}
 use Rattle.mt_output.specs.Lines.{accepted_line, dump_refused_line, line, offence_line}
 use Rattle.mt_output.proofs.Inside.{IsInside, address_inside, both, decimal_inside, number_inside, offence_is_line, one_line, plain, refused_is_line, type_inside, value_inside}
 use Rattle.mt_machine.specs.ComingAndGoing.{last_number}
-use Rattle.mt_replay.specs.declared.task.Task.{Task}
-use Rattle.mt_replay.specs.declared.task.Task.TheVariants as task
-use Rattle.mt_replay.specs.declared.task.Act.{Act}
-use Rattle.mt_replay.specs.declared.task.Act.TheVariants as act
-use Rattle.mt_replay.specs.declared.task.Ask.{Ask}
-use Rattle.mt_replay.specs.declared.task.Ask.TheVariants as ask
-use Rattle.mt_replay.specs.declared.task.Section.TheVariants as section
 use Rattle.mt_replay.specs.Running.{IsAt, from_line}
-use Rattle.mt_replay.specs.ReplayState.{ReplayState, after_update, call_fault, call_line, command_text, file_at, is_undecided, is_update, memory_word, register_value, update_line, is_absent, may_come, may_go, present_text, retire_text, stays_line, acted, asked_of, effect, task_of}
+use Rattle.mt_replay.specs.ReplayState.{ReplayState, after_update, call_fault, call_line, command_text, file_at, is_undecided, is_update, memory_word, register_value, update_line, is_absent, may_come, may_go, present_text, retire_text, stays_line, accessed_line, asked_of, controlled_line, mapping, newcomer_text}
 use Rattle.mt_replay.specs.Summary.{is_complete, updates_in}
 use Rattle.mt_replay.specs.Texts.{call_fault_line, called_line, cancel_line, complete_line, done_line, event_text, go_line, have_one_file, memory_line, number_at, phase_text, processor_line, processor_lines, register_line, registers_line, report_text, ruled_line, stale_count, stepped_line, switch_text, absent_line, full_line, joined_line, no_line, retired_line, under_way_line, up_line}
 use Rattle.mt_replay.specs.Transcript.{ScriptState, body_lines, head_lines, in_body, in_head, told_command, told_dump}
@@ -228,34 +231,45 @@ leave_writes m = by (may_go m)
     by true = one (both (plain (codes "retired ") refl) (decimal_inside (last_number m.system)))
     by false = stay_writes (is_some m.order) no_line (one (plain (codes "no") refl))
 
+accessed_writes : (s : ReplayState) (k : ℕ) (o : Op) → Writes 1 (accessed_line s.machine k o)
+accessed_writes s k o = done_writes (access s.machine.system k o).answer
+
+controlled_writes : (s : ReplayState) (k : ℕ) (c : Control) → Writes 1 (controlled_line s.machine k c)
+controlled_writes s k c = ruled_writes (control s.machine.system k c).answer
+
 asked_writes : (s : ReplayState) (k : ℕ) (a : Ask) → Writes 1 (asked_of s k a).text
-asked_writes s k (ask.Access o) = done_writes (access s.machine.system k o).answer
-asked_writes s k (ask.Control c) = ruled_writes (control s.machine.system k c).answer
+asked_writes s k (ask.Load address) = accessed_writes s k (op.Load address)
+asked_writes s k (ask.Store address value) = accessed_writes s k (op.Store address value)
+asked_writes s k ask.Fence = accessed_writes s k op.Fence
+asked_writes s k (ask.Map x) = controlled_writes s k (control_of.Map (mapping x))
+asked_writes s k (ask.Invlpg address) = controlled_writes s k (control_of.Invlpg address)
+asked_writes s k ask.Cr3 = controlled_writes s k control_of.Cr3
+asked_writes s k (ask.Pge on) = controlled_writes s k (control_of.Pge on)
+asked_writes s k (ask.Cd on) = controlled_writes s k (control_of.Cd on)
 asked_writes s k ask.Step = step_writes (file_at (step_after s.machine k).system.processors k s.goal) (step_answer s.machine k)
-asked_writes s k (ask.Register number) = register_writes number (register_value s k number)
+asked_writes s k (ask.Msr number) = register_writes number (register_value s k number)
 
-acted_writes : (s : ReplayState) (a : Act) → Writes 1 (acted s a).text
-acted_writes s (act.Ask k a) = asked_writes s k a
-acted_writes s act.Go = go_writes (is_undecided (go_of s.machine))
-acted_writes s act.Cancel = cancel_writes (is_undecided (go_of s.machine))
-acted_writes s (act.Word address) = memory_writes (memory_word s.machine.system.memory address)
-acted_writes s act.Retire = leave_writes s.machine
-acted_writes s (act.Section section.End) = end_writes s (is_update s.now.stage)
-acted_writes s other = nothing
+newcomer_writes : (m : Machine) (n : Newcomer) → Writes 1 (newcomer_text m n)
+newcomer_writes m Up = come_writes m (up_line (length m.system.processors)) (one (both (plain (codes "up ") refl) (decimal_inside (length m.system.processors))))
+newcomer_writes m Join = come_writes m (joined_line (length m.system.processors)) (one (both (plain (codes "joined ") refl) (decimal_inside (length m.system.processors))))
 
-task_writes : (s : ReplayState) (t : Task) → Writes 1 (effect s t).text
-task_writes s task.Report = more (omega arith) (report_writes s.machine.system.processors)
-task_writes s task.Up = come_writes s.machine (up_line (length s.machine.system.processors)) (one (both (plain (codes "up ") refl) (decimal_inside (length s.machine.system.processors))))
-task_writes s task.Join = come_writes s.machine (joined_line (length s.machine.system.processors)) (one (both (plain (codes "joined ") refl) (decimal_inside (length s.machine.system.processors))))
-task_writes s (task.Act a) = acted_writes s a
-task_writes s other = nothing
+present_writes : (s : ReplayState) (c : Command) → Writes 1 (present_text s c)
+present_writes s (command.Section End) = end_writes s (is_update s.now.stage)
+present_writes s (command.Ask k a) = asked_writes s k a
+present_writes s (command.Newcomer n) = newcomer_writes s.machine n
+present_writes s command.Retire = leave_writes s.machine
+present_writes s command.Go = go_writes (is_undecided (go_of s.machine))
+present_writes s command.Cancel = cancel_writes (is_undecided (go_of s.machine))
+present_writes s command.Report = more (omega arith) (report_writes s.machine.system.processors)
+present_writes s (command.Word address) = memory_writes (memory_word s.machine.system.memory address)
+present_writes s other = nothing
 
 command_writes : (s : ReplayState) (c : Command) → Writes 1 (command_text s c)
 command_writes s c = by (is_absent s.machine c)
   where
     by : (b : Bool) → Writes 1 (if b then absent_line else present_text s c)
     by true = one (plain (codes "absent") refl)
-    by false = task_writes s (task_of c)
+    by false = present_writes s c
 
 -- what a line leads to where no known line stands behind it
 abbrev pub alone : ℕ → List ℕ → ScriptState → Transcript

@@ -24,6 +24,8 @@ use Rattle.mt_core.specs.declared.stepped.Stepped.TheVariants.{Did, NoUpdate, Wa
 use Rattle.mt_output.specs.Lines.{line}
 use Rattle.mt_script.specs.declared.command.Command.{Command}
 use Rattle.mt_script.specs.declared.command.Command.TheVariants as command
+use Rattle.mt_script.specs.declared.command.Section.TheVariants.{End}
+use Rattle.mt_script.specs.declared.command.Ask.TheVariants as ask
 use Rattle.mt_replay.specs.ReplayState.{ReplayState, after_update, call_fault, command_text, file_at, is_absent, is_undecided, is_update, mapping, memory_word, named, present_text}
 use Rattle.mt_replay_laws.specs.Settling.{AbsentProcessorsDoNothing, AbsentWhereNoProcessor}
 use Rattle.mt_replay.specs.Texts.{absent_line, call_fault_line, called_line, cancel_line, complete_line, done_line, event_text, go_line, have_one_file, memory_line, registers_line, report_text, ruled_line, stepped_line}
@@ -111,26 +113,24 @@ unlike text off is = clash (says text) off (ap says is)
 
 -- a command whose processor is there writes another text
 never_said : (s : ReplayState) (c : Command) → present_text s c ≡ absent_line → ⊥
-never_said s (command.Load k address) is = unlike (present_text s (command.Load k address)) (of_done (access s.machine.system k (op.Load address)).answer) is
-never_said s (command.Store k address value) is = unlike (present_text s (command.Store k address value)) (of_done (access s.machine.system k (op.Store address value)).answer) is
-never_said s (command.Fence k) is = unlike (present_text s (command.Fence k)) (of_done (access s.machine.system k op.Fence).answer) is
-never_said s (command.Map k address physical index global) is =
-    unlike (present_text s (command.Map k address physical index global)) (of_ruled (control s.machine.system k (control_of.Map (mapping address physical index global))).answer) is
-never_said s (command.Invlpg k address) is = unlike (present_text s (command.Invlpg k address)) (of_ruled (control s.machine.system k (control_of.Invlpg address)).answer) is
-never_said s (command.Cr3 k) is = unlike (present_text s (command.Cr3 k)) (of_ruled (control s.machine.system k control_of.Cr3).answer) is
-never_said s (command.Pge k on) is = unlike (present_text s (command.Pge k on)) (of_ruled (control s.machine.system k (control_of.Pge on)).answer) is
-never_said s (command.Cd k on) is = unlike (present_text s (command.Cd k on)) (of_ruled (control s.machine.system k (control_of.Cd on)).answer) is
+never_said s (command.Ask k (ask.Load address)) is = unlike (present_text s (command.Ask k (ask.Load address))) (of_done (access s.machine.system k (op.Load address)).answer) is
+never_said s (command.Ask k (ask.Store address value)) is = unlike (present_text s (command.Ask k (ask.Store address value))) (of_done (access s.machine.system k (op.Store address value)).answer) is
+never_said s (command.Ask k ask.Fence) is = unlike (present_text s (command.Ask k ask.Fence)) (of_done (access s.machine.system k op.Fence).answer) is
+never_said s (command.Ask k (ask.Map x)) is = unlike (present_text s (command.Ask k (ask.Map x))) (of_ruled (control s.machine.system k (control_of.Map (mapping x))).answer) is
+never_said s (command.Ask k (ask.Invlpg address)) is = unlike (present_text s (command.Ask k (ask.Invlpg address))) (of_ruled (control s.machine.system k (control_of.Invlpg address)).answer) is
+never_said s (command.Ask k ask.Cr3) is = unlike (present_text s (command.Ask k ask.Cr3)) (of_ruled (control s.machine.system k control_of.Cr3).answer) is
+never_said s (command.Ask k (ask.Pge on)) is = unlike (present_text s (command.Ask k (ask.Pge on))) (of_ruled (control s.machine.system k (control_of.Pge on)).answer) is
+never_said s (command.Ask k (ask.Cd on)) is = unlike (present_text s (command.Ask k (ask.Cd on))) (of_ruled (control s.machine.system k (control_of.Cd on)).answer) is
 never_said s command.Go is = unlike (present_text s command.Go) (of_go (is_undecided (go_of s.machine))) is
 never_said s command.Cancel is = unlike (present_text s command.Cancel) (of_cancel (is_undecided (go_of s.machine))) is
 never_said s command.Report is = unlike (present_text s command.Report) (of_report s.machine.system.processors) is
-never_said s (command.Step k) is =
-    unlike (present_text s (command.Step k)) (of_stepped (file_at (step_after s.machine k).system.processors k s.goal) (step_answer s.machine k)) is
+never_said s (command.Ask k ask.Step) is =
+    unlike (present_text s (command.Ask k ask.Step)) (of_stepped (file_at (step_after s.machine k).system.processors k s.goal) (step_answer s.machine k)) is
 never_said s (command.Word address) is = unlike (present_text s (command.Word address)) (of_memory (memory_word s.machine.system.memory address)) is
-never_said s (command.Msr k number) is = let e : false ≡ true = ap says_fourth is in cc e
-never_said s command.End is =
-    unlike (present_text s command.End) (of_end (is_update s.now.stage) (call_fault s.machine s.goal) (common_era (after_update s.machine s.goal).system.processors)) is
-never_said s command.Up is = no_mover says no_mover_says s command.Up absent_line tt is refl
-never_said s command.Join is = no_mover says no_mover_says s command.Join absent_line tt is refl
+never_said s (command.Ask k (ask.Msr number)) is = let e : false ≡ true = ap says_fourth is in cc e
+never_said s (command.Section End) is =
+    unlike (present_text s (command.Section End)) (of_end (is_update s.now.stage) (call_fault s.machine s.goal) (common_era (after_update s.machine s.goal).system.processors)) is
+never_said s (command.Newcomer n) is = no_mover says no_mover_says s (command.Newcomer n) absent_line tt is refl
 never_said s command.Retire is = no_mover says no_mover_says s command.Retire absent_line tt is refl
 never_said s other is = let e : false ≡ true = ap says is in cc e
 

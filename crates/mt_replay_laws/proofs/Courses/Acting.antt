@@ -26,6 +26,9 @@ use Rattle.mt_script.specs.Stages.{takes_windows}
 use Rattle.mt_script.specs.Accept.{Fits}
 use Rattle.mt_script.specs.declared.command.Command.{Command}
 use Rattle.mt_script.specs.declared.command.Command.TheVariants as command
+use Rattle.mt_script.specs.declared.command.Section.TheVariants.{End}
+use Rattle.mt_script.specs.declared.command.Ask.TheVariants as ask
+use Rattle.mt_script.specs.declared.command.Newcomer.TheVariants.{Up, Join}
 use Rattle.mt_output.specs.Lines.{line}
 use Rattle.mt_machine.specs.ComingAndGoing.{without_last}
 use Rattle.mt_admit.specs.Admission.{admitted, brought_up}
@@ -80,10 +83,10 @@ step_acts m k f = one (due_at m k) refl
     one None is = inl refl
     one (Some e) is = inr (inl (Steps k e, is, refl, refl, (f, refl)))
 
-end_acts : (s : ReplayState) (text : List ℕ) → IsSome (call_fault s.machine s.goal) → Acts s.machine (machine_after s command.End) text
+end_acts : (s : ReplayState) (text : List ℕ) → IsSome (call_fault s.machine s.goal) → Acts s.machine (machine_after s (command.Section End)) text
 end_acts s text some = one (call_fault s.machine s.goal) refl some
   where
-    one : (o : Option CallFault) → call_fault s.machine s.goal ≡ o → IsSome o → Acts s.machine (machine_after s command.End) text
+    one : (o : Option CallFault) → call_fault s.machine s.goal ≡ o → IsSome o → Acts s.machine (machine_after s (command.Section End)) text
     one None is some = absurd (cc some)
     one (Some fault) is some = inl (ends_idle s fault is).1
 
@@ -101,22 +104,22 @@ is_no_window now other fits past = tt
 acts_there : (s : ReplayState) (c : Command) → IsReplayState s → Fits s.now c → IsWithoutCall s c → IsNoWindow c → Acts s.machine (present_after s c) (present_text s c)
 acts_there s (command.Ram base lines) h fits calls past = absurd past
 acts_there s (command.Selfsnoop k) h fits calls past = absurd past
-acts_there s (command.Load k address) h fits calls past = access_acts s.machine k (op.Load address) (present_text s (command.Load k address)) fits.1
-acts_there s (command.Store k address value) h fits calls past = access_acts s.machine k (op.Store address value) (present_text s (command.Store k address value)) (fits.1, fits.2)
-acts_there s (command.Fence k) h fits calls past = access_acts s.machine k op.Fence (present_text s (command.Fence k)) tt
-acts_there s (command.Map k address physical index global) h fits calls past =
-    control_acts s.machine k (control_of.Map (mapping address physical index global)) (present_text s (command.Map k address physical index global)) (mapping_fits s h k address physical index global fits.1.1 fits.2.1 fits.3)
-acts_there s (command.Invlpg k address) h fits calls past = control_acts s.machine k (control_of.Invlpg address) (present_text s (command.Invlpg k address)) (λ p at. tt)
-acts_there s (command.Cr3 k) h fits calls past = control_acts s.machine k control_of.Cr3 (present_text s (command.Cr3 k)) (λ p at. tt)
-acts_there s (command.Pge k on) h fits calls past = control_acts s.machine k (control_of.Pge on) (present_text s (command.Pge k on)) (λ p at. tt)
-acts_there s (command.Cd k on) h fits calls past = control_acts s.machine k (control_of.Cd on) (present_text s (command.Cd k on)) (λ p at. tt)
+acts_there s (command.Ask k (ask.Load address)) h fits calls past = access_acts s.machine k (op.Load address) (present_text s (command.Ask k (ask.Load address))) fits.1
+acts_there s (command.Ask k (ask.Store address value)) h fits calls past = access_acts s.machine k (op.Store address value) (present_text s (command.Ask k (ask.Store address value))) fits.1
+acts_there s (command.Ask k ask.Fence) h fits calls past = access_acts s.machine k op.Fence (present_text s (command.Ask k ask.Fence)) tt
+acts_there s (command.Ask k (ask.Map x)) h fits calls past =
+    control_acts s.machine k (control_of.Map (mapping x)) (present_text s (command.Ask k (ask.Map x))) (mapping_fits s h k x fits.1.0.1 fits.1.1.1 fits.1.2)
+acts_there s (command.Ask k (ask.Invlpg address)) h fits calls past = control_acts s.machine k (control_of.Invlpg address) (present_text s (command.Ask k (ask.Invlpg address))) (λ p at. tt)
+acts_there s (command.Ask k ask.Cr3) h fits calls past = control_acts s.machine k control_of.Cr3 (present_text s (command.Ask k ask.Cr3)) (λ p at. tt)
+acts_there s (command.Ask k (ask.Pge on)) h fits calls past = control_acts s.machine k (control_of.Pge on) (present_text s (command.Ask k (ask.Pge on))) (λ p at. tt)
+acts_there s (command.Ask k (ask.Cd on)) h fits calls past = control_acts s.machine k (control_of.Cd on) (present_text s (command.Ask k (ask.Cd on))) (λ p at. tt)
 acts_there s command.Go h fits calls past = word_acts s.machine Goes (present_text s command.Go) (λ pending. pending) refl tt
 acts_there s command.Cancel h fits calls past = word_acts s.machine Cancels (present_text s command.Cancel) (λ pending. pending) refl tt
-acts_there s (command.Step k) h fits calls past = step_acts s.machine k (file_at (step_after s.machine k).system.processors k s.goal)
-acts_there s command.Up h fits calls past = inl (ap (λ (b : Bool). if b then brought_up s.machine else s.machine) (calls.1 (inl refl)))
-acts_there s command.Join h fits calls past = inl (ap (λ (b : Bool). if b then admitted s.machine else s.machine) (calls.1 (inr refl)))
+acts_there s (command.Ask k ask.Step) h fits calls past = step_acts s.machine k (file_at (step_after s.machine k).system.processors k s.goal)
+acts_there s (command.Newcomer Up) h fits calls past = inl (ap (λ (b : Bool). if b then brought_up s.machine else s.machine) (calls.1 (Up, refl)))
+acts_there s (command.Newcomer Join) h fits calls past = inl (ap (λ (b : Bool). if b then admitted s.machine else s.machine) (calls.1 (Join, refl)))
 acts_there s command.Retire h fits calls past = ⊎_elim (λ (same : after_retire s.machine ≡ s.machine). inl same) (λ (goes : Retires s.machine (after_retire s.machine)). inr (inr goes)) (retires_or_stays s.machine)
-acts_there s command.End h fits calls past = end_acts s (present_text s command.End) (calls.0 refl)
+acts_there s (command.Section End) h fits calls past = end_acts s (present_text s (command.Section End)) (calls.0 refl)
 acts_there s other h fits calls past = inl refl
 
 pub acts : (s : ReplayState) (c : Command) → IsReplayState s → Fits s.now c → IsWithoutCall s c → IsNoWindow c → Acts s.machine (machine_after s c) (command_text s c)

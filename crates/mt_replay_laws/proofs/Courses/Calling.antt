@@ -13,6 +13,7 @@ use Rattle.mt_script.specs.declared.command.Stage.{Stage}
 use Rattle.mt_script.specs.declared.command.Stage.TheVariants.{InBegin, InDump, InUpdate, Rams}
 use Rattle.mt_script.specs.declared.command.Command.{Command}
 use Rattle.mt_script.specs.declared.command.Command.TheVariants as command
+use Rattle.mt_script.specs.declared.command.Section.TheVariants.{Update, Begin, Register, End}
 use Rattle.mt_replay_laws.specs.Settling.{IsWithoutCall}
 use Rattle.mt_replay_laws.specs.Coming.{BringsUp}
 use Rattle.mt_admit.specs.Admission.{admitted}
@@ -47,7 +48,7 @@ call_or_not step h = by (end_or_not step.before step.command)
     no_fault (inl is) = (writes_called step.before step.command is).2
     no_fault (inr is) = (writes_complete step.before step.command is.0 is.1).2
 
-    ended : step.command ≡ command.End → (o : Option CallFault) → call_fault step.before.machine step.before.goal ≡ o → IsCall step ⊎ (IsCall step → ⊥)
+    ended : step.command ≡ command.Section End → (o : Option CallFault) → call_fault step.before.machine step.before.goal ≡ o → IsCall step ⊎ (IsCall step → ⊥)
     ended ends None is = inl (inl (subst (λ (c : Command). (command_text step.before c ≡ called_line) ⊎ ((era : ℕ) × (command_text step.before c ≡ complete_line era))) (sym ends) (accepted_end step.before h is)))
     ended ends (Some fault) is = inr (λ call. let none = no_fault (call_of_end step ends call) in cc (is, none))
 
@@ -64,7 +65,7 @@ call_or_not step h = by (end_or_not step.before step.command)
     comes (inl coming) = came coming (may_come step.before.machine) refl
     comes (inr not) = inr (λ newcomer. not (newcomer_is_coming step newcomer))
 
-    by : (step.command ≡ command.End) ⊎ ((command_text step.before step.command ≡ called_line → ⊥) × ((era : ℕ) → command_text step.before step.command ≡ complete_line era → ⊥)) → IsCall step ⊎ (IsCall step → ⊥)
+    by : (step.command ≡ command.Section End) ⊎ ((command_text step.before step.command ≡ called_line → ⊥) × ((era : ℕ) → command_text step.before step.command ≡ complete_line era → ⊥)) → IsCall step ⊎ (IsCall step → ⊥)
     by (inl ends) = ended ends (call_fault step.before.machine step.before.goal) refl
     by (inr none) =
         ⊎_elim (λ (newcomer : IsNewcomer step). inl (inr newcomer)) (λ (no_newcomer : IsNewcomer step → ⊥). inr (other none.0 none.1 no_newcomer)) (comes (coming_or_not step.command))
@@ -159,37 +160,21 @@ goes_wrong : {X : Type 0} (b : Bool) → b ≡ true → b ≡ false → X
 goes_wrong b on off = absurd (cc (on, off))
 
 -- a line of a section that doesn't end it gives a register, or nothing
-in_section : (s : ReplayState) (c : Command) → takes_registers s.now.stage ≡ true → IsSection s.now.stage → Fits s.now c → (c ≡ command.End → ⊥)
+in_section : (s : ReplayState) (c : Command) → takes_registers s.now.stage ≡ true → IsSection s.now.stage → Fits s.now c → (c ≡ command.Section End → ⊥)
     → (takes_registers (accepted s.now c).stage ≡ true) × (goal_after s c ≡ given s.goal c)
+in_section s command.Blank is h fits other = (is, refl)
 in_section s (command.Cpus n) is h fits other = goes_wrong (takes_cpus s.now.stage) fits.0 h.cpus
 in_section s command.Dump is h fits other = goes_wrong (takes_dump s.now.stage) fits h.dump
+in_section s command.DumpLine is h fits other = goes_wrong (is_in_dump s.now.stage) fits h.in_dump
 in_section s (command.Ram base lines) is h fits other = goes_wrong (takes_windows s.now.stage) fits.0 h.windows
 in_section s (command.Selfsnoop k) is h fits other = goes_wrong (takes_windows s.now.stage) fits.0 h.windows
-in_section s (command.Load k address) is h fits other = goes_wrong (takes_commands s.now.stage) fits.0.0 h.commands
-in_section s (command.Store k address value) is h fits other = goes_wrong (takes_commands s.now.stage) fits.0.0 h.commands
-in_section s (command.Fence k) is h fits other = goes_wrong (takes_commands s.now.stage) fits.0 h.commands
-in_section s (command.Map k address physical index global) is h fits other = goes_wrong (takes_commands s.now.stage) fits.0.0 h.commands
-in_section s (command.Invlpg k address) is h fits other = goes_wrong (takes_commands s.now.stage) fits.0.0 h.commands
-in_section s (command.Cr3 k) is h fits other = goes_wrong (takes_commands s.now.stage) fits.0 h.commands
-in_section s (command.Pge k on) is h fits other = goes_wrong (takes_commands s.now.stage) fits.0 h.commands
-in_section s (command.Cd k on) is h fits other = goes_wrong (takes_commands s.now.stage) fits.0 h.commands
-in_section s command.Update is h fits other = goes_wrong (takes_commands s.now.stage) fits h.commands
-in_section s command.Begin is h fits other = goes_wrong (takes_commands s.now.stage) fits h.commands
-in_section s command.Go is h fits other = goes_wrong (takes_commands s.now.stage) fits h.commands
-in_section s command.Cancel is h fits other = goes_wrong (takes_commands s.now.stage) fits h.commands
-in_section s command.Report is h fits other = goes_wrong (takes_commands s.now.stage) fits h.commands
-in_section s (command.Step k) is h fits other = goes_wrong (takes_commands s.now.stage) fits.0 h.commands
-in_section s command.Up is h fits other = goes_wrong (takes_commands s.now.stage) fits h.commands
-in_section s command.Join is h fits other = goes_wrong (takes_commands s.now.stage) fits h.commands
-in_section s command.Retire is h fits other = goes_wrong (takes_commands s.now.stage) fits h.commands
+in_section s (command.Section (Register number value)) is h fits other = (is, refl)
+in_section s (command.Section End) is h fits other = absurd (other refl)
+in_section s (command.Ask k a) is h fits other = goes_wrong (takes_commands s.now.stage) fits.0.0 h.commands
 in_section s (command.Word address) is h fits other = goes_wrong (takes_commands s.now.stage) fits.0 h.commands
-in_section s (command.Msr k number) is h fits other = goes_wrong (takes_commands s.now.stage) fits.0.0 h.commands
-in_section s command.Blank is h fits other = (is, refl)
-in_section s command.DumpLine is h fits other = goes_wrong (is_in_dump s.now.stage) fits h.in_dump
-in_section s (command.Register number value) is h fits other = (is, refl)
-in_section s command.End is h fits other = absurd (other refl)
+in_section s c is h fits other = goes_wrong (takes_commands s.now.stage) fits h.commands
 
-section_goal : (lines : List ScriptStep) (s : ReplayState) → takes_registers s.now.stage ≡ true → GoesOn s lines → NoneOf (λ step. step.command ≡ command.End) lines → (last_of s lines).goal ≡ goal_of s.goal lines
+section_goal : (lines : List ScriptStep) (s : ReplayState) → takes_registers s.now.stage ≡ true → GoesOn s lines → NoneOf (λ step. step.command ≡ command.Section End) lines → (last_of s lines).goal ≡ goal_of s.goal lines
 section_goal [] s is on none = refl
 section_goal (step ∷ lines) s is on none =
     let here : takes_registers step.before.now.stage ≡ true = ap (λ (x : ReplayState). takes_registers x.now.stage) on.0 ∙ is in
@@ -199,7 +184,7 @@ section_goal (step ∷ lines) s is on none =
     ∙ ap (λ (x : ReplayState). goal_of (given x.goal step.command) lines) on.0
 
 goal_of_section : (text : List ℕ) (front lines rest : List ScriptStep) (opens ends : ScriptStep) → course text ≡ front ++ opens ∷ (lines ++ ends ∷ rest)
-    → (opens.command ≡ command.Update) ⊎ (opens.command ≡ command.Begin) → NoneOf (λ step. step.command ≡ command.End) lines
+    → (opens.command ≡ command.Section Update) ⊎ (opens.command ≡ command.Section Begin) → NoneOf (λ step. step.command ≡ command.Section End) lines
     → ends.before.goal ≡ goal_of (first_file opens.before) lines
 goal_of_section text front lines rest opens ends same begun none =
     let there = stands_in front (lines ++ ends ∷ rest) opens (course_is text front (lines ++ ends ∷ rest) opens same) in
@@ -209,7 +194,7 @@ goal_of_section text front lines rest opens ends same begun none =
     ∙ section_goal lines (left opens) first.0 (in_front lines (ends ∷ rest) (left opens) there.goes_on) none
     ∙ ap (λ (g : RegisterFile). goal_of g lines) first.1
   where
-    begins : (opens.command ≡ command.Update) ⊎ (opens.command ≡ command.Begin) → (takes_registers (left opens).now.stage ≡ true) × ((left opens).goal ≡ first_file opens.before)
+    begins : (opens.command ≡ command.Section Update) ⊎ (opens.command ≡ command.Section Begin) → (takes_registers (left opens).now.stage ≡ true) × ((left opens).goal ≡ first_file opens.before)
     begins (inl is) = (ap (λ (c : Command). takes_registers (accepted opens.before.now c).stage) is, ap (goal_after opens.before) is)
     begins (inr is) = (ap (λ (c : Command). takes_registers (accepted opens.before.now c).stage) is, ap (goal_after opens.before) is)
 
@@ -217,23 +202,23 @@ goal_of_section text front lines rest opens ends same begun none =
 
 -- a command that leads to a section begins it, or stands in it
 opens_or_stays : (now : Situation) (c : Command) → takes_registers (accepted now c).stage ≡ true
-    → ((c ≡ command.Update) ⊎ (c ≡ command.Begin)) ⊎ ((takes_registers now.stage ≡ true) × (c ≡ command.End → ⊥))
-opens_or_stays now command.Update is = inl (inl refl)
-opens_or_stays now command.Begin is = inl (inr refl)
+    → ((c ≡ command.Section Update) ⊎ (c ≡ command.Section Begin)) ⊎ ((takes_registers now.stage ≡ true) × (c ≡ command.Section End → ⊥))
+opens_or_stays now (command.Section Update) is = inl (inl refl)
+opens_or_stays now (command.Section Begin) is = inl (inr refl)
 opens_or_stays now (command.Ram base lines) is = inr (is, λ e. cc e)
 opens_or_stays now (command.Selfsnoop k) is = inr (is, λ e. cc e)
 opens_or_stays now command.Blank is = inr (is, λ e. cc e)
 opens_or_stays now command.DumpLine is = inr (is, λ e. cc e)
-opens_or_stays now (command.Register number value) is = inr (is, λ e. cc e)
+opens_or_stays now (command.Section (Register number value)) is = inr (is, λ e. cc e)
 opens_or_stays now other is = absurd (cc is)
 
 abbrev OpenedIn : List ScriptStep → Type 0
 OpenedIn steps =
     (before : List ScriptStep) × (opens : ScriptStep) × (lines : List ScriptStep)
-    × (steps ≡ before ++ opens ∷ lines) × ((opens.command ≡ command.Update) ⊎ (opens.command ≡ command.Begin)) × NoneOf (λ step. step.command ≡ command.End) lines
+    × (steps ≡ before ++ opens ∷ lines) × ((opens.command ≡ command.Section Update) ⊎ (opens.command ≡ command.Section Begin)) × NoneOf (λ step. step.command ≡ command.Section End) lines
 
 abbrev InsideOrOpened : ReplayState → List ScriptStep → Type 0
-InsideOrOpened s steps = ((takes_registers s.now.stage ≡ true) × NoneOf (λ step. step.command ≡ command.End) steps) ⊎ OpenedIn steps
+InsideOrOpened s steps = ((takes_registers s.now.stage ≡ true) × NoneOf (λ step. step.command ≡ command.Section End) steps) ⊎ OpenedIn steps
 
 opened_before : (steps : List ScriptStep) (s : ReplayState) → GoesOn s steps → takes_registers (last_of s steps).now.stage ≡ true → InsideOrOpened s steps
 opened_before [] s on is = inl (is, tt)
@@ -244,7 +229,7 @@ opened_before (step ∷ steps) s on is =
     one (inr o) = inr (step ∷ o.0, o.1, o.2, ap (λ (rest : List ScriptStep). step ∷ rest) o.3, o.4, o.5)
     one (inl inside) = by (opens_or_stays step.before.now step.command inside.0)
       where
-        by : ((step.command ≡ command.Update) ⊎ (step.command ≡ command.Begin)) ⊎ ((takes_registers step.before.now.stage ≡ true) × (step.command ≡ command.End → ⊥)) → InsideOrOpened step.before (step ∷ steps)
+        by : ((step.command ≡ command.Section Update) ⊎ (step.command ≡ command.Section Begin)) ⊎ ((takes_registers step.before.now.stage ≡ true) × (step.command ≡ command.Section End → ⊥)) → InsideOrOpened step.before (step ∷ steps)
         by (inl opens) = inr ([], step, steps, refl, opens, inside.1)
         by (inr stays) = inl (stays.0, (stays.1, inside.1))
 
@@ -267,7 +252,7 @@ goals_are_of_their_sections text front rest call same called =
     let inside = ends_section call.before.now.stage there.is.past (subst (Fits call.before.now) (ends called) there.fits) in
     one c.first c.windows (opened_before front c.first (in_front front (call ∷ rest) c.first c.goes_on) (ap (λ (x : ReplayState). takes_registers x.now.stage) (sym on.0) ∙ inside))
   where
-    ends : IsSectionCall call → call.command ≡ command.End
+    ends : IsSectionCall call → call.command ≡ command.Section End
     ends (inl is) = (writes_called call.before call.command is).0
     ends (inr is) = (writes_complete call.before call.command is.0 is.1).0
 

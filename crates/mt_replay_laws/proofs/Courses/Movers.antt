@@ -7,6 +7,8 @@ use Rattle.mt_machine.specs.ComingAndGoing.{last_number, without_last}
 use Rattle.mt_admit.specs.Admission.{admitted, brought_up}
 use Rattle.mt_script.specs.declared.command.Command.{Command}
 use Rattle.mt_script.specs.declared.command.Command.TheVariants as command
+use Rattle.mt_script.specs.declared.command.Newcomer.{Newcomer}
+use Rattle.mt_script.specs.declared.command.Newcomer.TheVariants.{Up, Join}
 use Rattle.mt_replay.specs.Steps.{ScriptStep, wrote}
 use Rattle.mt_replay_laws.specs.Movers.{RetiresWhereIdle, Stays, StaysAlone, StaysFull, StaysUnderWay}
 use Rattle.mt_replay.specs.ReplayState.{ReplayState, command_text, machine_after, may_come, may_go, stays_line}
@@ -53,14 +55,12 @@ Rests s c text = (command_text s c ≡ text) × (machine_after s c ≡ s.machine
 stays_by : (step : ScriptStep) (c : Command) (text : List ℕ) → step.command ≡ c → Rests step.before c text → Stays step text
 stays_by step c text is rests = (ap (command_text step.before) is ∙ rests.0, ap (machine_after step.before) is ∙ rests.1)
 
-up_rests : (s : ReplayState) → may_come s.machine ≡ false → Rests s command.Up (stays_line s.machine full_line)
-up_rests s off = (
+newcomer_rests : (s : ReplayState) (n : Newcomer) → may_come s.machine ≡ false → Rests s (command.Newcomer n) (stays_line s.machine full_line)
+newcomer_rests s Up off = (
   ap (λ (b : Bool). if b then up_line (length s.machine.system.processors) else stays_line s.machine full_line) off,
   ap (λ (b : Bool). if b then brought_up s.machine else s.machine) off,
 )
-
-join_rests : (s : ReplayState) → may_come s.machine ≡ false → Rests s command.Join (stays_line s.machine full_line)
-join_rests s off = (
+newcomer_rests s Join off = (
   ap (λ (b : Bool). if b then joined_line (length s.machine.system.processors) else stays_line s.machine full_line) off,
   ap (λ (b : Bool). if b then admitted s.machine else s.machine) off,
 )
@@ -100,26 +100,19 @@ few_to_go m none few =
     ap (λ (o : Option Order). not (is_some o) && nat_lt 1 (length m.system.processors)) none ∙ le-ltb 1 (length m.system.processors) few
 
 pub stays_under_way : StaysUnderWay
-stays_under_way step (inl (inl up)) some =
+stays_under_way step (inl (n, comes)) some =
     let busy = busy_is step.before.machine.order some in
-    stays_by step command.Up under_way_line up
-    (because step.before command.Up (stays_line step.before.machine full_line) under_way_line (up_rests step.before (busy_to_come step.before.machine busy)) (under_way_stays step.before.machine full_line busy))
-stays_under_way step (inl (inr join)) some =
-    let busy = busy_is step.before.machine.order some in
-    stays_by step command.Join under_way_line join
-    (because step.before command.Join (stays_line step.before.machine full_line) under_way_line (join_rests step.before (busy_to_come step.before.machine busy)) (under_way_stays step.before.machine full_line busy))
+    stays_by step (command.Newcomer n) under_way_line comes
+    (because step.before (command.Newcomer n) (stays_line step.before.machine full_line) under_way_line (newcomer_rests step.before n (busy_to_come step.before.machine busy)) (under_way_stays step.before.machine full_line busy))
 stays_under_way step (inr retire) some =
     let busy = busy_is step.before.machine.order some in
     stays_by step command.Retire under_way_line retire
     (because step.before command.Retire (stays_line step.before.machine no_line) under_way_line (retire_rests step.before (busy_to_go step.before.machine busy)) (under_way_stays step.before.machine no_line busy))
 
 pub stays_full : StaysFull
-stays_full step (inl up) none many =
-    stays_by step command.Up full_line up
-    (because step.before command.Up (stays_line step.before.machine full_line) full_line (up_rests step.before (many_to_come step.before.machine none many)) (idle_stays step.before.machine full_line none))
-stays_full step (inr join) none many =
-    stays_by step command.Join full_line join
-    (because step.before command.Join (stays_line step.before.machine full_line) full_line (join_rests step.before (many_to_come step.before.machine none many)) (idle_stays step.before.machine full_line none))
+stays_full step (n, comes) none many =
+    stays_by step (command.Newcomer n) full_line comes
+    (because step.before (command.Newcomer n) (stays_line step.before.machine full_line) full_line (newcomer_rests step.before n (many_to_come step.before.machine none many)) (idle_stays step.before.machine full_line none))
 
 pub stays_alone : StaysAlone
 stays_alone step retire none few =

@@ -17,6 +17,7 @@ use Rattle.mt_script.specs.Stages.{takes_windows}
 use Rattle.mt_script.specs.Accept.{Fits, accepted}
 use Rattle.mt_script.specs.declared.command.Command.{Command}
 use Rattle.mt_script.specs.declared.command.Command.TheVariants as command
+use Rattle.mt_script.specs.declared.command.Ask.TheVariants as ask
 use Rattle.mt_machine.specs.ComingAndGoing.{with_newcomer}
 use Rattle.mt_laws.proofs.Invariant.Coming.{reset_stays_quiet}
 use Rattle.mt_core.specs.Arises.{by_event}
@@ -56,7 +57,7 @@ last_join (step ∷ front) rest s = last_join front rest (left step)
 did : (step : ScriptStep) (e : Event) (does : Does step.before step.command e) → due_at step.before.machine does.0 ≡ Some e → (left step).machine ≡ next step.before.machine (Steps does.0 e)
 did step e does due =
     ap (machine_after step.before) does.1
-    ∙ there_machine step.before (command.Step does.0) (step_is_there step.before does.0 e due)
+    ∙ there_machine step.before (command.Ask does.0 ask.Step) (step_is_there step.before does.0 e due)
     ∙ ap (λ (o : Option Event). option_map_or (λ e. next step.before.machine (Steps does.0 e)) o step.before.machine) due
 
 -- ---- from a release on
@@ -72,10 +73,10 @@ module _ (release : ScriptStep) (since : List ScriptStep) (h : Stands release.be
   due : due_at m k ≡ Some Release
   due = answered_due m k Release does.2
 
-  after : left release ≡ state_after release.before (command.Step k)
+  after : left release ≡ state_after release.before (command.Ask k ask.Step)
   after = ap (state_after release.before) does.1
 
-  fits_step : Fits release.before.now (command.Step k)
+  fits_step : Fits release.before.now (command.Ask k ask.Step)
   fits_step = subst (Fits release.before.now) does.1 fits
 
   without : AreWithoutCall (left release) (commands since)
@@ -85,7 +86,7 @@ module _ (release : ScriptStep) (since : List ScriptStep) (h : Stands release.be
   settled goal era of =
       let s = released_states_settle release.before k (commands since) h.is fits_step does.2 (subst (λ (x : ReplayState). AreWithoutCall x (commands since)) after without) in
       let own : IsOf goal era (Some s.0) = subst (IsOf goal era) s.1 of in
-      let last_is : state_after_all (state_after release.before (command.Step k)) (commands since) ≡ last_of (left release) since =
+      let last_is : state_after_all (state_after release.before (command.Ask k ask.Step)) (commands since) ≡ last_of (left release) since =
       ap (λ (x : ReplayState). state_after_all x (commands since)) (sym after) ∙ same_last since (left release) on in
       subst (λ (v : ReplayState × ℕ × RegisterFile). IsSettled v.0.machine.system (v.1 + 1) v.2) (λ i. (last_is i, own.1 i, own.0 i)) s.2
 

@@ -14,6 +14,8 @@ use Rattle.mt_script.specs.Stages.{takes_windows}
 use Rattle.mt_script.specs.Accept.{Fits, accepted}
 use Rattle.mt_script.specs.declared.command.Command.{Command}
 use Rattle.mt_script.specs.declared.command.Command.TheVariants as command
+use Rattle.mt_script.specs.declared.command.Section.TheVariants.{End}
+use Rattle.mt_script.specs.declared.command.Newcomer.TheVariants.{Join}
 use Rattle.mt_replay_laws.specs.Headline.{CompleteUpdatesAreKept, IsCall, Keeps, NoneOf, RefusedUpdatesChangeNothing, next_era, stored_in, HasNewcomer, JoinsAreKept}
 use Rattle.mt_replay.specs.Steps.{ScriptStep, last_of, left, wrote}
 use Rattle.mt_replay.specs.Kept.{IsReplayState, windows_of}
@@ -34,14 +36,14 @@ use Rattle.mt_replay_laws.proofs.Refusals.Updates.{aligned_place, complete_updat
 
 -- ---- refused
 
-idle_step : (step : ScriptStep) (fault : CallFault) → step.command ≡ command.End → call_fault step.before.machine step.before.goal ≡ Some fault → (left step).machine ≡ step.before.machine
+idle_step : (step : ScriptStep) (fault : CallFault) → step.command ≡ command.Section End → call_fault step.before.machine step.before.goal ≡ Some fault → (left step).machine ≡ step.before.machine
 idle_step step fault ends is = ap (machine_after step.before) ends ∙ (ends_idle step.before fault is).1
 
 pub refused_updates_change_nothing : RefusedUpdatesChangeNothing
 refused_updates_change_nothing text front rest step same (inl h) = let w = writes_refused step.before step.command h.0 h.1 in idle_step step w.1.0 w.0 w.1.1
 refused_updates_change_nothing text front rest step same (inr h) =
     ⊎_elim
-    (λ (w : (step.command ≡ command.End) × ((own : CallFault) × (call_fault step.before.machine step.before.goal ≡ Some own))). idle_step step w.1.0 w.0 w.1.1)
+    (λ (w : (step.command ≡ command.Section End) × ((own : CallFault) × (call_fault step.before.machine step.before.goal ≡ Some own))). idle_step step w.1.0 w.0 w.1.1)
     (λ (stays : machine_after step.before step.command ≡ step.before.machine). stays)
     (writes_under_way step.before step.command h)
 
@@ -51,10 +53,10 @@ abbrev pub commands : List ScriptStep → List Command
 commands steps = map (λ (step : ScriptStep). step.command) steps
 
 -- an end that isn't refused writes the line of a call
-pub accepted_end : (s : ReplayState) → IsReplayState s → call_fault s.machine s.goal ≡ None → (command_text s command.End ≡ called_line) ⊎ ((era : ℕ) × (command_text s command.End ≡ complete_line era))
+pub accepted_end : (s : ReplayState) → IsReplayState s → call_fault s.machine s.goal ≡ None → (command_text s (command.Section End) ≡ called_line) ⊎ ((era : ℕ) × (command_text s (command.Section End) ≡ complete_line era))
 accepted_end s h none = one (is_update s.now.stage) refl
   where
-    one : (b : Bool) → is_update s.now.stage ≡ b → (command_text s command.End ≡ called_line) ⊎ ((era : ℕ) × (command_text s command.End ≡ complete_line era))
+    one : (b : Bool) → is_update s.now.stage ≡ b → (command_text s (command.Section End) ≡ called_line) ⊎ ((era : ℕ) × (command_text s (command.Section End) ≡ complete_line era))
     one true update = let done = complete_updates_settle s h update none in inr (done.era, done.line_is)
     one false begin = inl (accepted_calls s begin none).0
 
@@ -65,7 +67,7 @@ no_call step h calls = (λ ends. one ends (call_fault step.before.machine step.b
     stays coming true is = absurd (calls (inr (comes_as_newcomer step coming is)))
     stays coming false is = is
 
-    one : step.command ≡ command.End → (o : Option CallFault) → call_fault step.before.machine step.before.goal ≡ o → IsSome o
+    one : step.command ≡ command.Section End → (o : Option CallFault) → call_fault step.before.machine step.before.goal ≡ o → IsSome o
     one ends (Some fault) is = refl
     one ends None is =
         absurd (calls (inl (subst (λ (c : Command). (command_text step.before c ≡ called_line) ⊎ ((era : ℕ) × (command_text step.before c ≡ complete_line era))) (sym ends) (accepted_end step.before h is))))
@@ -93,7 +95,7 @@ without_call (step ∷ steps) s h on none =
 no_window : (now : Situation) (c : Command) → Fits now c → takes_windows now.stage ≡ false → (accepted now c).windows ≡ now.windows
 no_window now (command.Ram base lines) fits past = absurd (let takes = fits.0 in cc (takes, past))
 no_window now (command.Selfsnoop k) fits past = refl
-no_window now command.Blank fits past = refl
+no_window now (command.Section End) fits past = refl
 no_window now other fits past = refl
 
 windows_stay : (steps : List ScriptStep) (s : ReplayState) → GoesOn s steps → takes_windows s.now.stage ≡ false → (last_of s steps).now.windows ≡ s.now.windows
@@ -125,26 +127,26 @@ pub keeps : (goal : RegisterFile) (era : ℕ) (value : ℕ → ℕ) (stored : Li
 keeps goal era value stored m settled held = record { settled = settled; held = held }
 
 module _ (update : ScriptStep) (since : List ScriptStep) (h : IsReplayState update.before) (fits : Fits update.before.now update.command) (on : GoesOn (left update) since) (none : NoneOf IsCall since)
-    (ends : update.command ≡ command.End) (section : is_update update.before.now.stage ≡ true) (accepts : call_fault update.before.machine update.before.goal ≡ None) where
+    (ends : update.command ≡ command.Section End) (section : is_update update.before.now.stage ≡ true) (accepts : call_fault update.before.machine update.before.goal ≡ None) where
   abbrev s : ReplayState
   s = update.before
 
-  done : IsSettledAfter s (machine_after s command.End)
+  done : IsSettledAfter s (machine_after s (command.Section End))
   done = complete_updates_settle s h section accepts
 
-  after : left update ≡ state_after s command.End
+  after : left update ≡ state_after s (command.Section End)
   after = ap (state_after s) ends
 
-  calls : AreWithoutCall (state_after s command.End) (commands since)
+  calls : AreWithoutCall (state_after s (command.Section End)) (commands since)
   calls = subst (λ (x : ReplayState). AreWithoutCall x (commands since)) after (without_call since (left update) (state_kept s update.command h fits) on none)
 
-  last_is : state_after_all (state_after s command.End) (commands since) ≡ last_of (left update) since
+  last_is : state_after_all (state_after s (command.Section End)) (commands since) ≡ last_of (left update) since
   last_is = ap (λ (x : ReplayState). state_after_all x (commands since)) (sym after) ∙ same_last since (left update) on
 
-  stored_is : stored_by_all (state_after s command.End) (commands since) ≡ stored_in since
+  stored_is : stored_by_all (state_after s (command.Section End)) (commands since) ≡ stored_in since
   stored_is = ap (λ (x : ReplayState). stored_by_all x (commands since)) (sym after) ∙ same_stored since (left update) on
 
-  held : AreHeld (word_at (machine_after s command.End).system.memory) (state_after s command.End) (commands since)
+  held : AreHeld (word_at (machine_after s (command.Section End)).system.memory) (state_after s (command.Section End)) (commands since)
   held = updated_words_are_held s (commands since) h section accepts calls
 
   windows : (last_of (left update) since).machine.system.memory.windows ≡ s.machine.system.memory.windows
@@ -179,23 +181,23 @@ complete_updates_are_kept text front since rest update era same wrote_it none =
 -- ---- a processor that joins
 
 module _ (join : ScriptStep) (since : List ScriptStep) (h : IsReplayState join.before) (fits : Fits join.before.now join.command) (on : GoesOn (left join) since) (none : NoneOf IsCall since)
-    (is_join : join.command ≡ command.Join) (may : may_come join.before.machine ≡ true) where
+    (is_join : join.command ≡ command.Newcomer Join) (may : may_come join.before.machine ≡ true) where
   abbrev was : ReplayState
   was = join.before
 
-  fits_join : Fits was.now command.Join
+  fits_join : Fits was.now (command.Newcomer Join)
   fits_join = subst (Fits was.now) is_join fits
 
-  left_so : left join ≡ state_after was command.Join
+  left_so : left join ≡ state_after was (command.Newcomer Join)
   left_so = ap (state_after was) is_join
 
-  calls_since : AreWithoutCall (state_after was command.Join) (commands since)
+  calls_since : AreWithoutCall (state_after was (command.Newcomer Join)) (commands since)
   calls_since = subst (λ (x : ReplayState). AreWithoutCall x (commands since)) left_so (without_call since (left join) (state_kept was join.command h fits) on none)
 
-  last_join_is : state_after_all (state_after was command.Join) (commands since) ≡ last_of (left join) since
+  last_join_is : state_after_all (state_after was (command.Newcomer Join)) (commands since) ≡ last_of (left join) since
   last_join_is = ap (λ (x : ReplayState). state_after_all x (commands since)) (sym left_so) ∙ same_last since (left join) on
 
-  stored_join_is : stored_by_all (state_after was command.Join) (commands since) ≡ stored_in since
+  stored_join_is : stored_by_all (state_after was (command.Newcomer Join)) (commands since) ≡ stored_in since
   stored_join_is = ap (λ (x : ReplayState). stored_by_all x (commands since)) (sym left_so) ∙ same_stored since (left join) on
 
   machine_is : (left join).machine ≡ admitted was.machine

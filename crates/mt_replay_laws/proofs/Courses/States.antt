@@ -5,9 +5,6 @@ use Rattle.std.specs.List.{AllByRecursion}
 use Rattle.std.specs.Option.{option_map_or}
 use Rattle.mt_text.specs.Text.{end_of}
 use Rattle.mt_regs.specs.declared.fault.Fault.{Fault}
-use Rattle.mt_regs.specs.Agreement.{first_refusal}
-use Rattle.mt_dump.specs.Dumps.{Dump}
-use Rattle.mt_script.specs.Situation.{Situation}
 use Rattle.mt_script.specs.Commands.{command_of}
 use Rattle.mt_script.specs.Script.{script_offence}
 use Rattle.mt_script.specs.declared.fault.Offence.{Offence}
@@ -16,8 +13,7 @@ use Rattle.mt_output.specs.Lines.{accepted_line, dump_refused_line, offence_line
 use Rattle.mt_script.specs.declared.command.Command.{Command}
 use Rattle.mt_script.specs.declared.fault.ScriptFault.{ScriptFault}
 use Rattle.mt_replay_laws.specs.Headline.{StartsAsTheDumpShows, StatesAreOfTheCourse}
-use Rattle.mt_replay.specs.Steps.{Beginning, ScriptStep, beginning, begins_by, begins_with, course, left, steps_in, steps_of}
-use Rattle.mt_replay.specs.Heads.{HeadEnd, head_of, has_offence, shows_dump, stays_open}
+use Rattle.mt_replay.specs.Steps.{Beginning, ScriptStep, beginning, course, left, steps_in, steps_of}
 use Rattle.mt_replay.specs.Kept.{start_of}
 use Rattle.mt_replay_laws.specs.Through.{HoldsAlong, HoldsThrough}
 use Rattle.mt_replay.specs.ReplayState.{ReplayState, state_after}

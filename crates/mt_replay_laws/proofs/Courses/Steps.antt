@@ -1,6 +1,6 @@
 -- The course of a text: its transcript is what the steps write, and each step finds what the one before it left.
 use Rattle.std.proofs.Common.{◌≡◌, ◌⊎◌, ◌∙◌, ap, sym, refl, subst, inl, inr, ℕ, ◌+◌, Bool, true, false, List, [], ◌∷◌, ◌++◌, Option, None, Some, Result, Ok, Err}
-use Rattle.std.specs.Prelude.{IsSome}
+use Rattle.std.specs.Prelude.{IsSome, if◌then◌else◌}
 use Rattle.std.specs.Option.{option_map, option_map_or}
 use Rattle.std.proofs.lemmas.List.{append_assoc}
 use Rattle.mt_text.specs.Text.{lines_of, end_of}
@@ -14,8 +14,8 @@ use Rattle.mt_script.specs.Stages.{is_in_dump, takes_windows}
 use Rattle.mt_script.specs.Numbers.{fault_at}
 use Rattle.mt_script.specs.declared.fault.ScriptReason.TheVariants.{NoEnd}
 use Rattle.mt_script.specs.Commands.{command_of, end_fault}
-use Rattle.mt_script.specs.Accept.{Fits}
-use Rattle.mt_script.specs.Head.{step_of_answer, step_of_command}
+use Rattle.mt_script.specs.Accept.{Fits, accepted}
+use Rattle.mt_script.specs.Head.{goes_on, is_end_command, step_in_dump, step_of_answer}
 use Rattle.mt_script.specs.Script.{offence_after, offence_in, script_offence}
 use Rattle.mt_script.specs.declared.command.Command.{Command}
 use Rattle.mt_script.specs.declared.fault.ScriptFault.{ScriptFault}
@@ -90,7 +90,7 @@ told_steps end number (line ∷ lines) = one (told_steps end (number + 1) lines)
       where
         on : (c : Command) → IsReplayState (state_after s c) → (dump : Bool) → is_in_dump s.now.stage ≡ dump
             → behind (command_text s c) (body_lines (Some end) (number + 1) lines (state_after s c))
-            ≡ behind (command_text s c ++ joined (steps_in (number + 1) lines (state_after s c))) (ending (offence_after s.now (offence_in end (number + 1) lines) (step_of_command s.now [] number line c dump)))
+            ≡ behind (command_text s c ++ joined (steps_in (number + 1) lines (state_after s c))) (ending (offence_after s.now (offence_in end (number + 1) lines) (if dump then step_in_dump s.now [] number line (is_end_command c) else goes_on (accepted s.now c) [])))
         on c kept true dump = absurd (let past = sym (not_past_in_dump s.now.stage dump) ∙ h.past in cc past)
         on c kept false dump =
             ap (behind (command_text s c)) (later (state_after s c) kept)

@@ -27,6 +27,9 @@ use Rattle.mt_core.specs.declared.stepped.Stepped.{Stepped}
 use Rattle.mt_core.specs.declared.stepped.Stepped.TheVariants.{Did, NoUpdate, Waits}
 use Rattle.mt_script.specs.declared.command.Command.{Command}
 use Rattle.mt_script.specs.declared.command.Command.TheVariants as command
+use Rattle.mt_script.specs.declared.command.Section.TheVariants.{End}
+use Rattle.mt_script.specs.declared.command.Ask.TheVariants as ask
+use Rattle.mt_script.specs.declared.command.Newcomer.TheVariants.{Up, Join}
 use Rattle.mt_output.specs.Lines.{line, refused_line}
 use Rattle.mt_replay_laws.specs.Headline.{IsCall, NoneOf, pass_line, release_line}
 use Rattle.mt_replay.specs.Steps.{ScriptStep, wrote}
@@ -79,31 +82,29 @@ of_report (p ∷ ps) = refl
 
 -- a step, the end of a section, or a processor that comes or goes
 abbrev IsOfUpdate : Command → Type 0
-IsOfUpdate (command.Step k) = Unit {0}
-IsOfUpdate command.End = Unit {0}
-IsOfUpdate command.Up = Unit {0}
-IsOfUpdate command.Join = Unit {0}
+IsOfUpdate (command.Ask k ask.Step) = Unit {0}
+IsOfUpdate (command.Section End) = Unit {0}
+IsOfUpdate (command.Newcomer n) = Unit {0}
 IsOfUpdate command.Retire = Unit {0}
 IsOfUpdate other = ⊥
 
 of_present : (s : ReplayState) (c : Command) → is_of_update (present_text s c) ≡ true → IsOfUpdate c
-of_present s (command.Load k address) is = absurd (clash (is_of_update (present_text s (command.Load k address))) (of_done (access s.machine.system k (op.Load address)).answer) is)
-of_present s (command.Store k address value) is = absurd (clash (is_of_update (present_text s (command.Store k address value))) (of_done (access s.machine.system k (op.Store address value)).answer) is)
-of_present s (command.Fence k) is = absurd (clash (is_of_update (present_text s (command.Fence k))) (of_done (access s.machine.system k op.Fence).answer) is)
-of_present s (command.Map k address physical index global) is = absurd (clash (is_of_update (present_text s (command.Map k address physical index global))) (of_ruled (control s.machine.system k (control_of.Map (mapping address physical index global))).answer) is)
-of_present s (command.Invlpg k address) is = absurd (clash (is_of_update (present_text s (command.Invlpg k address))) (of_ruled (control s.machine.system k (control_of.Invlpg address)).answer) is)
-of_present s (command.Cr3 k) is = absurd (clash (is_of_update (present_text s (command.Cr3 k))) (of_ruled (control s.machine.system k control_of.Cr3).answer) is)
-of_present s (command.Pge k on) is = absurd (clash (is_of_update (present_text s (command.Pge k on))) (of_ruled (control s.machine.system k (control_of.Pge on)).answer) is)
-of_present s (command.Cd k on) is = absurd (clash (is_of_update (present_text s (command.Cd k on))) (of_ruled (control s.machine.system k (control_of.Cd on)).answer) is)
+of_present s (command.Ask k (ask.Load address)) is = absurd (clash (is_of_update (present_text s (command.Ask k (ask.Load address)))) (of_done (access s.machine.system k (op.Load address)).answer) is)
+of_present s (command.Ask k (ask.Store address value)) is = absurd (clash (is_of_update (present_text s (command.Ask k (ask.Store address value)))) (of_done (access s.machine.system k (op.Store address value)).answer) is)
+of_present s (command.Ask k ask.Fence) is = absurd (clash (is_of_update (present_text s (command.Ask k ask.Fence))) (of_done (access s.machine.system k op.Fence).answer) is)
+of_present s (command.Ask k (ask.Map x)) is = absurd (clash (is_of_update (present_text s (command.Ask k (ask.Map x)))) (of_ruled (control s.machine.system k (control_of.Map (mapping x))).answer) is)
+of_present s (command.Ask k (ask.Invlpg address)) is = absurd (clash (is_of_update (present_text s (command.Ask k (ask.Invlpg address)))) (of_ruled (control s.machine.system k (control_of.Invlpg address)).answer) is)
+of_present s (command.Ask k ask.Cr3) is = absurd (clash (is_of_update (present_text s (command.Ask k ask.Cr3))) (of_ruled (control s.machine.system k control_of.Cr3).answer) is)
+of_present s (command.Ask k (ask.Pge on)) is = absurd (clash (is_of_update (present_text s (command.Ask k (ask.Pge on)))) (of_ruled (control s.machine.system k (control_of.Pge on)).answer) is)
+of_present s (command.Ask k (ask.Cd on)) is = absurd (clash (is_of_update (present_text s (command.Ask k (ask.Cd on)))) (of_ruled (control s.machine.system k (control_of.Cd on)).answer) is)
 of_present s command.Go is = absurd (clash (is_of_update (present_text s command.Go)) (of_go (is_undecided (go_of s.machine))) is)
 of_present s command.Cancel is = absurd (clash (is_of_update (present_text s command.Cancel)) (of_cancel (is_undecided (go_of s.machine))) is)
 of_present s command.Report is = absurd (clash (is_of_update (present_text s command.Report)) (of_report s.machine.system.processors) is)
-of_present s (command.Step k) is = tt
+of_present s (command.Ask k ask.Step) is = tt
 of_present s (command.Word address) is = absurd (clash (is_of_update (present_text s (command.Word address))) (of_memory (memory_word s.machine.system.memory address)) is)
-of_present s (command.Msr k number) is = absurd (cc is)
-of_present s command.End is = tt
-of_present s command.Up is = tt
-of_present s command.Join is = tt
+of_present s (command.Ask k (ask.Msr number)) is = absurd (cc is)
+of_present s (command.Section End) is = tt
+of_present s (command.Newcomer n) is = tt
 of_present s command.Retire is = tt
 of_present s other is = absurd (cc is)
 
@@ -117,8 +118,7 @@ of_command s c is = one (is_absent s.machine c) refl
 -- ---- processors that come and go
 
 abbrev pub IsMover : Command → Type 0
-IsMover command.Up = Unit {0}
-IsMover command.Join = Unit {0}
+IsMover (command.Newcomer n) = Unit {0}
 IsMover command.Retire = Unit {0}
 IsMover other = ⊥
 
@@ -137,12 +137,12 @@ module _ (mark : List ℕ → Bool) (h : NoneIs mark) where
   stays_unmarked false cause is = is
 
   unmarked : (s : ReplayState) (c : Command) → IsMover c → mark (command_text s c) ≡ false
-  unmarked s command.Up mover = one (may_come s.machine)
+  unmarked s (command.Newcomer Up) mover = one (may_come s.machine)
     where
       one : (b : Bool) → mark (if b then up_line (length s.machine.system.processors) else stays_line s.machine full_line) ≡ false
       one true = h.up (length s.machine.system.processors)
       one false = stays_unmarked (is_some s.machine.order) full_line h.full
-  unmarked s command.Join mover = one (may_come s.machine)
+  unmarked s (command.Newcomer Join) mover = one (may_come s.machine)
     where
       one : (b : Bool) → mark (if b then joined_line (length s.machine.system.processors) else stays_line s.machine full_line) ≡ false
       one true = h.joined (length s.machine.system.processors)
@@ -206,28 +206,27 @@ of_stepped f (Waits arrived awaited) = refl
 of_stepped f NoUpdate = refl
 
 -- only the end of a section writes such a text, or a processor that comes or goes
-of_step : (s : ReplayState) (k : ℕ) → is_of_call (command_text s (command.Step k)) ≡ false
-of_step s k = one (is_absent s.machine (command.Step k)) refl
+of_step : (s : ReplayState) (k : ℕ) → is_of_call (command_text s (command.Ask k ask.Step)) ≡ false
+of_step s k = one (is_absent s.machine (command.Ask k ask.Step)) refl
   where
-    one : (b : Bool) → is_absent s.machine (command.Step k) ≡ b → is_of_call (command_text s (command.Step k)) ≡ false
-    one true absent = ap is_of_call (absent_text s (command.Step k) absent)
-    one false there = ap is_of_call (there_text s (command.Step k) there) ∙ of_stepped (file_at (step_after s.machine k).system.processors k s.goal) (step_answer s.machine k)
+    one : (b : Bool) → is_absent s.machine (command.Ask k ask.Step) ≡ b → is_of_call (command_text s (command.Ask k ask.Step)) ≡ false
+    one true absent = ap is_of_call (absent_text s (command.Ask k ask.Step) absent)
+    one false there = ap is_of_call (there_text s (command.Ask k ask.Step) there) ∙ of_stepped (file_at (step_after s.machine k).system.processors k s.goal) (step_answer s.machine k)
 
-call_ends : (s : ReplayState) (c : Command) → is_of_update (command_text s c) ≡ true → is_of_call (command_text s c) ≡ true → (c ≡ command.End) ⊎ IsMover c
+call_ends : (s : ReplayState) (c : Command) → is_of_update (command_text s c) ≡ true → is_of_call (command_text s c) ≡ true → (c ≡ command.Section End) ⊎ IsMover c
 call_ends s c update call = one c (of_command s c update) call
   where
-    one : (c : Command) → IsOfUpdate c → is_of_call (command_text s c) ≡ true → (c ≡ command.End) ⊎ IsMover c
-    one (command.Step k) update call = absurd (clash (is_of_call (command_text s (command.Step k))) (of_step s k) call)
-    one command.End update call = inl refl
-    one command.Up update call = inr tt
-    one command.Join update call = inr tt
+    one : (c : Command) → IsOfUpdate c → is_of_call (command_text s c) ≡ true → (c ≡ command.Section End) ⊎ IsMover c
+    one (command.Ask k ask.Step) update call = absurd (clash (is_of_call (command_text s (command.Ask k ask.Step))) (of_step s k) call)
+    one (command.Section End) update call = inl refl
+    one (command.Newcomer n) update call = inr tt
     one command.Retire update call = inr tt
     one other update call = absurd update
 
 -- where no processor that comes or goes writes it, the end of a section does
-ends_alone : (mark : List ℕ → Bool) → NoneIs mark → (s : ReplayState) (c : Command) (text : List ℕ) → command_text s c ≡ text → is_of_update text ≡ true → is_of_call text ≡ true → mark text ≡ true → c ≡ command.End
+ends_alone : (mark : List ℕ → Bool) → NoneIs mark → (s : ReplayState) (c : Command) (text : List ℕ) → command_text s c ≡ text → is_of_update text ≡ true → is_of_call text ≡ true → mark text ≡ true → c ≡ command.Section End
 ends_alone mark none s c text is update call on =
-    ⊎_elim (λ (ends : c ≡ command.End). ends) (λ (mover : IsMover c). absurd (no_mover mark none s c text mover is on)) (call_ends s c (ap is_of_update is ∙ update) (ap is_of_call is ∙ call))
+    ⊎_elim (λ (ends : c ≡ command.Section End). ends) (λ (mover : IsMover c). absurd (no_mover mark none s c text mover is on)) (call_ends s c (ap is_of_update is ∙ update) (ap is_of_call is ∙ call))
 
 -- what the end of a section writes, by the kind of section and the call's fault
 abbrev end_text : Bool → Option CallFault → ℕ → List ℕ
@@ -267,22 +266,22 @@ under_way_end b (Some own) told is = (own, refl)
 under_way_end true None told is = absurd (let e : false ≡ true = ap (has_fourth 101) is in cc e)
 under_way_end false None told is = absurd (let e : false ≡ true = ap (has_fourth 101) is in cc e)
 
-end_after : (s : ReplayState) (c : Command) (text : List ℕ) → c ≡ command.End → command_text s c ≡ text → end_text (is_update s.now.stage) (call_fault s.machine s.goal) (told_era s) ≡ text
+end_after : (s : ReplayState) (c : Command) (text : List ℕ) → c ≡ command.Section End → command_text s c ≡ text → end_text (is_update s.now.stage) (call_fault s.machine s.goal) (told_era s) ≡ text
 end_after s c text same is = subst (λ (c : Command). command_text s c ≡ text) same is
 
-pub writes_complete : (s : ReplayState) (c : Command) (era : ℕ) → command_text s c ≡ complete_line era → (c ≡ command.End) × (is_update s.now.stage ≡ true) × (call_fault s.machine s.goal ≡ None)
+pub writes_complete : (s : ReplayState) (c : Command) (era : ℕ) → command_text s c ≡ complete_line era → (c ≡ command.Section End) × (is_update s.now.stage ≡ true) × (call_fault s.machine s.goal ≡ None)
 writes_complete s c era is =
     let ends = ends_alone (has_third 109) third_m s c (complete_line era) is refl refl refl in
     let parts = complete_end (is_update s.now.stage) (call_fault s.machine s.goal) (told_era s) era (end_after s c (complete_line era) ends is) in
     (ends, parts.0, parts.1)
 
-pub writes_called : (s : ReplayState) (c : Command) → command_text s c ≡ called_line → (c ≡ command.End) × (is_update s.now.stage ≡ false) × (call_fault s.machine s.goal ≡ None)
+pub writes_called : (s : ReplayState) (c : Command) → command_text s c ≡ called_line → (c ≡ command.Section End) × (is_update s.now.stage ≡ false) × (call_fault s.machine s.goal ≡ None)
 writes_called s c is =
     let ends = ends_alone (has_second 97) second_a s c called_line is refl refl refl in
     let parts = called_end (is_update s.now.stage) (call_fault s.machine s.goal) (told_era s) (end_after s c called_line ends is) in
     (ends, parts.0, parts.1)
 
-pub writes_refused : (s : ReplayState) (c : Command) (fault : Fault) → command_text s c ≡ refused_line fault → (c ≡ command.End) × ((own : CallFault) × (call_fault s.machine s.goal ≡ Some own))
+pub writes_refused : (s : ReplayState) (c : Command) (fault : Fault) → command_text s c ≡ refused_line fault → (c ≡ command.Section End) × ((own : CallFault) × (call_fault s.machine s.goal ≡ Some own))
 writes_refused s c fault is =
     let ends = ends_alone (has_third 102) third_f s c (refused_line fault) is refl refl refl in
     (ends, refused_end (is_update s.now.stage) (call_fault s.machine s.goal) (told_era s) fault (end_after s c (refused_line fault) ends is))
@@ -297,12 +296,12 @@ busy_stays true cause none is = refl
 busy_stays false cause none is = absurd (cc (none, is))
 
 is_busy : (s : ReplayState) (c : Command) → IsMover c → has_under (command_text s c) ≡ true → is_some s.machine.order ≡ true
-is_busy s command.Up mover is = one (may_come s.machine) is
+is_busy s (command.Newcomer Up) mover is = one (may_come s.machine) is
   where
     one : (b : Bool) → has_under (if b then up_line (length s.machine.system.processors) else stays_line s.machine full_line) ≡ true → is_some s.machine.order ≡ true
     one true is = absurd (cc is)
     one false is = busy_stays (is_some s.machine.order) full_line refl is
-is_busy s command.Join mover is = one (may_come s.machine) is
+is_busy s (command.Newcomer Join) mover is = one (may_come s.machine) is
   where
     one : (b : Bool) → has_under (if b then joined_line (length s.machine.system.processors) else stays_line s.machine full_line) ≡ true → is_some s.machine.order ≡ true
     one true is = absurd (cc is)
@@ -315,26 +314,26 @@ is_busy s command.Retire mover is = one (may_go s.machine) is
 is_busy s other mover is = absurd mover
 
 busy_same : (s : ReplayState) (c : Command) → IsMover c → is_some s.machine.order ≡ true → machine_after s c ≡ s.machine
-busy_same s command.Up mover busy = ap (λ (b : Bool). if not b && nat_lt (length s.machine.system.processors) 16 then brought_up s.machine else s.machine) busy
-busy_same s command.Join mover busy = ap (λ (b : Bool). if not b && nat_lt (length s.machine.system.processors) 16 then admitted s.machine else s.machine) busy
+busy_same s (command.Newcomer Up) mover busy = ap (λ (b : Bool). if not b && nat_lt (length s.machine.system.processors) 16 then brought_up s.machine else s.machine) busy
+busy_same s (command.Newcomer Join) mover busy = ap (λ (b : Bool). if not b && nat_lt (length s.machine.system.processors) 16 then admitted s.machine else s.machine) busy
 busy_same s command.Retire mover busy = ap (λ (b : Bool). if not b && nat_lt 1 (length s.machine.system.processors) then without_last s.machine else s.machine) busy
 busy_same s other mover busy = absurd mover
 
 pub writes_under_way : (s : ReplayState) (c : Command) → command_text s c ≡ under_way_line
-    → ((c ≡ command.End) × ((own : CallFault) × (call_fault s.machine s.goal ≡ Some own))) ⊎ (machine_after s c ≡ s.machine)
+    → ((c ≡ command.Section End) × ((own : CallFault) × (call_fault s.machine s.goal ≡ Some own))) ⊎ (machine_after s c ≡ s.machine)
 writes_under_way s c is =
     ⊎_elim
-    (λ (ends : c ≡ command.End). inl (ends, under_way_end (is_update s.now.stage) (call_fault s.machine s.goal) (told_era s) (end_after s c under_way_line ends is)))
+    (λ (ends : c ≡ command.Section End). inl (ends, under_way_end (is_update s.now.stage) (call_fault s.machine s.goal) (told_era s) (end_after s c under_way_line ends is)))
     (λ (mover : IsMover c). inr (busy_same s c mover (is_busy s c mover (ap has_under is))))
     (call_ends s c (ap is_of_update is) (ap is_of_call is))
 
 -- a command writes a line of calls and their faults only at the end of a section
-pub end_or_not : (s : ReplayState) (c : Command) → (c ≡ command.End) ⊎ ((command_text s c ≡ called_line → ⊥) × ((era : ℕ) → command_text s c ≡ complete_line era → ⊥))
+pub end_or_not : (s : ReplayState) (c : Command) → (c ≡ command.Section End) ⊎ ((command_text s c ≡ called_line → ⊥) × ((era : ℕ) → command_text s c ≡ complete_line era → ⊥))
 end_or_not s c = one (is_of_update (command_text s c)) (is_of_call (command_text s c)) refl refl
   where
-    one : (a b : Bool) → is_of_update (command_text s c) ≡ a → is_of_call (command_text s c) ≡ b → (c ≡ command.End) ⊎ ((command_text s c ≡ called_line → ⊥) × ((era : ℕ) → command_text s c ≡ complete_line era → ⊥))
+    one : (a b : Bool) → is_of_update (command_text s c) ≡ a → is_of_call (command_text s c) ≡ b → (c ≡ command.Section End) ⊎ ((command_text s c ≡ called_line → ⊥) × ((era : ℕ) → command_text s c ≡ complete_line era → ⊥))
     one true true update call =
-        ⊎_elim (λ (ends : c ≡ command.End). inl ends)
+        ⊎_elim (λ (ends : c ≡ command.Section End). inl ends)
         (λ (mover : IsMover c). inr (λ is. no_mover (has_second 97) second_a s c called_line mover is refl, λ era is. no_mover (has_third 109) third_m s c (complete_line era) mover is refl))
         (call_ends s c update call)
     one false b update call = inr (λ is. clash (is_of_update (command_text s c)) update (ap is_of_update is), λ era is. clash (is_of_update (command_text s c)) update (ap is_of_update is))
@@ -343,20 +342,18 @@ end_or_not s c = one (is_of_update (command_text s c)) (is_of_call (command_text
 -- ---- texts that call for nothing, by computation
 
 pub no_call_there : (step : ScriptStep) → not (is_of_call (wrote step)) ≡ true → (BringsUp step.command → ⊥) → IsCall step → ⊥
-no_call_there step other still (inr (k, inl up)) = still (inl up.0)
-no_call_there step other still (inr (k, inr joins)) = still (inr joins.0)
+no_call_there step other still (inr (k, inl up)) = still (Up, up.0)
+no_call_there step other still (inr (k, inr joins)) = still (Join, joins.0)
 no_call_there step other still (inl (inl called)) = let e : false ≡ true = sym (ap (λ (text : List ℕ). not (is_of_call text)) called) ∙ other in cc e
 no_call_there step other still (inl (inr complete)) = let e : false ≡ true = sym (ap (λ (text : List ℕ). not (is_of_call text)) complete.1) ∙ other in cc e
 
 -- its command brings up no processor
 abbrev pub is_still : Command → Bool
-is_still command.Up = false
-is_still command.Join = false
+is_still (command.Newcomer n) = false
 is_still other = true
 
 pub not_coming : (c : Command) → is_still c ≡ true → BringsUp c → ⊥
-not_coming c still (inl up) = let e : true ≡ false = sym still ∙ ap is_still up in cc e
-not_coming c still (inr join) = let e : true ≡ false = sym still ∙ ap is_still join in cc e
+not_coming c still (n, comes) = let e : true ≡ false = sym still ∙ ap is_still comes in cc e
 
 abbrev pub calls_none : ScriptStep → Bool
 calls_none step = not (is_of_call (wrote step)) && is_still step.command
@@ -438,30 +435,29 @@ no_pass_mark : NoneIs is_of_pass
 no_pass_mark = record { up = λ k. refl; joined = λ k. refl; retired = λ k. refl; under_way = refl; full = refl; no = refl }
 
 -- a text that `absent` isn't is written where the processor is there
-marked_there : (mark : List ℕ → Bool) → mark absent_line ≡ false → (s : ReplayState) (k : ℕ) → mark (command_text s (command.Step k)) ≡ true → is_absent s.machine (command.Step k) ≡ false
-marked_there mark off s k on = one (is_absent s.machine (command.Step k)) refl
+marked_there : (mark : List ℕ → Bool) → mark absent_line ≡ false → (s : ReplayState) (k : ℕ) → mark (command_text s (command.Ask k ask.Step)) ≡ true → is_absent s.machine (command.Ask k ask.Step) ≡ false
+marked_there mark off s k on = one (is_absent s.machine (command.Ask k ask.Step)) refl
   where
-    one : (b : Bool) → is_absent s.machine (command.Step k) ≡ b → is_absent s.machine (command.Step k) ≡ false
-    one true absent = absurd (clash (mark (command_text s (command.Step k))) (ap mark (absent_text s (command.Step k) absent) ∙ off) on)
+    one : (b : Bool) → is_absent s.machine (command.Ask k ask.Step) ≡ b → is_absent s.machine (command.Ask k ask.Step) ≡ false
+    one true absent = absurd (clash (mark (command_text s (command.Ask k ask.Step))) (ap mark (absent_text s (command.Ask k ask.Step) absent) ∙ off) on)
     one false there = there
 
 -- the command is a step, which does this event
 abbrev pub Does : ReplayState → Command → Event → Type 0
-Does s c e = (k : ℕ) × (c ≡ command.Step k) × (step_answer s.machine k ≡ Did e)
+Does s c e = (k : ℕ) × (c ≡ command.Ask k ask.Step) × (step_answer s.machine k ≡ Did e)
 
 -- it is there
-does_there : (s : ReplayState) (c : Command) (e : Event) (does : Does s c e) → is_absent s.machine (command.Step does.0) ≡ false
+does_there : (s : ReplayState) (c : Command) (e : Event) (does : Does s c e) → is_absent s.machine (command.Ask does.0 ask.Step) ≡ false
 does_there s c e does = step_is_there s does.0 e (answered_due s.machine does.0 e does.2)
 
 release_marked : (s : ReplayState) (c : Command) → is_of_update (command_text s c) ≡ true → is_of_release (command_text s c) ≡ true → Does s c event.Release
 release_marked s c update release = one c (of_command s c update) release
   where
     one : (c : Command) → IsOfUpdate c → is_of_release (command_text s c) ≡ true → Does s c event.Release
-    one (command.Step k) update is = (k, refl, did_release (file_at (step_after s.machine k).system.processors k s.goal) (step_answer s.machine k) (ap is_of_release (sym (there_text s (command.Step k) (marked_there is_of_release refl s k is))) ∙ is))
-    one command.Up update is = absurd (clash (is_of_release (command_text s command.Up)) (unmarked is_of_release no_release_mark s command.Up tt) is)
-    one command.Join update is = absurd (clash (is_of_release (command_text s command.Join)) (unmarked is_of_release no_release_mark s command.Join tt) is)
+    one (command.Ask k ask.Step) update is = (k, refl, did_release (file_at (step_after s.machine k).system.processors k s.goal) (step_answer s.machine k) (ap is_of_release (sym (there_text s (command.Ask k ask.Step) (marked_there is_of_release refl s k is))) ∙ is))
+    one (command.Newcomer n) update is = absurd (clash (is_of_release (command_text s (command.Newcomer n))) (unmarked is_of_release no_release_mark s (command.Newcomer n) tt) is)
     one command.Retire update is = absurd (clash (is_of_release (command_text s command.Retire)) (unmarked is_of_release no_release_mark s command.Retire tt) is)
-    one command.End update is = absurd (clash (is_of_release (command_text s command.End)) (ends_no_step (is_update s.now.stage) (call_fault s.machine s.goal) (told_era s)).0 is)
+    one (command.Section End) update is = absurd (clash (is_of_release (command_text s (command.Section End))) (ends_no_step (is_update s.now.stage) (call_fault s.machine s.goal) (told_era s)).0 is)
     one other update is = absurd update
 
 pub writes_release : (s : ReplayState) (c : Command) → command_text s c ≡ release_line → Does s c event.Release
@@ -469,7 +465,7 @@ writes_release s c is = release_marked s c (ap is_of_update is) (ap is_of_releas
 
 release_written : (s : ReplayState) (c : Command) → Does s c event.Release → command_text s c ≡ release_line
 release_written s c does =
-    ap (command_text s) does.1 ∙ there_text s (command.Step does.0) (does_there s c _ does) ∙ ap (stepped_line (file_at (step_after s.machine does.0).system.processors does.0 s.goal)) does.2
+    ap (command_text s) does.1 ∙ there_text s (command.Ask does.0 ask.Step) (does_there s c _ does) ∙ ap (stepped_line (file_at (step_after s.machine does.0).system.processors does.0 s.goal)) does.2
 
 -- a step writes the line of a release, or another
 pub release_or_not : (s : ReplayState) (c : Command) → (command_text s c ≡ release_line) ⊎ (command_text s c ≡ release_line → ⊥)
@@ -490,11 +486,10 @@ pass_marked : (s : ReplayState) (c : Command) → is_of_update (command_text s c
 pass_marked s c update pass = one c (of_command s c update) pass
   where
     one : (c : Command) → IsOfUpdate c → is_of_pass (command_text s c) ≡ true → Does s c event.Pass
-    one (command.Step k) update is = (k, refl, did_pass (file_at (step_after s.machine k).system.processors k s.goal) (step_answer s.machine k) (ap is_of_pass (sym (there_text s (command.Step k) (marked_there is_of_pass refl s k is))) ∙ is))
-    one command.Up update is = absurd (clash (is_of_pass (command_text s command.Up)) (unmarked is_of_pass no_pass_mark s command.Up tt) is)
-    one command.Join update is = absurd (clash (is_of_pass (command_text s command.Join)) (unmarked is_of_pass no_pass_mark s command.Join tt) is)
+    one (command.Ask k ask.Step) update is = (k, refl, did_pass (file_at (step_after s.machine k).system.processors k s.goal) (step_answer s.machine k) (ap is_of_pass (sym (there_text s (command.Ask k ask.Step) (marked_there is_of_pass refl s k is))) ∙ is))
+    one (command.Newcomer n) update is = absurd (clash (is_of_pass (command_text s (command.Newcomer n))) (unmarked is_of_pass no_pass_mark s (command.Newcomer n) tt) is)
     one command.Retire update is = absurd (clash (is_of_pass (command_text s command.Retire)) (unmarked is_of_pass no_pass_mark s command.Retire tt) is)
-    one command.End update is = absurd (clash (is_of_pass (command_text s command.End)) (ends_no_step (is_update s.now.stage) (call_fault s.machine s.goal) (told_era s)).1 is)
+    one (command.Section End) update is = absurd (clash (is_of_pass (command_text s (command.Section End))) (ends_no_step (is_update s.now.stage) (call_fault s.machine s.goal) (told_era s)).1 is)
     one other update is = absurd update
 
 pub writes_pass : (s : ReplayState) (c : Command) → command_text s c ≡ pass_line → Does s c event.Pass
@@ -502,7 +497,7 @@ writes_pass s c is = pass_marked s c (ap is_of_update is) (ap is_of_pass is)
 
 pass_written : (s : ReplayState) (c : Command) → Does s c event.Pass → command_text s c ≡ pass_line
 pass_written s c does =
-    ap (command_text s) does.1 ∙ there_text s (command.Step does.0) (does_there s c _ does) ∙ ap (stepped_line (file_at (step_after s.machine does.0).system.processors does.0 s.goal)) does.2
+    ap (command_text s) does.1 ∙ there_text s (command.Ask does.0 ask.Step) (does_there s c _ does) ∙ ap (stepped_line (file_at (step_after s.machine does.0).system.processors does.0 s.goal)) does.2
 
 -- a step writes the line of a pass, or another
 pub pass_or_not : (s : ReplayState) (c : Command) → (command_text s c ≡ pass_line) ⊎ (command_text s c ≡ pass_line → ⊥)

@@ -10,12 +10,13 @@ use Rattle.mt_core.proofs.Stepping.{is_sound}
 use Rattle.mt_flat.specs.Flat.{Flat, empty_all}
 use Rattle.mt_flat.specs.Seen.{IsFlatOf, flat_takes}
 use Rattle.mt_flat.proofs.ComingAndGoing.{admitted_is_flat, gone_keeps_flat, newcomers_keep_flat}
+use Rattle.mt_script.specs.declared.command.Newcomer.TheVariants.{Up, Join}
 use Rattle.mt_replay_laws.specs.Flat.{flat_joined, flat_retired}
-use Rattle.mt_replay.specs.ReplayState.{after_join, after_retire, after_up, each_processor, may_come, may_go}
+use Rattle.mt_replay.specs.ReplayState.{after_newcomer, after_retire, each_processor, may_come, may_go}
 use Rattle.mt_replay_laws.proofs.Hiding.Once.{each_once}
 use Rattle.mt_replay.proofs.Keeping.Moving.{idle_to_come}
 
-pub beside_up : (m : Machine) (f : Flat) → IsFlatOf m.system f → IsFlatOf (after_up m).system f
+pub beside_up : (m : Machine) (f : Flat) → IsFlatOf m.system f → IsFlatOf (after_newcomer m Up).system f
 beside_up m f r = one (may_come m)
   where
     one : (b : Bool) → IsFlatOf (if b then brought_up m else m).system f
@@ -23,7 +24,7 @@ beside_up m f r = one (may_come m)
     one false = r
 
 module _ (m : Machine) (f : Flat) (a : Arises m) (some : 0 < length m.system.processors) (r : IsFlatOf m.system f) where
-  pub beside_join : IsFlatOf (after_join m).system (flat_joined m f)
+  pub beside_join : IsFlatOf (after_newcomer m Join).system (flat_joined m f)
   beside_join = one (may_come m) refl
     where
       one : (b : Bool) → may_come m ≡ b → IsFlatOf (if b then admitted m else m).system (if b then flat_takes (each_processor (with_newcomer m).system) f else f)

@@ -33,6 +33,9 @@ use Rattle.mt_dump.specs.ForProcessors.{files_for}
 use Rattle.mt_script.specs.Accept.{Fits}
 use Rattle.mt_script.specs.declared.command.Command.{Command}
 use Rattle.mt_script.specs.declared.command.Command.TheVariants as command
+use Rattle.mt_script.specs.declared.command.Section.TheVariants.{End}
+use Rattle.mt_script.specs.declared.command.Ask.TheVariants as ask
+use Rattle.mt_script.specs.declared.command.Newcomer.TheVariants.{Up, Join}
 use Rattle.mt_replay_laws.specs.Flat.{flat_accessed, flat_command, flat_controlled, flat_stepped, flat_updated, flat_present}
 use Rattle.mt_replay.specs.Kept.{IsReplayState, windows_of}
 use Rattle.mt_replay.specs.ReplayState.{ReplayState, after_call, after_update, after_word, call_fault, each_processor, is_undecided, is_update, machine_after, mapping, is_absent, present_after}
@@ -94,7 +97,7 @@ beside_update s f h r none =
     let enabled = call_enabled s h none in
     updated_is_flat s.machine f s.goal (each_processor s.machine.system) (is_quiet_without_order s.machine h.arises enabled.0) enabled (each_once (length s.machine.system.processors)) r
 
-beside_end : (s : ReplayState) (f : Flat) → IsReplayState s → IsBeside s.machine f → IsBeside (present_after s command.End) (flat_present s command.End f)
+beside_end : (s : ReplayState) (f : Flat) → IsReplayState s → IsBeside s.machine f → IsBeside (present_after s (command.Section End)) (flat_present s (command.Section End) f)
 beside_end s f h r = one (is_update s.now.stage)
   where
     whole : (o : Option CallFault) → call_fault s.machine s.goal ≡ o
@@ -142,22 +145,21 @@ present_beside s (command.Selfsnoop k) f h fits r =
     let files : List RegisterFile = files_for s.now.cpus dump.0 in
     let fresh = (h.fresh dump.0 dump.1 fits.0).1 in
     beside_start (flags_of (snooped k s.machine).system) (flags_of s.machine.system) files (windows_of s.now) (snooped k s.machine) s.machine f (snooped_start k s.machine files (windows_of s.now) fresh) fresh r
-present_beside s (command.Load k address) f h fits r = beside_access s.machine k (op.Load address) f h.arises r fits.1
-present_beside s (command.Store k address value) f h fits r = beside_access s.machine k (op.Store address value) f h.arises r (fits.1, fits.2)
-present_beside s (command.Fence k) f h fits r = beside_access s.machine k op.Fence f h.arises r tt
-present_beside s (command.Map k address physical index global) f h fits r =
-    beside_control s.machine k (control_of.Map (mapping address physical index global)) f h.arises r (mapping_fits s h k address physical index global fits.1.1 fits.2.1 fits.3)
-present_beside s (command.Invlpg k address) f h fits r = beside_control s.machine k (control_of.Invlpg address) f h.arises r (λ p at. tt)
-present_beside s (command.Cr3 k) f h fits r = beside_control s.machine k control_of.Cr3 f h.arises r (λ p at. tt)
-present_beside s (command.Pge k on) f h fits r = beside_control s.machine k (control_of.Pge on) f h.arises r (λ p at. tt)
-present_beside s (command.Cd k on) f h fits r = beside_control s.machine k (control_of.Cd on) f h.arises r (λ p at. tt)
+present_beside s (command.Ask k (ask.Load address)) f h fits r = beside_access s.machine k (op.Load address) f h.arises r fits.1
+present_beside s (command.Ask k (ask.Store address value)) f h fits r = beside_access s.machine k (op.Store address value) f h.arises r fits.1
+present_beside s (command.Ask k ask.Fence) f h fits r = beside_access s.machine k op.Fence f h.arises r tt
+present_beside s (command.Ask k (ask.Map x)) f h fits r = beside_control s.machine k (control_of.Map (mapping x)) f h.arises r (mapping_fits s h k x fits.1.0.1 fits.1.1.1 fits.1.2)
+present_beside s (command.Ask k (ask.Invlpg address)) f h fits r = beside_control s.machine k (control_of.Invlpg address) f h.arises r (λ p at. tt)
+present_beside s (command.Ask k ask.Cr3) f h fits r = beside_control s.machine k control_of.Cr3 f h.arises r (λ p at. tt)
+present_beside s (command.Ask k (ask.Pge on)) f h fits r = beside_control s.machine k (control_of.Pge on) f h.arises r (λ p at. tt)
+present_beside s (command.Ask k (ask.Cd on)) f h fits r = beside_control s.machine k (control_of.Cd on) f h.arises r (λ p at. tt)
 present_beside s command.Go f h fits r = beside_word s.machine Goes f h.arises r (λ pending. pending) refl
 present_beside s command.Cancel f h fits r = beside_word s.machine Cancels f h.arises r (λ pending. pending) refl
-present_beside s (command.Step k) f h fits r = beside_step s.machine k f h.arises r
-present_beside s command.Up f h fits r = beside_up s.machine f r
-present_beside s command.Join f h fits r = beside_join s.machine f h.arises h.some r
+present_beside s (command.Ask k ask.Step) f h fits r = beside_step s.machine k f h.arises r
+present_beside s (command.Newcomer Up) f h fits r = beside_up s.machine f r
+present_beside s (command.Newcomer Join) f h fits r = beside_join s.machine f h.arises h.some r
 present_beside s command.Retire f h fits r = beside_retire s.machine f h.arises h.some r
-present_beside s command.End f h fits r = beside_end s f h r
+present_beside s (command.Section End) f h fits r = beside_end s f h r
 present_beside s other f h fits r = r
 
 pub command_beside : (s : ReplayState) (c : Command) (f : Flat) → IsReplayState s → Fits s.now c → IsBeside s.machine f → IsBeside (machine_after s c) (flat_command s c f)

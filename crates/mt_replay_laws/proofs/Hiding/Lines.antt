@@ -26,6 +26,7 @@ use Rattle.mt_script.specs.Commands.{command_of, end_fault}
 use Rattle.mt_script.specs.Script.{script_offence}
 use Rattle.mt_script.specs.declared.command.Command.{Command}
 use Rattle.mt_script.specs.declared.command.Command.TheVariants as command
+use Rattle.mt_script.specs.declared.command.Ask.TheVariants as ask
 use Rattle.mt_script.specs.declared.fault.ScriptFault.{ScriptFault}
 use Rattle.mt_output.specs.Lines.{accepted_line}
 use Rattle.mt_replay.specs.Texts.{absent_line, done_line}
@@ -55,7 +56,7 @@ done_same m f k address a r (Value value kind) is =
 done_same m f k address a r other is = refl
 
 present_same : (s : ReplayState) (f : Flat) (c : Command) → IsReplayState s → IsFlatOf s.machine.system f → flat_present_text s f c ≡ present_text s c
-present_same s f (command.Load k address) h r = ap done_line (done_same s.machine f k address h.arises r (access s.machine.system k (op.Load address)).answer refl)
+present_same s f (command.Ask k (ask.Load address)) h r = ap done_line (done_same s.machine f k address h.arises r (access s.machine.system k (op.Load address)).answer refl)
 present_same s f other h r = refl
 
 text_same : (s : ReplayState) (f : Flat) (c : Command) → IsReplayState s → IsFlatOf s.machine.system f → flat_text s f c ≡ command_text s c

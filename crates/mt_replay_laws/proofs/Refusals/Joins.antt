@@ -21,6 +21,7 @@ use Rattle.mt_admit.proofs.Calling.{call_enabled, reset_count, reset_era}
 use Rattle.mt_script.specs.Accept.{Fits}
 use Rattle.mt_script.specs.declared.command.Command.{Command}
 use Rattle.mt_script.specs.declared.command.Command.TheVariants as command
+use Rattle.mt_script.specs.declared.command.Newcomer.TheVariants.{Join}
 use Rattle.mt_replay.specs.Kept.{IsReplayState}
 use Rattle.mt_replay.specs.ReplayState.{ReplayState, command_text, each_processor, file_at, first_file, machine_after, may_come, state_after, stays_line}
 use Rattle.mt_replay_laws.specs.Settling.{AreHeld, AreWithoutCall, IsAdmittedAfter, JoinsSettle, state_after_all, stored_by_all}
@@ -67,10 +68,10 @@ module _ (s : ReplayState) (h : IsReplayState s) (may : may_come s.machine ≡ t
   enabled : IsEnabled w (Calls goal)
   enabled = call_enabled m quiet_before here
 
-  pub after_join : machine_after s command.Join ≡ last
+  pub after_join : machine_after s (command.Newcomer Join) ≡ last
   after_join = ap (λ (b : Bool). if b then admitted s.machine else s.machine) may
 
-  pub join_line : command_text s command.Join ≡ joined_line (length m.system.processors)
+  pub join_line : command_text s (command.Newcomer Join) ≡ joined_line (length m.system.processors)
   join_line = ap (λ (b : Bool). if b then joined_line (length s.machine.system.processors) else stays_line s.machine full_line) may
 
   count : length w.system.processors ≡ length m.system.processors + 1
@@ -96,26 +97,26 @@ module _ (s : ReplayState) (h : IsReplayState s) (may : may_come s.machine ≡ t
   arises : Arises last
   arises = from_start (inl (updated_is_quiet w goal (each_processor w.system) quiet enabled))
 
-  path : (since : List Command) → Fits s.now command.Join → AreWithoutCall (state_after s command.Join) since
-      → Path last (state_after_all (state_after s command.Join) since).machine (stored_by_all (state_after s command.Join) since)
+  path : (since : List Command) → Fits s.now (command.Newcomer Join) → AreWithoutCall (state_after s (command.Newcomer Join)) since
+      → Path last (state_after_all (state_after s (command.Newcomer Join)) since).machine (stored_by_all (state_after s (command.Newcomer Join)) since)
   path since fits without =
-      subst (λ (n : Machine). Path n (state_after_all (state_after s command.Join) since).machine (stored_by_all (state_after s command.Join) since)) after_join
-      (all_lead since (state_after s command.Join) (state_kept s command.Join h fits) refl without)
+      subst (λ (n : Machine). Path n (state_after_all (state_after s (command.Newcomer Join)) since).machine (stored_by_all (state_after s (command.Newcomer Join)) since)) after_join
+      (all_lead since (state_after s (command.Newcomer Join)) (state_kept s (command.Newcomer Join) h fits) refl without)
 
-  pub stays : (since : List Command) → Fits s.now command.Join → AreWithoutCall (state_after s command.Join) since
-      → IsSettled (state_after_all (state_after s command.Join) since).machine.system era (first_file s)
+  pub stays : (since : List Command) → Fits s.now (command.Newcomer Join) → AreWithoutCall (state_after s (command.Newcomer Join)) since
+      → IsSettled (state_after_all (state_after s (command.Newcomer Join)) since).machine.system era (first_file s)
   stays since fits without =
-      let end : Machine = (state_after_all (state_after s command.Join) since).machine in
+      let end : Machine = (state_after_all (state_after s (command.Newcomer Join)) since).machine in
       let own : ℕ = common_era w.system.processors + 1 in
       subst (λ (v : ℕ × RegisterFile). IsSettled end.system v.0 v.1) (λ i. (same_era i, first_same s h i))
       (settled_of own goal end (after_path own goal arises (after_update w goal (each_processor w.system) quiet) (path since fits without)))
 
-  pub held : (since : List Command) → Fits s.now command.Join → AreWithoutCall (state_after s command.Join) since
-      → AreHeld (word_at last.system.memory) (state_after s command.Join) since
+  pub held : (since : List Command) → Fits s.now (command.Newcomer Join) → AreWithoutCall (state_after s (command.Newcomer Join)) since
+      → AreHeld (word_at last.system.memory) (state_after s (command.Newcomer Join)) since
   held since fits without address whole other =
       word_path address (word_at last.system.memory address) whole arises (word_after_update w goal (each_processor w.system) quiet enabled address whole) other (path since fits without)
 
-  settles : Fits s.now command.Join → IsAdmittedAfter s last
+  settles : Fits s.now (command.Newcomer Join) → IsAdmittedAfter s last
   settles fits = record {
     line_is = join_line;
     one_more = one_more;

@@ -21,6 +21,7 @@ use Rattle.mt_script.specs.Accept.{Fits}
 use Rattle.mt_script.specs.Stages.{takes_windows}
 use Rattle.mt_script.specs.declared.command.Command.{Command}
 use Rattle.mt_script.specs.declared.command.Command.TheVariants as command
+use Rattle.mt_script.specs.declared.command.Ask.TheVariants as ask
 use Rattle.mt_replay.specs.Kept.{IsReplayState, start_like}
 use Rattle.mt_replay.specs.ReplayState.{ReplayState, is_absent, machine_after, state_after}
 use Rattle.mt_replay_laws.specs.Settling.{AreHeld, AreWithoutCall, ReleasedStatesSettle, ReleasedWordsAreHeld, state_after_all, stored_by_all}
@@ -62,41 +63,41 @@ due_order m k e due = one m.order refl
     one (Some o) is = (o, is)
 
 -- a processor that does an event is there
-pub step_is_there : (s : ReplayState) (k : ℕ) (e : Event) → due_at s.machine k ≡ Some e → is_absent s.machine (command.Step k) ≡ false
+pub step_is_there : (s : ReplayState) (k : ℕ) (e : Event) → due_at s.machine k ≡ Some e → is_absent s.machine (command.Ask k ask.Step) ≡ false
 step_is_there s k e due =
     let order = due_order s.machine k e due in
     one (slice_get s.machine.system.processors k) refl (sym (ap (λ (x : Option Order). option_map_or (λ o. option_map_or (λ p. due_of o s.machine.system.processors p p.phase) (slice_get s.machine.system.processors k) None) x None) order.1) ∙ due)
   where
-    one : (x : Option Processor) → slice_get s.machine.system.processors k ≡ x → option_map_or (λ p. due_of (due_order s.machine k e due).0 s.machine.system.processors p p.phase) x None ≡ Some e → is_absent s.machine (command.Step k) ≡ false
+    one : (x : Option Processor) → slice_get s.machine.system.processors k ≡ x → option_map_or (λ p. due_of (due_order s.machine k e due).0 s.machine.system.processors p p.phase) x None ≡ Some e → is_absent s.machine (command.Ask k ask.Step) ≡ false
     one None at is = absurd (cc is)
     one (Some p) at is = ap not (lt-ltb k (length s.machine.system.processors) (slice_get_within s.machine.system.processors k p at))
 
 -- no window may be added behind a step
-past_step : (s : ReplayState) (k : ℕ) → takes_windows (state_after s (command.Step k)).now.stage ≡ false
+past_step : (s : ReplayState) (k : ℕ) → takes_windows (state_after s (command.Ask k ask.Step)).now.stage ≡ false
 past_step s k = refl
 
 -- ---- commands since
 
 -- the machine after a step that releases, and a path on from there
-module _ (s : ReplayState) (k : ℕ) (since : List Command) (h : IsReplayState s) (fits : Fits s.now (command.Step k)) (released : step_answer s.machine k ≡ Did Release)
-    (without : AreWithoutCall (state_after s (command.Step k)) since) where
+module _ (s : ReplayState) (k : ℕ) (since : List Command) (h : IsReplayState s) (fits : Fits s.now (command.Ask k ask.Step)) (released : step_answer s.machine k ≡ Did Release)
+    (without : AreWithoutCall (state_after s (command.Ask k ask.Step)) since) where
   due : due_at s.machine k ≡ Some Release
   due = answered_due s.machine k Release released
 
   order : (o : Order) × (s.machine.order ≡ Some o)
   order = due_order s.machine k Release due
 
-  after : machine_after s (command.Step k) ≡ next s.machine (Steps k Release)
-  after = there_machine s (command.Step k) (step_is_there s k Release due) ∙ ap (λ (o : Option Event). option_map_or (λ e. next s.machine (Steps k e)) o s.machine) due
+  after : machine_after s (command.Ask k ask.Step) ≡ next s.machine (Steps k Release)
+  after = there_machine s (command.Ask k ask.Step) (step_is_there s k Release due) ∙ ap (λ (o : Option Event). option_map_or (λ e. next s.machine (Steps k e)) o s.machine) due
 
   abbrev last : Machine
-  last = (state_after_all (state_after s (command.Step k)) since).machine
+  last = (state_after_all (state_after s (command.Ask k ask.Step)) since).machine
 
   abbrev words : List ℕ
-  words = stored_by_all (state_after s (command.Step k)) since
+  words = stored_by_all (state_after s (command.Ask k ask.Step)) since
 
   path : Path (next s.machine (Steps k Release)) last words
-  path = subst (λ (m : Machine). Path m last words) after (all_lead since (state_after s (command.Step k)) (state_kept s (command.Step k) h fits) (past_step s k) without)
+  path = subst (λ (m : Machine). Path m last words) after (all_lead since (state_after s (command.Ask k ask.Step)) (state_kept s (command.Ask k ask.Step) h fits) (past_step s k) without)
 
   arises : Arises (next s.machine (Steps k Release))
   arises = by_event (Steps k Release) h.arises due
@@ -104,7 +105,7 @@ module _ (s : ReplayState) (k : ℕ) (since : List Command) (h : IsReplayState s
   settled : IsSettled last.system (order.0.from_era + 1) order.0.goal
   settled = settled_of (order.0.from_era + 1) order.0.goal last (after_path (order.0.from_era + 1) order.0.goal arises (after_release s.machine order.0 k h.arises order.1 due) path)
 
-  held : (p : Machine) (o : Order) → Arises p → IsFirstRelease p (next s.machine (Steps k Release)) o → AreHeld (now p.system) (state_after s (command.Step k)) since
+  held : (p : Machine) (o : Order) → Arises p → IsFirstRelease p (next s.machine (Steps k Release)) o → AreHeld (now p.system) (state_after s (command.Ask k ask.Step)) since
   held p o a first address whole other =
       word_path address (now p.system address) whole arises (word_after_release p (next s.machine (Steps k Release)) o a first address whole) other path
 
@@ -129,7 +130,7 @@ released_words_are_held s d o k since h dump fits released is none without = one
     from b quiet reached = let held = held_after_each_first b s.machine o k [] (inl quiet) reached is none on tt in (held.0, held.1, held.2)
 
     whole : (p : Machine) → Arises p → (s.now.moving ≡ false → Reached (start_like s d) p) → IsFirstRelease p (next s.machine (Steps k Release)) o
-        → (p : Machine) × Arises p × (s.now.moving ≡ false → Reached (start_like s d) p) × IsFirstRelease p (machine_after s (command.Step k)) o × AreHeld (now p.system) (state_after s (command.Step k)) since
+        → (p : Machine) × Arises p × (s.now.moving ≡ false → Reached (start_like s d) p) × IsFirstRelease p (machine_after s (command.Ask k ask.Step)) o × AreHeld (now p.system) (state_after s (command.Ask k ask.Step)) since
     whole p a reached first = (
       p,
       a,
@@ -139,6 +140,6 @@ released_words_are_held s d o k since h dump fits released is none without = one
     )
 
     one : (b : Bool) → s.now.moving ≡ b
-        → (p : Machine) × Arises p × (s.now.moving ≡ false → Reached (start_like s d) p) × IsFirstRelease p (machine_after s (command.Step k)) o × AreHeld (now p.system) (state_after s (command.Step k)) since
+        → (p : Machine) × Arises p × (s.now.moving ≡ false → Reached (start_like s d) p) × IsFirstRelease p (machine_after s (command.Ask k ask.Step)) o × AreHeld (now p.system) (state_after s (command.Ask k ask.Step)) since
     one true moves = let f = from h.came.rest h.came.quiet h.came.reached in whole f.0 (arises_on h.came.arises f.1) (λ still. absurd (cc (moves, still))) f.2
     one false still = let f = from (start_like s d) (h.quiet still d dump) (h.reached still d dump) in whole f.0 (arises_on (from_start (inl (h.quiet still d dump))) f.1) (λ same. f.1) f.2

@@ -27,6 +27,9 @@ use Rattle.mt_script.specs.Stages.{takes_windows}
 use Rattle.mt_script.specs.Accept.{Fits, accepted}
 use Rattle.mt_script.specs.declared.command.Command.{Command}
 use Rattle.mt_script.specs.declared.command.Command.TheVariants as command
+use Rattle.mt_script.specs.declared.command.Section.TheVariants.{Register, End}
+use Rattle.mt_script.specs.declared.command.Ask.TheVariants as ask
+use Rattle.mt_script.specs.declared.command.Newcomer.TheVariants.{Up, Join}
 use Rattle.mt_replay.specs.Kept.{IsReplayState}
 use Rattle.mt_replay.specs.ReplayState.{ReplayState, after_retire, after_word, call_fault, is_absent, is_undecided, machine_after, mapping, may_go, present_after, state_after}
 use Rattle.mt_replay_laws.specs.Settling.{AreWithoutCall, IsWithoutCall, state_after_all, stored_by, stored_by_all}
@@ -80,10 +83,10 @@ step_moves m k = one (due_at m k) refl
     one None is = inl (refl, refl)
     one (Some e) is = inr (inl (Steps k e, is, refl, refl, refl))
 
-end_moves : (s : ReplayState) → IsSome (call_fault s.machine s.goal) → Moves s.machine (machine_after s command.End) None
+end_moves : (s : ReplayState) → IsSome (call_fault s.machine s.goal) → Moves s.machine (machine_after s (command.Section End)) None
 end_moves s some = one (call_fault s.machine s.goal) refl some
   where
-    one : (o : Option CallFault) → call_fault s.machine s.goal ≡ o → IsSome o → Moves s.machine (machine_after s command.End) None
+    one : (o : Option CallFault) → call_fault s.machine s.goal ≡ o → IsSome o → Moves s.machine (machine_after s (command.Section End)) None
     one None is some = absurd (cc some)
     one (Some fault) is some = inl ((ends_idle s fault is).1, refl)
 
@@ -103,7 +106,7 @@ rests_absent : (ps : List Processor) (k : ℕ) → not (nat_lt k (length ps)) �
 rests_absent ps k is q at = absurd (let there = lt-ltb k (length ps) (slice_get_within ps k q at) in let e : not true ≡ true = ap not (sym there) ∙ is in cc e)
 
 absent_stores_none : (s : ReplayState) (c : Command) → is_absent s.machine c ≡ true → stored_by s c ≡ None
-absent_stores_none s (command.Store k address value) is =
+absent_stores_none s (command.Ask k (ask.Store address value)) is =
     busy_stores_none s.machine k (op.Store address value) (access_busy s.machine.system k (rests_absent s.machine.system.processors k is) (op.Store address value))
 absent_stores_none s other is = refl
 
@@ -111,22 +114,21 @@ absent_stores_none s other is = refl
 moves_there : (s : ReplayState) (c : Command) → IsReplayState s → Fits s.now c → IsWithoutCall s c → takes_windows s.now.stage ≡ false → Moves s.machine (present_after s c) (stored_by s c)
 moves_there s (command.Ram base lines) h fits calls past = absurd (let takes = fits.0 in cc (takes, past))
 moves_there s (command.Selfsnoop k) h fits calls past = absurd (let takes = fits.0 in cc (takes, past))
-moves_there s (command.Load k address) h fits calls past = access_moves s.machine k (op.Load address) fits.1
-moves_there s (command.Store k address value) h fits calls past = access_moves s.machine k (op.Store address value) (fits.1, fits.2)
-moves_there s (command.Fence k) h fits calls past = access_moves s.machine k op.Fence tt
-moves_there s (command.Map k address physical index global) h fits calls past =
-    control_moves s.machine k (control_of.Map (mapping address physical index global)) (mapping_fits s h k address physical index global fits.1.1 fits.2.1 fits.3)
-moves_there s (command.Invlpg k address) h fits calls past = control_moves s.machine k (control_of.Invlpg address) (λ p at. tt)
-moves_there s (command.Cr3 k) h fits calls past = control_moves s.machine k control_of.Cr3 (λ p at. tt)
-moves_there s (command.Pge k on) h fits calls past = control_moves s.machine k (control_of.Pge on) (λ p at. tt)
-moves_there s (command.Cd k on) h fits calls past = control_moves s.machine k (control_of.Cd on) (λ p at. tt)
+moves_there s (command.Ask k (ask.Load address)) h fits calls past = access_moves s.machine k (op.Load address) fits.1
+moves_there s (command.Ask k (ask.Store address value)) h fits calls past = access_moves s.machine k (op.Store address value) fits.1
+moves_there s (command.Ask k ask.Fence) h fits calls past = access_moves s.machine k op.Fence tt
+moves_there s (command.Ask k (ask.Map x)) h fits calls past = control_moves s.machine k (control_of.Map (mapping x)) (mapping_fits s h k x fits.1.0.1 fits.1.1.1 fits.1.2)
+moves_there s (command.Ask k (ask.Invlpg address)) h fits calls past = control_moves s.machine k (control_of.Invlpg address) (λ p at. tt)
+moves_there s (command.Ask k ask.Cr3) h fits calls past = control_moves s.machine k control_of.Cr3 (λ p at. tt)
+moves_there s (command.Ask k (ask.Pge on)) h fits calls past = control_moves s.machine k (control_of.Pge on) (λ p at. tt)
+moves_there s (command.Ask k (ask.Cd on)) h fits calls past = control_moves s.machine k (control_of.Cd on) (λ p at. tt)
 moves_there s command.Go h fits calls past = word_moves s.machine Goes (λ pending. pending) refl refl
 moves_there s command.Cancel h fits calls past = word_moves s.machine Cancels (λ pending. pending) refl refl
-moves_there s (command.Step k) h fits calls past = step_moves s.machine k
-moves_there s command.Up h fits calls past = inl (ap (λ (b : Bool). if b then brought_up s.machine else s.machine) (calls.1 (inl refl)), refl)
-moves_there s command.Join h fits calls past = inl (ap (λ (b : Bool). if b then admitted s.machine else s.machine) (calls.1 (inr refl)), refl)
+moves_there s (command.Ask k ask.Step) h fits calls past = step_moves s.machine k
+moves_there s (command.Newcomer Up) h fits calls past = inl (ap (λ (b : Bool). if b then brought_up s.machine else s.machine) (calls.1 (Up, refl)), refl)
+moves_there s (command.Newcomer Join) h fits calls past = inl (ap (λ (b : Bool). if b then admitted s.machine else s.machine) (calls.1 (Join, refl)), refl)
 moves_there s command.Retire h fits calls past = retire_moves s.machine
-moves_there s command.End h fits calls past = end_moves s (calls.0 refl)
+moves_there s (command.Section End) h fits calls past = end_moves s (calls.0 refl)
 moves_there s other h fits calls past = inl (refl, refl)
 
 moves : (s : ReplayState) (c : Command) → IsReplayState s → Fits s.now c → IsWithoutCall s c → takes_windows s.now.stage ≡ false → Moves s.machine (machine_after s c) (stored_by s c)
@@ -141,7 +143,7 @@ stays_past now (command.Ram base lines) past = past
 stays_past now (command.Selfsnoop k) past = past
 stays_past now command.Blank past = past
 stays_past now command.DumpLine past = past
-stays_past now (command.Register number value) past = past
+stays_past now (command.Section (Register number value)) past = past
 stays_past now other past = refl
 
 moved : (m n r : Machine) (o : Option ℕ) (words : List ℕ) → Moves m n o → Path n r words → Path m r (option_map_or (λ a. a ∷ words) o words)

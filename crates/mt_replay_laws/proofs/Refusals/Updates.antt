@@ -21,6 +21,7 @@ use Rattle.mt_script.specs.Stages.{takes_end}
 use Rattle.mt_script.specs.declared.command.Stage.{Stage}
 use Rattle.mt_script.specs.declared.command.Stage.TheVariants.{InUpdate}
 use Rattle.mt_script.specs.declared.command.Command.TheVariants as command
+use Rattle.mt_script.specs.declared.command.Section.TheVariants.{End}
 use Rattle.mt_script.specs.declared.command.Command.{Command}
 use Rattle.mt_script.specs.Accept.{Fits}
 use Rattle.mt_replay.specs.Kept.{IsReplayState}
@@ -77,12 +78,12 @@ module _ (s : ReplayState) (h : IsReplayState s) (update : is_update s.now.stage
   some : 1 ≤ length s.machine.system.processors
   some = h.some
 
-  after : machine_after s command.End ≡ last
+  after : machine_after s (command.Section End) ≡ last
   after =
       ap (λ (b : Bool). if b then after_update s.machine s.goal else after_call s.machine s.goal) update
       ∙ ap (λ (o : Option CallFault). option_map_or (λ fault. s.machine) o last) none
 
-  text : command_text s command.End ≡ complete_line (common_era last.system.processors)
+  text : command_text s (command.Section End) ≡ complete_line (common_era last.system.processors)
   text =
       ap (λ (b : Bool). if b then update_line s.machine s.goal else call_line s.machine s.goal) update
       ∙ ap (λ (o : Option CallFault). option_map_or call_fault_line o (complete_line (common_era (option_map_or (λ fault. s.machine) o last).system.processors))) none
@@ -91,30 +92,30 @@ module _ (s : ReplayState) (h : IsReplayState s) (update : is_update s.now.stage
   risen = era_risen s.goal s.machine.system.processors some
 
   -- the commands since
-  path : (since : List Command) → Fits s.now command.End → AreWithoutCall (state_after s command.End) since
-      → Path last (state_after_all (state_after s command.End) since).machine (stored_by_all (state_after s command.End) since)
+  path : (since : List Command) → Fits s.now (command.Section End) → AreWithoutCall (state_after s (command.Section End)) since
+      → Path last (state_after_all (state_after s (command.Section End)) since).machine (stored_by_all (state_after s (command.Section End)) since)
   path since fits without =
-      subst (λ (m : Machine). Path m (state_after_all (state_after s command.End) since).machine (stored_by_all (state_after s command.End) since)) after
-      (all_lead since (state_after s command.End) (state_kept s command.End h fits) refl without)
+      subst (λ (m : Machine). Path m (state_after_all (state_after s (command.Section End)) since).machine (stored_by_all (state_after s (command.Section End)) since)) after
+      (all_lead since (state_after s (command.Section End)) (state_kept s (command.Section End) h fits) refl without)
 
   arises : Arises last
   arises = from_start (inl (updated_is_quiet s.machine s.goal (each_processor s.machine.system) quiet enabled))
 
-  stays : (since : List Command) → Fits s.now command.End → AreWithoutCall (state_after s command.End) since
-      → IsSettled (state_after_all (state_after s command.End) since).machine.system (common_era last.system.processors) s.goal
+  stays : (since : List Command) → Fits s.now (command.Section End) → AreWithoutCall (state_after s (command.Section End)) since
+      → IsSettled (state_after_all (state_after s (command.Section End)) since).machine.system (common_era last.system.processors) s.goal
   stays since fits without =
-      let end : Machine = (state_after_all (state_after s command.End) since).machine in
+      let end : Machine = (state_after_all (state_after s (command.Section End)) since).machine in
       let era : ℕ = common_era s.machine.system.processors + 1 in
       subst (λ (n : ℕ). IsSettled end.system n s.goal) (sym risen)
       (settled_of era s.goal end (after_path era s.goal arises (after_whole s.machine s.goal (each_processor s.machine.system) quiet) (path since fits without)))
 
-  held : (since : List Command) → Fits s.now command.End → AreWithoutCall (state_after s command.End) since
-      → AreHeld (word_at (machine_after s command.End).system.memory) (state_after s command.End) since
+  held : (since : List Command) → Fits s.now (command.Section End) → AreWithoutCall (state_after s (command.Section End)) since
+      → AreHeld (word_at (machine_after s (command.Section End)).system.memory) (state_after s (command.Section End)) since
   held since fits without address whole other =
       word_path address (word_at last.system.memory address) whole arises (word_after_update s.machine s.goal (each_processor s.machine.system) quiet enabled address whole) other (path since fits without)
       ∙ ap (λ (m : Machine). word_at m.system.memory address) (sym after)
 
-  settles : Fits s.now command.End → IsSettledAfter s last
+  settles : Fits s.now (command.Section End) → IsSettledAfter s last
   settles fits = record {
     era = common_era last.system.processors;
     line_is = text;
@@ -127,7 +128,7 @@ module _ (s : ReplayState) (h : IsReplayState s) (update : is_update s.now.stage
     words = word_after s.machine.system.memory (now (emptied s.machine.system (each_processor s.machine.system))) (stands h.arises).0;
   }
 
-  ends : Fits s.now command.End
+  ends : Fits s.now (command.Section End)
   ends = in_update s.now.stage update
 
 pub complete_updates_settle : CompleteUpdatesSettle

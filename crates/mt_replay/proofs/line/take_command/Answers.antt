@@ -1,4 +1,4 @@
-use Rattle.std.proofs.Common.{rules, ◌≡◌, ◌+◌, inr, refl, subst, Ok, Err}
+use Rattle.std.proofs.Common.{rules, ◌≡◌, subst, Ok, Err}
 use Rattle.mt_stream.specs.declared.ending.Stop.TheVariants.{BadText, NoMemory}
 use Rattle.mt_output.specs.Lines.{offence_line}
 use Rattle.mt_script.specs.Accept.{Fits}

@@ -1,6 +1,7 @@
 use Rattle.std.proofs.Common.{◌≡◌, ◌∷◌, [], List, ap, arith, inl, inr, refl, ⊎_elim, ℕ}
 use Rattle.std.specs.Fmt.{digits}
 use Rattle.mt_script.specs.declared.command.Command.TheVariants as asks
+use Rattle.mt_script.specs.declared.command.Newcomer.TheVariants.{Join}
 use Rattle.mt_replay_laws.specs.Headline.{ComesUp}
 use Rattle.mt_replay.specs.Steps.{wrote}
 use Rattle.mt_replay.specs.Texts.{called_line}
@@ -36,7 +37,7 @@ pub returns-clause-join : goal.returns-clause-join
 returns-clause-join c = inr (2, inr (refl, refl))
 
 pub returns-clause-retire : goal.returns-clause-retire
-returns-clause-retire c = no_call_there (step_of asks.Retire (crowd 2)) refl (λ h. ⊎_elim (λ e. absurd (cc e)) (λ e. absurd (cc e)) h)
+returns-clause-retire c = no_call_there (step_of asks.Retire (crowd 2)) refl (λ h. let e = h.1 in absurd (cc e))
 
 pub returns-clause-other_number : goal.returns-clause-other_number
 unfolding digits
@@ -50,4 +51,4 @@ pub returns-clause-called : goal.returns-clause-called
 returns-clause-called c = inr (2, (refl, refl))
 
 pub returns-clause-joined_not_called : goal.returns-clause-joined_not_called
-returns-clause-joined_not_called c = λ h. ⊎_elim (λ (is : wrote (step_of asks.Join (crowd 2)) ≡ called_line). absurd (omega (arith, ap first is))) (λ (up : (k : ℕ) × ComesUp (step_of asks.Join (crowd 2)) k). absurd (cc up.1.0)) h
+returns-clause-joined_not_called c = λ h. ⊎_elim (λ (is : wrote (step_of (asks.Newcomer Join) (crowd 2)) ≡ called_line). absurd (omega (arith, ap first is))) (λ (up : (k : ℕ) × ComesUp (step_of (asks.Newcomer Join) (crowd 2)) k). absurd (cc up.1.0)) h

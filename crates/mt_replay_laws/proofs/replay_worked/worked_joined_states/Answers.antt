@@ -1,15 +1,17 @@
-use Rattle.std.proofs.Common.{◌∷◌, [], ⊎_elim, ap, arith, false, refl}
+use Rattle.std.proofs.Common.{◌∷◌, [], ap, arith, false, refl}
 use Rattle.std.specs.Prelude.{length}
 use Rattle.mt_machine_laws.specs.MachineWorkedRuns.{entry, idle}
 use Rattle.mt_regs.specs.RegisterFile.{RegisterFile}
 use Rattle.mt_script.specs.declared.command.Command.TheVariants as asks
+use Rattle.mt_script.specs.declared.command.Ask.TheVariants as ask
+use Rattle.mt_script.specs.declared.command.Newcomer.TheVariants.{Join}
 use Rattle.mt_replay.specs.ReplayState.{state_after}
 use Rattle.mt_replay_laws.specs.Settling.{AreWithoutCall}
 use Rattle.mt_replay_laws.specs.WorkedStates.{unlike_eras}
 use Rattle.mt_replay_laws.proofs.replay_worked.worked_joined_states.Goals as goal
 
-loads : AreWithoutCall (state_after unlike_eras asks.Join) (asks.Load 1 0x1000 ∷ [])
-loads = (((refl, omega arith), (refl, omega arith)), (λ e. absurd (cc e), λ h. ⊎_elim (λ e. absurd (cc e)) (λ e. absurd (cc e)) h), tt)
+loads : AreWithoutCall (state_after unlike_eras (asks.Newcomer Join)) (asks.Ask 1 (ask.Load 0x1000) ∷ [])
+loads = (((refl, omega arith), (refl, omega arith)), (λ e. absurd (cc e), λ h. let e = h.1 in absurd (cc e)), tt)
 
 pub returns-clause-older_processors : goal.returns-clause-older_processors
 returns-clause-older_processors c = λ h. omega (arith, h.eras 0 idle (omega arith))
@@ -18,7 +20,7 @@ pub returns-clause-other_register : goal.returns-clause-other_register
 returns-clause-other_register c = λ h. omega (arith, ap (λ (f : RegisterFile). f.default_type) (h.settled 2 idle (omega arith)).file)
 
 pub returns-clause-newer_entry_since : goal.returns-clause-newer_entry_since
-returns-clause-newer_entry_since c = λ h. omega (arith, (h.stays_settled (asks.Load 1 0x1000 ∷ []) loads 1 idle (omega arith)).entries 0 (entry 0 false) (omega arith))
+returns-clause-newer_entry_since c = λ h. omega (arith, (h.stays_settled (asks.Ask 1 (ask.Load 0x1000) ∷ []) loads 1 idle (omega arith)).entries 0 (entry 0 false) (omega arith))
 
 pub returns-clause-order_stays : goal.returns-clause-order_stays
 returns-clause-order_stays c = λ h. absurd (cc h.idle)

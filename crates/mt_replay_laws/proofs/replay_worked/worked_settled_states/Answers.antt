@@ -1,4 +1,4 @@
-use Rattle.std.proofs.Common.{◌≡◌, ℕ, List, [], ◌∷◌, ⊎_elim, arith, false, refl, ap, rules, subst, sym}
+use Rattle.std.proofs.Common.{◌≡◌, ℕ, List, [], ◌∷◌, arith, false, refl, ap, rules, subst, sym}
 use Rattle.std.specs.Prelude.{length, None, Option}
 use Rattle.std.specs.Option.{option_map, option_map_or}
 use Rattle.mt_regs.specs.RegisterFile.{RegisterFile}
@@ -11,6 +11,8 @@ use Rattle.mt_machine_laws.specs.MachineWorkedRuns.{bare_file, entry, idle}
 use Rattle.mt_script.specs.Accept.{accepted}
 use Rattle.mt_script.specs.declared.command.Command.{Command}
 use Rattle.mt_script.specs.declared.command.Command.TheVariants as asks
+use Rattle.mt_script.specs.declared.command.Section.TheVariants.{End}
+use Rattle.mt_script.specs.declared.command.Ask.TheVariants as ask
 use Rattle.mt_replay.specs.ReplayState.{ReplayState}
 use Rattle.mt_replay_laws.specs.Settling.{AreWithoutCall, state_after_all}
 use Rattle.mt_replay_laws.specs.WorkedStates.{late_at_end}
@@ -49,7 +51,7 @@ no_fault = sym (is_first_fault (bare_file 0x800) None good)
 -- what the end of its section leaves, by the goal's first fault
 abbrev after_by : Option Fault → ReplayState
 after_by fault = record {
-  now = accepted late_at_end.now asks.End;
+  now = accepted late_at_end.now (asks.Section End);
   machine = option_map_or (λ refusal. late_at_end.machine) (option_map Refused fault) (updated late_at_end.machine.system (0 ∷ 1 ∷ []) (bare_file 0x800));
   goal = bare_file 0x800;
 }
@@ -57,9 +59,9 @@ after_by fault = record {
 abbrev StaysBy : ℕ → Option Fault → Type 0
 StaysBy era fault = (since : List Command) → AreWithoutCall (after_by fault) since → IsSettled (state_after_all (after_by fault) since).machine.system era (bare_file 0x800)
 
-loads : AreWithoutCall (after_by None) (asks.Load 1 0x1000 ∷ [])
-loads = (((refl, omega arith), (refl, omega arith)), (λ e. absurd (cc e), λ h. ⊎_elim (λ e. absurd (cc e)) (λ e. absurd (cc e)) h), tt)
+loads : AreWithoutCall (after_by None) (asks.Ask 1 (ask.Load 0x1000) ∷ [])
+loads = (((refl, omega arith), (refl, omega arith)), (λ e. absurd (cc e), λ h. let e = h.1 in absurd (cc e)), tt)
 
 pub returns-clause-newer_entry_since : goal.returns-clause-newer_entry_since
 returns-clause-newer_entry_since c = λ h.
-    omega (arith, (subst (StaysBy h.era) no_fault h.stays_settled (asks.Load 1 0x1000 ∷ []) loads 1 idle (omega arith)).entries 0 (entry 0 false) (omega arith), h.risen)
+    omega (arith, (subst (StaysBy h.era) no_fault h.stays_settled (asks.Ask 1 (ask.Load 0x1000) ∷ []) loads 1 idle (omega arith)).entries 0 (entry 0 false) (omega arith), h.risen)

@@ -2,6 +2,7 @@ use Rattle.std.proofs.Common.{◌≡◌, ap, refl, subst, arith, ◌⊎◌, ℕ,
 use Rattle.mt_machine_laws.specs.MachineWorkedRuns.{bare_file}
 use Rattle.mt_regs.specs.RegisterFile.{RegisterFile}
 use Rattle.mt_script.specs.declared.command.Command.TheVariants as command
+use Rattle.mt_script.specs.declared.command.Section.TheVariants.{Update, Begin, End}
 use Rattle.mt_replay_laws.specs.Headline.{ComesUp, IsCalled, NoneOf, NoneWrote, goal_of, pass_line, release_line}
 use Rattle.mt_replay.specs.Steps.{ScriptStep, wrote}
 use Rattle.mt_replay.specs.ReplayState.{first_file}
@@ -21,12 +22,12 @@ returns-clause-other_goal c = λ u opens lines.
     omega (arith, e)
 
 pub returns-clause-two_sections : goal.returns-clause-two_sections
-returns-clause-two_sections c = λ u lines. (subst (NoneOf (λ step. step.command ≡ command.End)) lines u.no_other_end).0 refl
+returns-clause-two_sections c = λ u lines. (subst (NoneOf (λ step. step.command ≡ command.Section End)) lines u.no_other_end).0 refl
 
 pub returns-clause-begun_by_a_fence : goal.returns-clause-begun_by_a_fence
 returns-clause-begun_by_a_fence c = λ u opens.
     ⊎_elim (λ is. absurd (cc is)) (λ is. absurd (cc is))
-    (subst (λ (s : ScriptStep). (s.command ≡ command.Update) ⊎ (s.command ≡ command.Begin)) opens u.begins)
+    (subst (λ (s : ScriptStep). (s.command ≡ command.Section Update) ⊎ (s.command ≡ command.Section Begin)) opens u.begins)
 
 pub returns-clause-ended_by_a_register : goal.returns-clause-ended_by_a_register
 returns-clause-ended_by_a_register c = λ u. absurd (cc u.ends)

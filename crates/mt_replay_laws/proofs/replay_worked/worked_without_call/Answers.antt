@@ -1,4 +1,4 @@
-use Rattle.std.proofs.Common.{◌≡◌, inl, inr, refl, sym, subst, rules}
+use Rattle.std.proofs.Common.{◌≡◌, refl, sym, subst, rules}
 use Rattle.std.specs.Prelude.{Option, None, IsSome}
 use Rattle.std.specs.Option.{option_map}
 use Rattle.mt_regs.specs.declared.fault.Fault.{Fault}
@@ -10,6 +10,7 @@ use Rattle.mt_replay.specs.ReplayState.{call_fault}
 use Rattle.mt_replay_laws.specs.WorkedStates.{resting}
 use Rattle.mt_replay.proofs.FirstFault.{is_first_fault}
 use Rattle.mt_script.specs.declared.command.Stage.TheVariants as stage
+use Rattle.mt_script.specs.declared.command.Newcomer.TheVariants.{Up, Join}
 use Rattle.mt_replay_laws.proofs.replay_worked.worked_without_call.Goals as goal
 
 accepted : IsAccepted (bare_file 0x800)
@@ -28,7 +29,7 @@ pub returns-clause-full : goal.returns-clause-full
 returns-clause-full c = (refl, (λ e. absurd (cc e), λ h. refl), (refl, (λ e. absurd (cc e), λ h. refl), tt))
 
 pub returns-clause-up : goal.returns-clause-up
-returns-clause-up c = λ h. absurd (cc (h.1.1 (inl refl)))
+returns-clause-up c = λ h. absurd (cc (h.1.1 (Up, refl)))
 
 pub returns-clause-room_again : goal.returns-clause-room_again
-returns-clause-room_again c = λ h. absurd (cc (h.2.1.1 (inr refl)))
+returns-clause-room_again c = λ h. absurd (cc (h.2.1.1 (Join, refl)))

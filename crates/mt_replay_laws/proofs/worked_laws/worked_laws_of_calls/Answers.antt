@@ -8,6 +8,7 @@ use Rattle.mt_regs.specs.FirstFault.{first_fault}
 use Rattle.mt_regs.specs.declared.fault.Fault.{Fault}
 use Rattle.mt_regs.specs.declared.fault.Reason.TheVariants.{UnsupportedType}
 use Rattle.mt_script.specs.declared.command.Command.TheVariants as asks
+use Rattle.mt_script.specs.declared.command.Ask.TheVariants as ask
 use Rattle.mt_script.specs.declared.command.Stage.TheVariants as stage
 use Rattle.mt_replay.specs.ReplayState.{call_fault}
 use Rattle.mt_replay_laws.specs.WorkedStates.{busy, crowd, resting}
@@ -36,4 +37,4 @@ pub returns-clause-called : goal.returns-clause-called
 returns-clause-called c = λ law. law (resting stage.InBegin) refl none
 
 pub returns-clause-absent : goal.returns-clause-absent
-returns-clause-absent c = λ law. law (crowd 1) (asks.Store 1 0x1000 7) 1 refl (omega arith)
+returns-clause-absent c = λ law. law (crowd 1) (asks.Ask 1 (ask.Store 0x1000 7)) 1 refl (omega arith)

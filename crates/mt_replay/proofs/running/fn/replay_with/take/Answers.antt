@@ -1,4 +1,4 @@
-use Rattle.std.proofs.Common.{◌+◌, ap}
+use Rattle.std.proofs.Common.{ap}
 use Rattle.mt_stream.specs.Lines.{Takes, tells_of}
 use Rattle.mt_output.specs.Ports.{change, port}
 use Rattle.mt_replay.specs.Running.{StandsAt}
