@@ -172,7 +172,7 @@ fn answer_or_refuse<K: Sink>(
     }
 }
 
-/// Writes what a command answers about a dump, and answers the status.
+/// Writes the answer of a command about a dump, and returns the status.
 pub fn answer<K: Sink>(alloc: Global, command: DumpCommand, d: &Dump, sink: &mut K) -> Status
     requires sound { IsSound command }
     ensures bytes { Answers (Answer d.now command) (K.taken sink.old) (K.taken sink.new) result }
@@ -199,8 +199,8 @@ pub fn make<K: Sink>(alloc: Global, n: u64, sink: &mut K) -> Status
     }
 }
 
-/// Reads a dump to its end, and writes what a command on it answers. Where the source fails or
-/// gives too much nothing is written.
+/// Reads a dump to its end, and writes the answer of a command about it. If the source fails or gives too much, nothing
+/// is written.
 pub fn answer_input<S: Source, K: Sink>(
     alloc: Global,
     command: DumpCommand,

@@ -10,7 +10,7 @@ pub enum Command {
 /// A command that starts no thread and waits for nobody.
 #[derive(Clone, Copy)]
 pub enum SerialCommand {
-    /// An answer about the register file of a dump.
+    /// An answer about a dump.
     Dump(DumpCommand),
     /// The text for measurements that a number determines. It reads nothing.
     Make(u64),
@@ -34,10 +34,10 @@ pub enum ThreadedCommand {
     Private { cpus: u32, n: u64, accesses: u32 },
 }
 
-/// What is asked of a dump's register file.
+/// What is asked of a dump: of processor 0's file, except for `Check` and `Show`.
 #[derive(Clone, Copy)]
 pub enum DumpCommand {
-    /// Whether it is accepted.
+    /// Whether each file is accepted, and in version 2 whether all are equal.
     Check,
     /// Its canonical text.
     Show,

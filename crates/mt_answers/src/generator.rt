@@ -27,7 +27,7 @@ pub fn stepped(x: u64) -> u64
         .wrapping_add(1_442_695_040_888_963_407)
 }
 
-/// What a draw gives of the number that it has left.
+/// The number below `count` that a draw gives, by the number after the draw.
 pub fn drawn(x: u64, count: u64) -> u64
     requires { 0 < count }
     ensures value { result ≡ drawn x count }

@@ -80,8 +80,8 @@ fn run<S: Source, K: Sink>(
     }
 }
 
-/// Does all that a program does that has no command but those that start no thread, and returns its exit code. To it the
-/// words of any other command are wrong usage. Its help is that of `mtrr`, with all commands.
+/// Runs a program that has only the commands that start no thread, and returns its exit code. Any other command is
+/// wrong usage to it. Its help is that of `mtrr`, with all commands.
 pub fn serial_status<S: Source, K: Sink>(
     alloc: Global,
     args: io::Result<Args>,

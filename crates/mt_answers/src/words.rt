@@ -241,8 +241,8 @@ fn command_of_four(name: &[u8], first: &[u8], second: &[u8], third: &[u8]) -> Op
     }
 }
 
-/// The command of a command line, the program's name left out. There is none exactly where the
-/// words are in no row of the grammar.
+/// The command of a command line, without the program's name. Returns `None` if and only if the words are in no row of
+/// the grammar.
 pub fn command_of(words: &[String]) -> Option<Command>
     ensures { result ≡ command_of (map string_bytes words.now) }
 {

@@ -1,5 +1,5 @@
 // Sizes and alignments in bytes, as `include/mtrr.h` asserts them. `repr(C)` puts each field at the first place behind the field
-// before that its alignment allows. Rattle has no `offset_of` to assert the header's offsets by; `library/edges.c` tests them.
+// before that its alignment allows. Rattle has no `offset_of` to assert the header's offsets by; `library/edges.c` tests fields of each.
 use mt_plain::{
     PlainFault, PlainLoss, PlainNeed, PlainPair, PlainProcessor, PlainRegisters, PlainRun,
     PlainStep, PlainUpdate,

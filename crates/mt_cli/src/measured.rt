@@ -18,7 +18,7 @@ use mt_core::Core;
 use mt_machine::{Control, Done, Op};
 use mt_output::{LineBuffer, append, append_value};
 use mt_ports::{Gate, NoMemory};
-use mt_private::{Caller, Job, Part, PrivateFault, JobAnswers, run_private_with};
+use mt_private::{Caller, Job, JobAnswers, Part, PrivateFault, run_private_with};
 use mt_ram::{Ram, RamFault};
 use mt_regs::{RegFile, Register};
 use mt_tlb::Mapping;

@@ -37,8 +37,8 @@ fn run<R: AllocGlobal + Threads + Wait + Sync, S: Source, K: Sink, G: Gate>(
     }
 }
 
-/// Does all that the program does with its arguments, and answers what it ends with: the number of
-/// the status. The words of the command line are the arguments but the first.
+/// Does all that the program does with its arguments, and returns the exit code of its status. The words of the command
+/// line are the arguments except the first.
 pub fn program_status<R: AllocGlobal + Threads + Wait + Sync, S: Source, K: Sink, G: Gate>(
     rt: &R,
     args: io::Result<Args>,

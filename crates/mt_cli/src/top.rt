@@ -37,8 +37,8 @@ fn run_threaded<R: Threads + Wait + Sync, S: Source, K: Sink, G: Gate>(
 }
 
 /// Does what `tool` does for words that start no thread: those of `check`, `show`, `types`, `page`, `tidy`, `gran`,
-/// `make`, `--help` and `--version`, and those that are no command line. It has no handle to wait by, so it is proved to return for every input.
-/// It hands any other command back, and calls no port for it.
+/// `make`, `--help` and `--version`, and those that are no command line. It has no handle to wait by, so it is proved
+/// to return for every input. It returns any other command, and calls no port for it.
 pub fn answer_words<S: Source, K: Sink>(
     alloc: Global,
     words: &[String],
@@ -57,7 +57,7 @@ pub fn answer_words<S: Source, K: Sink>(
     mt_answers::answer_words(alloc, words, source, sink)
 }
 
-/// Does what `tool` does, for a caller with a runtime and a gate. None of its lines waits but those of an update and of jobs.
+/// Does what `tool` does, for a caller with a runtime and a gate. It waits only in an update and in jobs.
 pub fn tool_with<R: Threads + Wait + Sync, S: Source, K: Sink, G: Gate>(
     callers: &Callers<R, G>,
     alloc: Global,
@@ -74,11 +74,11 @@ pub fn tool_with<R: Threads + Wait + Sync, S: Source, K: Sink, G: Gate>(
     }
 }
 
-/// Does all that the program does, and answers its status. The words are the command line without
-/// the program's name. Nothing is read where they are no command line, nor by `make`, `big`,
-/// `private`, `--help` and `--version`; otherwise the input is read to its end, unless the source or the sink fails, memory is refused or
-/// there are more than 16,777,216 bytes. A port that failed isn't called
-/// again, since that call might fail too. Words that start no thread go to `answer_words`.
+/// Does all that the program does, and returns its status. The words are the command line without the program's name.
+/// Nothing is read if they are no command line, nor by `make`, `big`, `private`, `--help` and `--version`. Otherwise
+/// the input is read to its end, unless the source or the sink fails, an allocation fails or there are more than
+/// 16,777,216 bytes. A port that failed isn't called again, since that call might fail too. Words that start no thread
+/// go to `answer_words`.
 pub fn tool<R: AllocGlobal + Threads + Wait + Sync, S: Source, K: Sink, G: Gate>(
     rt: &R,
     words: &[String],

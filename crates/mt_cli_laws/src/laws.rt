@@ -24,8 +24,8 @@ ghost use Rattle.mt_answers.specs.Generator.{make_text};
 use mt_dump::a_register_file_is_shown_by_its_text;
 use mt_regs::RegFile;
 
-/// Words and bytes have one status, and one text: but for a tidied or rounded file, where
-/// several lists of ranges may be the least. So each cause of a status holds both ways.
+/// Words and bytes have at most one status, and at most one text, except for a tidied or rounded file: several lists of
+/// ranges may be the least. So each cause of a status holds both ways.
 pub fn words_and_bytes_have_one_output()
     ensures status { (words : List (List ℕ)) (bytes text other : List ℕ) (s t : Status) → Output words bytes text s → Output words bytes other t → s ≡ t }
     ensures text { (words : List (List ℕ)) (bytes text other : List ℕ) (s t : Status) → Output words bytes text s → Output words bytes other t
@@ -52,7 +52,7 @@ pub fn a_made_text_is_a_script()
     ensures status { (n : ℕ) → (transcript (make_text n)).status ≡ Done }
 {}
 
-/// For want of memory a script without a line that brings a processor up has written a front of its first line.
+/// If an allocation fails, a script without `up` and `join` lines has written at most the line `accepted`.
 pub fn memory_is_wanted_early_without_newcomers()
     ensures { (text : List ℕ) → IsWithoutNewcomers text → early_text text ≡ accepted_line }
 {}

@@ -104,10 +104,10 @@ fn rounded_fit(
     fitted
 }
 
-/// The file that differs from `f` in its pairs alone and gives each page its type rounded to granules of `2^g` pages,
-/// with the fewest pairs, as `fit` does, and what is lost. Each refusal comes exactly where `GranFault` says. No memory is
-/// taken: what is large is in `area`, whose contents may be any. The parts that are lost are left there. `lost` is written
-/// where the file is accepted and enabled.
+/// The file that differs from `f` in its pairs alone and gives each page its type rounded to granules of `2^g` pages.
+/// It has the fewest pairs, as by `fit`. What is lost comes with it. Fails if and only if `GranFault` says so.
+/// Allocates nothing: what is large is in `area`, whose contents may be any. The parts that are lost are left there.
+/// `lost` is written if the file is accepted and enabled.
 pub fn gran_in(
     f: &RegFile,
     g: u8,

@@ -1,4 +1,4 @@
--- Runs of any lists whose every step is due, and what is proved of them (own).
+-- Runs of any lists whose every event is due, and what is proved of them (own).
 use Rattle.std.specs.Prelude.{◌≡◌, ℕ, true, false, List, [], ◌∷◌, None, Some, IsSomeAnd, MatchOption}
 use Rattle.mt_machine.specs.declared.phase.Phase.{Phase}
 use Rattle.mt_machine.specs.Access.{is_running}

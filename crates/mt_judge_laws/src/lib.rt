@@ -1,4 +1,4 @@
-//! Laws on lists of steps: where each step is due nothing is wrong, and in every interleaving of the manual's lists each step is due.
+//! Laws on lists of steps: runs of events that are due are never wrong, and in every interleaving of the manual's lists each step is due.
 #![tactic(auto)]
 
 mod worked;
@@ -12,8 +12,8 @@ pub use worked::{
     worked_right_starts,
 };
 
-/// If each step of a run is due, or may stand beside the events, the run is one of the machine, nothing is wrong in its state, and no
-/// step has a fault, whatever the lists are.
+/// From a right start whose goal may be called: if each step of a run is due, or may stand beside the events, the run
+/// is one of the machine. Then nothing is wrong in its state, and no step has a fault, whatever the lists are.
 pub fn orderly_runs_are_right()
     ensures machines { OrderlyRunsAreTheMachines }
     ensures right { OrderlyRunsAreRight }
@@ -22,22 +22,23 @@ pub fn orderly_runs_are_right()
     has_wrong_if_a_sense_holds(); // a fact for the proof
 }
 
-/// Each run of the manual's lists is a run of the machine: its call, its go and events that are enabled lead to the run's state.
+/// Each run of the manual's lists from a right start is the machine's: its call, go and enabled events lead to the
+/// run's state.
 pub fn runs_are_the_machines()
     ensures { RunsAreTheMachines }
 {
     has_wrong_if_a_sense_holds(); // a fact for the proof
 }
 
-/// In every interleaving nothing is wrong, each step is due, and no list ends in the midst of the update. Some processor may go
-/// unless all lists have ended.
+/// In every interleaving of the manual's lists from a right start nothing is wrong, each step is due, and no list ends
+/// amid the update. Some processor may go unless all lists have ended.
 pub fn nothing_goes_wrong()
     ensures { NothingGoesWrong }
 {
     has_wrong_if_a_sense_holds(); // a fact for the proof
 }
 
-/// A search from a right start finds nothing, unless it stops.
+/// A search of the manual's lists from a right start finds nothing, unless it stops.
 pub fn searches_find_nothing()
     ensures { SearchesFindNothing }
 {

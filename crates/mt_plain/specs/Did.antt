@@ -57,6 +57,6 @@ kept_at u p step None phase = record { update = u; processor = p; status = 8 }
 kept_at u p step (Some go) None = record { update = u; processor = p; status = 8 }
 kept_at u p step (Some go) (Some phase) = kept_by u p step phase (due_event u p go phase)
 
--- the books after a step: 0 they were changed, 12 the step isn't the one that is due, 8 no such phase, flag or word
+-- the books after a step: 0 they were changed, 12 the step isn't the one that is due or a count has no room, 8 no such phase, flag or word
 abbrev pub kept : PlainUpdate → PlainProcessor → PlainStep → Kept
 kept u p step = kept_at u p step (go_of u.word) (phase_of p)

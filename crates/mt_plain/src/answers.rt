@@ -59,8 +59,8 @@ fn put_type(kind: PageType, out: &mut u32) -> u32
     }
 }
 
-/// The first fault: 0 where there is none, 1 where it was written, and 2 where the words are no register file's.
-/// `fault` is written where the answer is 1 alone.
+/// Returns 0 if the file has no fault, 1 if its first fault was written, and 2 if the words are no register file's.
+/// `fault` is written at 1 alone.
 pub fn first_fault(r: &PlainRegisters, fault: &mut PlainFault) -> u32
     ensures refused { is_file r.now ≡ false → (result ≡ 2) × (fault.new ≡ fault.old) }
     ensures answered { is_file r.now ≡ true → (answer : Option Fault) × IsFirstFault (file_in r.now) answer × (result ≡ fault_status answer) × (fault.new ≡ fault_words answer fault.old) }
@@ -71,8 +71,8 @@ pub fn first_fault(r: &PlainRegisters, fault: &mut PlainFault) -> u32
     }
 }
 
-/// The type of a page, as the MTRRs give it: 0 where its byte was written, 2 where the words are no register file's,
-/// 3 where there is no such page, and 4 where the page has no defined type. `kind` is written where the answer is 0 alone.
+/// Returns 0 if the byte of the page's type by the MTRRs was written, and 2 if the words are no register file's.
+/// Returns 3 if there is no such page, and 4 if it has no defined type. `kind` is written at 0 alone.
 pub fn page_type(r: &PlainRegisters, page: u64, kind: &mut u32) -> u32
     ensures status { result ≡ page_status r.now page }
     ensures number { kind.new ≡ page_number r.now page kind.old }

@@ -4,7 +4,7 @@ ghost use Rattle.mt_regs.specs.RegisterFile.{IsRegisterFile};
 
 use crate::PlainRegisters;
 
-/// Words with zeros in the pairs beyond VCNT are a register file's where what they tell is one: `is_file` refuses no other.
+/// If the pairs beyond VCNT are zeros and the words stand for a register file, `is_file` returns true.
 pub fn each_file_is_taken(r: &PlainRegisters)
     ensures taken { has_no_other_pair r.now ≡ true → IsRegisterFile (file_in r.now) → is_file r.now ≡ true }
 {}

@@ -207,8 +207,8 @@ pub fn due(u: &PlainUpdate, p: &PlainProcessor, step: &mut PlainStep) -> u32
     DONE
 }
 
-/// Where the words tell of an update of the machine, the step is the machine's event that is due, with write-backs up to
-/// the invalidation as one, and the next phase is the one after it.
+/// If the words are an update's of the machine, the step is the machine's due event, and the next phase the one after
+/// it. Write-backs up to the invalidation are one step.
 pub fn a_due_step_is_the_machines()
     ensures event { (u : PlainUpdate) (d : PlainProcessor) (o : Order) (ps : List Processor) (p : Processor) → IsTold u d o ps p
         → due_event u d o.go p.phase ≡ option_map whole_flush (due o ps p p.phase) }

@@ -11,12 +11,13 @@ pub fn books_begin()
     ensures { BeginsTelling }
 {}
 
-/// Where the books are a machine's, of each processor they tell what `due` asks for.
+/// If the books are a machine's whose update is under way, they have what `due` needs of each processor.
 pub fn books_are_told()
     ensures { EachIsTold }
 {}
 
-/// While the books of one processor say that it changes its registers, no other's say that it runs.
+/// If the books are a reached machine's: while those of one processor say that it changes its registers, no other's say
+/// that it runs.
 pub fn none_runs_in_books()
     ensures { NoneRunsInBooks }
 {}

@@ -90,9 +90,9 @@ pub(crate) fn line_of(f: &RegFile, n: u32) -> LineBuffer
     }
 }
 
-/// Puts the line of a pair into the front and answers its length, which is 0 where the pair isn't
-/// valid, or there is none of this number. The line is `base=0xB size=0xS type=NAME # n`, B and S
-/// being the first address and the bytes of the pair's range.
+/// Puts the line of a pair into the front and returns its length. That is 0 if the pair isn't valid, or there is none
+/// of this number. The line is `base=0xB size=0xS type=NAME # n` with its LF. B and S are the first address and the
+/// bytes of the pair's range.
 pub fn write_range(f: &RegFile, n: u32, into: &mut [u8; 80]) -> usize
     requires { IsAccepted f.now }
     ensures length { result ≡ length (range_line f.now n) }

@@ -103,8 +103,7 @@ fn update<R: Threads + Wait + Sync, G: Gate>(
 }
 
 impl Processors {
-    /// A processor with each of these files, at the start. The error comes only where the allocator has
-    /// no room.
+    /// A processor with each of these files, at the start. Fails only if an allocation fails.
     pub fn new(alloc: Global, files: &[RegFile]) -> Result<Processors, NoMemory>
         requires some { 0 < length files.now }
         requires few { length files.now ≤ 16 }
@@ -160,9 +159,9 @@ impl Processors {
         }
     }
 
-    /// Asks for a change of all processors, and answers what is written of it. An update runs each
-    /// processor on a thread of its own, where the gate and the allocator let it, and leaves all of them
-    /// with one file. A request that isn't carried out changes no processor.
+    /// Asks for a change of all processors, and returns the text about it. An update runs each processor on a thread of
+    /// its own, if the gate and the allocator let it. It gives all of them one file. A request that isn't carried out
+    /// changes no processor.
     pub fn ask<R: Threads + Wait + Sync, G: Gate>(
         &mut self,
         caller: &Caller<R, G>,

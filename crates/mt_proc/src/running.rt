@@ -277,14 +277,13 @@ pub fn proc_with<R: Threads + Wait + Sync, S: Source, K: Sink, G: Gate>(
     run_status(run_lines(take, &mut run, source, &mut writer, sink))
 }
 
-/// Reads a dump, a line `end` and requests in the form of Linux's mtrr document, carries each request
-/// out on so many processors that begin with the dump's files, and writes what became of it, and at the end
-/// the ranges of the valid pairs and the number of requests that were carried out. All that is told of
-/// the lines is written before the source is asked for more, and the rest behind an offence or a refused
-/// dump is dropped. At ReadFault what the known lines tell was written, at each other fault a front of
-/// what is told, for want of memory nothing. Memory is asked for before the first line, and at the dump's
-/// end. An update runs each processor on a thread of its own, or all on this one where it finds no memory,
-/// a start is refused or the gate answers false.
+/// Reads a dump, a line `end` and requests in the form of Linux's mtrr document. Carries each request out on so many
+/// processors, which begin with the dump's files. Writes what became of each, and at the end the ranges of the valid
+/// pairs and the number of requests that were carried out. The output for all lines read so far is written before the
+/// source is asked for more. The rest behind an offence or a refused dump is dropped. At ReadFault the output for the
+/// complete lines read so far has been written, at NoMemory nothing, at each other fault a prefix. Memory is allocated
+/// before the first line and at the dump's end. An update runs each processor on a thread of its own. It runs all on
+/// this one if an allocation fails, a thread isn't started or the gate returns false.
 pub fn proc<R: AllocGlobal + Threads + Wait + Sync, S: Source, K: Sink, G: Gate>(
     rt: &R,
     source: &mut S,

@@ -1,4 +1,4 @@
--- Which lines of a script bring a processor up (own): of its commands only these want memory.
+-- Which lines of a script bring a processor up (own). Beside `ram` lines, no other command asks for memory.
 --     has_newcomers text      whether a step of the text does
 --     newcomers_from number lines point      whether one of these lines does, the first of which has this number, up to the first offence
 use Rattle.std.specs.Prelude.{ℕ, ◌+◌, ◌||◌, Bool, true, false, List, [], ◌∷◌, ◌++◌, if◌then◌else◌, Option, Some, None, Result, Ok, Err}

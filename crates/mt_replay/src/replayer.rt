@@ -225,8 +225,7 @@ impl Replayer {
         self.setup.accept(c);
     }
 
-    /// Adds a window of memory, which has no line. The error comes only where the allocator has no
-    /// room; nothing then changes.
+    /// Adds a window of memory, which has no line. Fails only if an allocation fails; nothing then changes.
     #[inline(never)]
     pub fn add_window(&mut self, base: u64, lines: u32) -> Result<(), NoMemory>
         requires fits { Fits self.old.now (Command.Ram base lines) }

@@ -68,13 +68,13 @@ pub fn replay_with<R: Threads + Wait + Sync, S: Source, K: Sink, G: Gate>(
     run_status(run_lines(take, &mut run, source, &mut writer, sink))
 }
 
-/// Runs a script on one machine and writes its transcript, with the transcript's status. The script
-/// is read line by line out of one buffer, and all that is told of its lines is written before the
-/// source is asked for more. The rest behind an offence or a refused dump is dropped. At ReadFault
-/// what the known lines write was written, at each other fault a front of the transcript, for want of
-/// memory at most the line `accepted`, unless a line `up` or `join` is read. Memory is asked for before the first line, at the
-/// dump's end, and at the lines `ram`, `up` and `join`. An update runs each processor on a thread of its own, or all on this one
-/// where it finds no memory, a start is refused or the gate answers false.
+/// Runs a script on one machine and writes its transcript, with the transcript's status. The script is read line by
+/// line out of one buffer. The output for all lines read so far is written before the source is asked for more. The
+/// rest behind an offence or a refused dump is dropped. At ReadFault the output for the complete lines read so far has
+/// been written, at each other fault a prefix. At NoMemory that is at most the line `accepted`, unless the script has a
+/// line `up` or `join`. Memory is allocated before the first line, at the dump's end, and at `ram`, `up` and `join`. An
+/// update runs each processor on a thread of its own. It runs all on this one if an allocation fails, a thread isn't
+/// started or the gate returns false.
 pub fn replay<R: AllocGlobal + Threads + Wait + Sync, S: Source, K: Sink, G: Gate>(
     rt: &R,
     source: &mut S,

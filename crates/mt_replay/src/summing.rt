@@ -190,8 +190,8 @@ pub fn summary_with<R: Threads + Wait + Sync, G: Gate>(
     sum_lines(caller, alloc, source, &mut writer)
 }
 
-/// The numbers of a script's transcript, which isn't written. The script is run as by `replay`,
-/// however long it is. An error says that memory was refused.
+/// The numbers of a script's transcript, which isn't written. The script is run as by `replay`, however long it is.
+/// Fails only if an allocation fails.
 pub fn summary<R: AllocGlobal + Threads + Wait + Sync, G: Gate>(
     rt: &R,
     source: &[u8],

@@ -44,7 +44,7 @@ pub extern "C" fn mtrr_run(
     place(&answered(alloc, words, input), output, written)
 }
 
-/// The same for `mtrr-import`.
+/// Does for `mtrr-import` what `mtrr_run` does for `mtrr`.
 #[unsafe(no_mangle)]
 pub extern "C" fn mtrr_import(
     alloc: Global,
@@ -58,7 +58,7 @@ pub extern "C" fn mtrr_import(
     place(&imported(alloc, words, input), output, written)
 }
 
-/// The same for `mtrr-map`.
+/// Does for `mtrr-map` what `mtrr_run` does for `mtrr`.
 #[unsafe(no_mangle)]
 pub extern "C" fn mtrr_map(
     alloc: Global,
@@ -72,8 +72,9 @@ pub extern "C" fn mtrr_map(
     place(&drawn(alloc, words, input), output, written)
 }
 
-/// The same for `mtrr-explain`, whose report is written as JSON. Its words are `faults FILE`, `page ADDR FILE`, `fit [--spare N] FILE`,
-/// `diff OLD NEW` or `diff --cpus I J FILE`, where the names stand for the inputs, in their order. Without a second one `second` isn't read.
+/// Does for `mtrr-explain` what `mtrr_run` does for `mtrr`, with the report as JSON. Its words are `faults FILE`, `page
+/// ADDR FILE`, `fit [--spare N] FILE`, `diff OLD NEW` or `diff --cpus I J FILE`. The names stand for the inputs, in
+/// their order. Without a second name `second` isn't read.
 #[unsafe(no_mangle)]
 pub extern "C" fn mtrr_explain(
     alloc: Global,
