@@ -19,7 +19,10 @@ use Rattle.mt_proc.specs.Proc.{proc_transcript}
 use Rattle.mt_replay.specs.Transcript.{transcript}
 use Rattle.mt_tidy.specs.Keeps.{IsLeast}
 use Rattle.mt_tidy.specs.Kept.{IsTidy, NeedsMore}
+use Rattle.mt_tidy.specs.Tidied.{tidying}
+use Rattle.mt_tidy.specs.declared.fits.Tidied.{Tidied as TidiedFile}
 use Rattle.mt_gran.specs.Grained.{IsGrained, NeedsMore as GranNeedsMore}
+use Rattle.mt_gran.specs.declared.grains.Grained.{Grained as GrainedFile}
 use Rattle.mt_gran.proofs.RoundedFit.{needs_is_least, one_least as one_rounded, used_is_least}
 use Rattle.mt_answers.specs.declared.command.Command.TheVariants.{Serial, Threaded}
 use Rattle.mt_answers.specs.declared.command.SerialCommand.{SerialCommand}
@@ -47,31 +50,27 @@ pub record Refusal (dump : Shows) (command : DumpCommand) (text : List ℕ) (sta
   pub is_status : status ≡ Refused
 
 pub record Tidied (file : RegisterFile) (spare chunk : ℕ) (text : List ℕ) (status : Status) : Type 0 where
-  pub used : ℕ
-  pub new : RegisterFile
-  pub tidy : IsTidy file chunk spare new used
-  pub is_text : text ≡ used_line used ++ canon (dump_of new)
+  pub new : TidiedFile
+  pub tidy : IsTidy (tidying file chunk spare) new
+  pub is_text : text ≡ used_line new.used ++ canon (dump_of new.file)
   pub is_status : status ≡ Done
 
 pub record Lacking (file : RegisterFile) (spare chunk : ℕ) (text : List ℕ) (status : Status) : Type 0 where
   pub needs : ℕ
   pub has : ℕ
-  pub more : NeedsMore file chunk spare needs has
+  pub more : NeedsMore (tidying file chunk spare) needs has
   pub is_text : text ≡ too_few_line needs has
   pub is_status : status ≡ TooFew
 
 pub record Grained (file : RegisterFile) (log spare chunk : ℕ) (text : List ℕ) (status : Status) : Type 0 where
-  pub used : ℕ
-  pub lost : ℕ
-  pub parts : List Run
-  pub new : RegisterFile
-  pub is : IsGrained file log chunk spare new used lost parts
+  pub new : GrainedFile
+  pub is : IsGrained (tidying file chunk spare) log new
   pub is_status : status ≡ Done
 
 pub record GranLacking (file : RegisterFile) (log spare chunk : ℕ) (text : List ℕ) (status : Status) : Type 0 where
   pub needs : ℕ
   pub has : ℕ
-  pub more : GranNeedsMore file log chunk spare needs has
+  pub more : GranNeedsMore (tidying file chunk spare) log needs has
   pub is_text : text ≡ too_few_line needs has
   pub is_status : status ≡ TooFew
 
@@ -102,10 +101,10 @@ FileOwn file (Gran log spare chunk) text status = Grained file log spare chunk t
 pub file_apart : (file : RegisterFile) (command : DumpCommand) (text : List ℕ) (status : Status) → FileAnswer file command text status → FileOwn file command text status
 file_apart file command text status (typed runs are) = record { runs = runs; are = are; is_text = refl; is_status = refl }
 file_apart file command text status (paged address index) = record { is_text = refl; is_status = refl }
-file_apart file command text status (tidied spare chunk used new is) = inl (record { used = used; new = new; tidy = is; is_text = refl; is_status = refl })
+file_apart file command text status (tidied spare chunk new is) = inl (record { new = new; tidy = is; is_text = refl; is_status = refl })
 file_apart file command text status (too_few spare chunk needs has is) = inr (inl (record { needs = needs; has = has; more = is; is_text = refl; is_status = refl }))
 file_apart file command text status (disabled spare chunk off) = inr (inr (record { off = off; is_text = refl; is_status = refl }))
-file_apart file command text status (grained log spare chunk used lost parts new is) = inl (record { used = used; lost = lost; parts = parts; new = new; is = is; is_status = refl })
+file_apart file command text status (grained log spare chunk new is) = inl (record { new = new; is = is; is_status = refl })
 file_apart file command text status (gran_too_few log spare chunk needs has is) = inr (inl (record { needs = needs; has = has; more = is; is_text = refl; is_status = refl }))
 file_apart file command text status (gran_disabled log spare chunk off) = inr (inr (record { off = off; is_text = refl; is_status = refl }))
 
@@ -159,9 +158,9 @@ agree_tidy : (file : RegisterFile) (spare chunk : ℕ) (text other : List ℕ) (
     → Tidied file spare chunk text s ⊎ Lacking file spare chunk text s ⊎ Off file text s → Tidied file spare chunk other t ⊎ Lacking file spare chunk other t ⊎ Off file other t
     → Agree (Tidy spare chunk) text other s t
 agree_tidy file spare chunk text other s t (inl a) (inl b) = (a.is_status ∙ sym b.is_status, λ not_done. absurd (not_done tt a.is_status))
-agree_tidy file spare chunk text other s t (inl a) (inr (inl b)) = absurd (omega (arith, one_least file chunk a.used b.needs a.tidy.least b.more.least, a.tidy.enough, b.more.has_is, b.more.above))
+agree_tidy file spare chunk text other s t (inl a) (inr (inl b)) = absurd (omega (arith, one_least file chunk a.new.used b.needs a.tidy.least b.more.least, a.tidy.enough, b.more.has_is, b.more.above))
 agree_tidy file spare chunk text other s t (inl a) (inr (inr b)) = absurd (cc (sym a.tidy.enabled ∙ b.off))
-agree_tidy file spare chunk text other s t (inr (inl a)) (inl b) = absurd (omega (arith, one_least file chunk b.used a.needs b.tidy.least a.more.least, b.tidy.enough, a.more.has_is, a.more.above))
+agree_tidy file spare chunk text other s t (inr (inl a)) (inl b) = absurd (omega (arith, one_least file chunk b.new.used a.needs b.tidy.least a.more.least, b.tidy.enough, a.more.has_is, a.more.above))
 agree_tidy file spare chunk text other s t (inr (inl a)) (inr (inl b)) =
     let needs : a.needs ≡ b.needs = one_least file chunk a.needs b.needs a.more.least b.more.least in
     let has : a.has ≡ b.has = a.more.has_is ∙ sym b.more.has_is in
@@ -178,7 +177,7 @@ agree_gran file log spare chunk text other s t (inl a) (inl b) = (a.is_status �
 agree_gran file log spare chunk text other s t (inl a) (inr (inl b)) =
     absurd (omega (
       arith,
-      one_rounded file log chunk a.used b.needs (used_is_least file a.new log chunk spare a.used a.lost a.parts a.is) (needs_is_least file log chunk spare b.needs b.has b.more),
+      one_rounded file log chunk a.new.tidied.used b.needs (used_is_least (tidying file chunk spare) log a.new a.is) (needs_is_least (tidying file chunk spare) log b.needs b.has b.more),
       a.is.tidied.enough,
       b.more.few.has_is,
       b.more.few.above,
@@ -187,13 +186,14 @@ agree_gran file log spare chunk text other s t (inl a) (inr (inr b)) = absurd (c
 agree_gran file log spare chunk text other s t (inr (inl a)) (inl b) =
     absurd (omega (
       arith,
-      one_rounded file log chunk b.used a.needs (used_is_least file b.new log chunk spare b.used b.lost b.parts b.is) (needs_is_least file log chunk spare a.needs a.has a.more),
+      one_rounded file log chunk b.new.tidied.used a.needs (used_is_least (tidying file chunk spare) log b.new b.is) (needs_is_least (tidying file chunk spare) log a.needs a.has a.more),
       b.is.tidied.enough,
       a.more.few.has_is,
       a.more.few.above,
     ))
 agree_gran file log spare chunk text other s t (inr (inl a)) (inr (inl b)) =
-    let needs : a.needs ≡ b.needs = one_rounded file log chunk a.needs b.needs (needs_is_least file log chunk spare a.needs a.has a.more) (needs_is_least file log chunk spare b.needs b.has b.more) in
+    let asked = tidying file chunk spare in
+    let needs : a.needs ≡ b.needs = one_rounded file log chunk a.needs b.needs (needs_is_least asked log a.needs a.has a.more) (needs_is_least asked log b.needs b.has b.more) in
     let has : a.has ≡ b.has = a.more.few.has_is ∙ sym b.more.few.has_is in
     (a.is_status ∙ sym b.is_status, λ not_done. a.is_text ∙ ap (λ (n : ℕ). too_few_line n a.has) needs ∙ ap (λ (n : ℕ). too_few_line b.needs n) has ∙ sym b.is_text)
 agree_gran file log spare chunk text other s t (inr (inl a)) (inr (inr b)) = absurd (cc (sym a.more.enabled ∙ b.off))

@@ -9,6 +9,7 @@ use Rattle.mt_types.proofs.SomeMap.{a_type_map}
 use Rattle.mt_dump.specs.Dumps.{Dump as Shows, IsDump, first_file}
 use Rattle.mt_dump.proofs.Ends.{read_exactly, read_offence, shown_dump, shown_or_offence}
 use Rattle.mt_answers.proofs.FirstFiles.{first_is_accepted, first_is_file}
+use Rattle.mt_tidy.specs.Tidied.{tidying}
 use Rattle.mt_types_laws.proofs.SomeTidy.{tidy_or_more}
 use Rattle.mt_types_laws.proofs.SomeRounding.{rounded_or_more}
 use Rattle.mt_answers.specs.declared.command.Command.{Command}
@@ -27,25 +28,25 @@ SomeAnswer dump command = (text : List ℕ) × (status : Status) × Answer dump 
 SomeFileAnswer : RegisterFile → DumpCommand → Type 0
 SomeFileAnswer file command = (text : List ℕ) × (status : Status) × FileAnswer file command text status
 
-tidying : (file : RegisterFile) → IsRegisterFile file → IsAccepted file → (spare chunk : ℕ) → SomeFileAnswer file (Tidy spare chunk)
+tidy_answer : (file : RegisterFile) → IsRegisterFile file → IsAccepted file → (spare chunk : ℕ) → SomeFileAnswer file (Tidy spare chunk)
 unfolding SomeFileAnswer
-tidying file good lawful spare chunk = by_enabled (is_enabled file) refl
+tidy_answer file good lawful spare chunk = by_enabled (is_enabled file) refl
   where
     by_enabled : (b : Bool) → is_enabled file ≡ b → (text : List ℕ) × (status : Status) × FileAnswer file (Tidy spare chunk) text status
     by_enabled false off = (_, _, disabled spare chunk off)
-    by_enabled true on = elim (tidy_or_more file good lawful on chunk spare) [
-      | inl done ↦ (_, _, tidied spare chunk done.1 done.0 done.2)
+    by_enabled true on = elim (tidy_or_more (tidying file chunk spare) good lawful on) [
+      | inl done ↦ (_, _, tidied spare chunk done.0 done.1)
       | inr lacking ↦ (_, _, too_few spare chunk lacking.0 lacking.1 lacking.2)
     ]
 
-rounding : (file : RegisterFile) → IsRegisterFile file → IsAccepted file → (log spare chunk : ℕ) → SomeFileAnswer file (Gran log spare chunk)
+gran_answer : (file : RegisterFile) → IsRegisterFile file → IsAccepted file → (log spare chunk : ℕ) → SomeFileAnswer file (Gran log spare chunk)
 unfolding SomeFileAnswer
-rounding file good lawful log spare chunk = by_enabled (is_enabled file) refl
+gran_answer file good lawful log spare chunk = by_enabled (is_enabled file) refl
   where
     by_enabled : (b : Bool) → is_enabled file ≡ b → (text : List ℕ) × (status : Status) × FileAnswer file (Gran log spare chunk) text status
     by_enabled false off = (_, _, gran_disabled log spare chunk off)
-    by_enabled true on = elim (rounded_or_more file good lawful on log chunk spare) [
-      | inl done ↦ (_, _, grained log spare chunk done.1 done.2 done.3 done.0 done.4)
+    by_enabled true on = elim (rounded_or_more (tidying file chunk spare) good lawful on log) [
+      | inl done ↦ (_, _, grained log spare chunk done.0 done.1)
       | inr lacking ↦ (_, _, gran_too_few log spare chunk lacking.0 lacking.1 lacking.2)
     ]
 
@@ -67,8 +68,8 @@ of_accepted dump is lawful Check = (_, _, accepted lawful)
 of_accepted dump is lawful Show = (_, _, shown)
 of_accepted dump is lawful Types = about dump Types lawful (mapped (first_file dump) (first_is_file dump is))
 of_accepted dump is lawful (Page address index) = about dump (Page address index) lawful (at_page (first_file dump) address index)
-of_accepted dump is lawful (Tidy spare chunk) = about dump (Tidy spare chunk) lawful (tidying (first_file dump) (first_is_file dump is) (first_is_accepted dump is lawful) spare chunk)
-of_accepted dump is lawful (Gran log spare chunk) = about dump (Gran log spare chunk) lawful (rounding (first_file dump) (first_is_file dump is) (first_is_accepted dump is lawful) log spare chunk)
+of_accepted dump is lawful (Tidy spare chunk) = about dump (Tidy spare chunk) lawful (tidy_answer (first_file dump) (first_is_file dump is) (first_is_accepted dump is lawful) spare chunk)
+of_accepted dump is lawful (Gran log spare chunk) = about dump (Gran log spare chunk) lawful (gran_answer (first_file dump) (first_is_file dump is) (first_is_accepted dump is lawful) log spare chunk)
 
 of_refused : (dump : Shows) (k : ℕ) (fault : Fault) → first_refusal dump.files ≡ Some (k, fault) → (command : DumpCommand) → SomeAnswer dump command
 unfolding SomeAnswer
