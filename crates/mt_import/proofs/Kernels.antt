@@ -4,10 +4,10 @@ use Rattle.std.proofs.lemmas.Bool.Decides.{nat_tests}
 use Rattle.mt_text.specs.Words.{text_of}
 use Rattle.mt_text.specs.declared.place.Place.{Place}
 use Rattle.mt_import.specs.declared.reading.LineSays.TheVariants.{Nothing, Shows}
-use Rattle.mt_import.specs.Kernel.{all_fixed_shown, types_said}
+use Rattle.mt_import.specs.Kernel.{all_fixed_shown, fixed_run, types_said}
 use Rattle.mt_import.specs.Rdmsr.{announced, call_from, option_at, register_named}
 
-pub some_run : (first end code : ℕ) (place : Place) → first < end → types_said (Some first) (Some end) (Some code) place ≡ Shows (Some 0) (all_fixed_shown first end code place)
+pub some_run : (first end code : ℕ) (place : Place) → first < end → types_said (Some first) (Some end) (Some code) place ≡ Shows (Some 0) (all_fixed_shown (fixed_run first end code place))
 some_run first end code place less = let test : nat_lt first end ≡ true = grind (arith, nat_tests, less) in rw test refl
 
 pub no_run : (first end code : ℕ) (place : Place) → end ≤ first → types_said (Some first) (Some end) (Some code) place ≡ Nothing

@@ -408,53 +408,80 @@ refusal tally missing = record { notes = []; dump = []; reasons = count_line tal
 abbrev pub Slots : Type 0
 Slots = ℕ → ℕ → Slot
 
+-- what the lines of a log show: each processor's registers, how many processors there are, and the width and the format
+pub record Findings : Type 0 where
+  pub slots : Slots
+  pub count : ℕ
+  pub shown : Known
+
 -- what is known of a log, of which lines may show the width
-abbrev pub known_by : Supplied → Slots → Known → Known
-known_by supplied slots shown = record { width = width_by supplied slots shown.width; format = shown.format }
+abbrev pub known_by : Supplied → Findings → Known
+known_by supplied found = record { width = width_by supplied found.slots found.shown.width; format = found.shown.format }
 
 -- the values of each processor's registers
-unfoldable pub values_of : Supplied → Slots → Known → ℕ → ℕ → Option ℕ
-values_of supplied slots shown k number = value_by supplied slots (known_by supplied slots shown) k number
+unfoldable pub values_of : Supplied → Findings → ℕ → ℕ → Option ℕ
+values_of supplied found k number = value_by supplied found.slots (known_by supplied found) k number
 
 -- those that aren't assumed
-unfoldable pub firm_of : Supplied → Slots → ℕ → ℕ → Option ℕ
-firm_of supplied slots k number = firm_value supplied (slots k) number
+unfoldable pub firm_of : Supplied → Findings → ℕ → ℕ → Option ℕ
+firm_of supplied found k number = firm_value supplied (found.slots k) number
 
 -- what processor 0's register would be if all were assumed
-unfoldable pub hint_of : Supplied → Slots → Known → ℕ → Option ℕ
-hint_of supplied slots shown number = assumed_value all_assumed (slots 0) (record { width = or_supplied (width_by supplied slots shown.width) (Some 52); format = shown.format }) number
+unfoldable pub hint_of : Supplied → Findings → ℕ → Option ℕ
+hint_of supplied found number =
+    assumed_value all_assumed (found.slots 0) (record { width = or_supplied (width_by supplied found.slots found.shown.width) (Some 52); format = found.shown.format }) number
 
-abbrev pub missing_of : Supplied → Slots → ℕ → Known → List ℕ
-missing_of supplied slots count shown =
-    missing_width (width_by supplied slots shown.width) (widest (masks_in supplied (slots 0) 32))
-    ++ missing_lines (hint_of supplied slots shown) (values_of supplied slots shown) count (needed (values_of supplied slots shown 0 0xfe))
+abbrev pub missing_of : Supplied → Findings → List ℕ
+missing_of supplied found =
+    missing_width (width_by supplied found.slots found.shown.width) (widest (masks_in supplied (found.slots 0) 32))
+    ++ missing_lines (hint_of supplied found) (values_of supplied found) found.count (needed (values_of supplied found 0 0xfe))
 
-abbrev pub notes_of : Supplied → Slots → ℕ → Known → List ℕ
-notes_of supplied slots count shown =
-    width_note (firm_width supplied shown.width) (width_by supplied slots shown.width)
-    ++ note_lines (firm_of supplied slots) (values_of supplied slots shown) count (needed (values_of supplied slots shown 0 0xfe))
+abbrev pub notes_of : Supplied → Findings → List ℕ
+notes_of supplied found =
+    width_note (firm_width supplied found.shown.width) (width_by supplied found.slots found.shown.width)
+    ++ note_lines (firm_of supplied found) (values_of supplied found) found.count (needed (values_of supplied found 0 0xfe))
 
--- the dump, where its width and its capability register are known
-abbrev pub dump_outcome : Outcome → (ℕ → ℕ → Option ℕ) → ℕ → List ℕ → List ℕ → Option ℕ → Option ℕ → Outcome
-dump_outcome refused values count notes reasons (Some width) (Some capabilities) = record { notes = notes; dump = canon (dump_in values count width capabilities); reasons = reasons; status = Done }
-dump_outcome refused values count notes reasons (Some width) None = refused
-dump_outcome refused values count notes reasons None capabilities = refused
+-- what there is to tell at the end of a log
+pub record Summary : Type 0 where
+  pub missing : List ℕ  -- lines on what a dump needs and hasn't
+  pub notes : List ℕ  -- comments on what was assumed
+  pub values : ℕ → ℕ → Option ℕ  -- each processor's registers
+  pub count : ℕ  -- how many processors there are
+  pub width : Option ℕ
+  pub tally : Tally
+  pub auto : Bool  -- The format was told by lines, and not by a word.
+
+abbrev pub summary_of : Bool → Supplied → Findings → Tally → Summary
+summary_of auto supplied found tally = record {
+  missing = missing_of supplied found;
+  notes = notes_of supplied found;
+  values = values_of supplied found;
+  count = found.count;
+  width = width_by supplied found.slots found.shown.width;
+  tally = tally;
+  auto = auto;
+}
+
+-- the dump, where its width and its capability register are known, or else this refusal
+abbrev pub dump_outcome : Outcome → Summary → Option ℕ → Option ℕ → Outcome
+dump_outcome refused told (Some width) (Some capabilities) = record {
+  notes = told.notes;
+  dump = canon (dump_in told.values told.count width capabilities);
+  reasons = remarks told.auto told.tally;
+  status = Done;
+}
+dump_outcome refused told (Some width) None = refused
+dump_outcome refused told None capabilities = refused
 
 -- the dump, or what is missing
-abbrev pub ended_by : List ℕ → List ℕ → Tally → Bool → (ℕ → ℕ → Option ℕ) → ℕ → Option ℕ → Outcome
-ended_by missing notes tally auto values count width =
-    if is_empty missing then dump_outcome (refusal tally missing) values count notes (remarks auto tally) width (values 0 0xfe) else refusal tally missing
+abbrev pub ended_by : Summary → Outcome
+ended_by told = if is_empty told.missing then dump_outcome (refusal told.tally told.missing) told told.width (told.values 0 0xfe) else refusal told.tally told.missing
 
-abbrev pub ended_with : Bool → Supplied → Slots → ℕ → Known → Tally → Outcome
-ended_with auto supplied slots count shown tally =
-    ended_by (missing_of supplied slots count shown) (notes_of supplied slots count shown) tally auto (values_of supplied slots shown) count (width_by supplied slots shown.width)
-
--- the width that lines show, and the format of the log
-abbrev pub known_of : Seen → Known
-known_of seen = record { width = seen.width; format = seen.tally.format }
+abbrev pub findings_of : Seen → Findings
+findings_of seen = record { slots = slot_shown seen.readings; count = processors seen.readings; shown = record { width = seen.width; format = seen.tally.format } }
 
 abbrev pub ended : Bool → Supplied → Seen → Outcome
-ended auto supplied seen = ended_with auto supplied (slot_shown seen.readings) (processors seen.readings) (known_of seen) seen.tally
+ended auto supplied seen = ended_by (summary_of auto supplied (findings_of seen) seen.tally)
 
 abbrev pub unless : Option ImportFault → Outcome → Outcome
 unless (Some fault) told = record { notes = []; dump = []; reasons = fault_line fault; status = BadText }

@@ -2,8 +2,8 @@ ghost use Rattle.std.specs.Prelude.{◌≡◌, ◌≤◌, ◌<◌, ◌+◌, ℕ,
 ghost use Rattle.mt_regs.specs.Registers.{fixed_numbers};
 ghost use Rattle.mt_kinds.specs.Bits.{is_bit_set};
 ghost use Rattle.mt_regs.specs.RegisterFile.{low_byte};
-ghost use Rattle.mt_import.specs.Outcome.{dump_in, dump_outcome, ended_with, file_of, files_of, first_pairs, fixed_of, is_empty, notes_of, refusal, remarks, value_or_zero, version_of};
-ghost use Rattle.mt_import.specs.Reader.{IsFit, known_in, slots_of, values_in};
+ghost use Rattle.mt_import.specs.Outcome.{dump_in, dump_outcome, ended_by, file_of, files_of, first_pairs, fixed_of, is_empty, refusal, remarks, value_or_zero, version_of};
+ghost use Rattle.mt_import.specs.Reader.{IsFit, slots_of, summary_in, values_in};
 ghost use Rattle.mt_import.specs.Values.{width_by};
 ghost use Rattle.mt_import.specs.Import.{IsWritten, dump_text};
 
@@ -152,8 +152,7 @@ impl LogReader {
         requires pairs { (value : ℕ) → values_in supplied.now self.now 0 0xfe ≡ Some value → low_byte value ≤ 32 }
         requires fit { IfSome self.now.width IsFit }
         requires room { length missing.now ≤ 0x7000 }
-        ensures told { result ≡ dump_outcome (refusal self.now.tally missing.now) (values_in supplied.now self.now) self.now.processors
-            (notes_of supplied.now (slots_of self.now) self.now.processors (known_in self.now)) (remarks is_auto self.now.tally)
+        ensures told { result ≡ dump_outcome (refusal self.now.tally missing.now) (summary_in is_auto supplied.now self.now)
             (width_by supplied.now (slots_of self.now) self.now.width) (values_in supplied.now self.now 0 0xfe) }
         ensures written { IsWritten result.status (dump_text result) }
     {
@@ -178,7 +177,7 @@ impl LogReader {
         requires few { self.now.processors ≤ 16 }
         requires pairs { (value : ℕ) → values_in supplied.now self.now 0 0xfe ≡ Some value → low_byte value ≤ 32 }
         requires fit { IfSome self.now.width IsFit }
-        ensures told { result ≡ ended_with is_auto supplied.now (slots_of self.now) self.now.processors (known_in self.now) self.now.tally }
+        ensures told { result ≡ ended_by (summary_in is_auto supplied.now self.now) }
         ensures written { IsWritten result.status (dump_text result) }
     {
         let missing = self.missing(supplied);

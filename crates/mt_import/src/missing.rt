@@ -2,8 +2,8 @@ ghost use Rattle.std.specs.Prelude.{◌≡◌, ◌≤◌, ◌<◌, ◌+◌, ◌+
 ghost use Rattle.arrayvec.specs.ArrayVec.{array_vec_len};
 ghost use Rattle.mt_regs.specs.RegisterFile.{low_byte};
 ghost use Rattle.mt_regs.specs.Registers.{HasThreeDigits, number_of, writable};
-ghost use Rattle.mt_import.specs.Outcome.{firm_of, hint_of, is_missing, is_value, missing_line, missing_lines, missing_of, needed, note_by, note_line, note_lines, noted, noted_of, is_noted, notes_of};
-ghost use Rattle.mt_import.specs.Reader.{IsFit, known_in, slots_of, values_in};
+ghost use Rattle.mt_import.specs.Outcome.{is_missing, is_value, missing_line, missing_lines, missing_of, needed, note_by, note_line, note_lines, noted, noted_of, is_noted, notes_of};
+ghost use Rattle.mt_import.specs.Reader.{IsFit, findings_in, firm_in, hint_in, values_in};
 
 use crate::text::{append_noted, missing_line, note_by, width_hint, width_note};
 use crate::values::widest;
@@ -45,7 +45,7 @@ impl LogReader {
         requires few { self.now.processors ≤ 16 }
         requires number { number < 0x1000 }
         requires fit { IfSome self.now.width IsFit }
-        ensures { result ≡ noted (firm_of supplied.now (slots_of self.now)) (values_in supplied.now self.now) self.now.processors number }
+        ensures { result ≡ noted (firm_in supplied.now self.now) (values_in supplied.now self.now) self.now.processors number }
     {
         'processors: for k in 0..self.count() {
             if self.firm_value(supplied, k, number).is_none() {
@@ -65,7 +65,7 @@ impl LogReader {
         requires fit { IfSome self.now.width IsFit }
         ensures text { text.new.items ≡ text.old.items
             ++ (if is_missing (values_in supplied.now self.now) self.now.processors number
-            then missing_line number (hint_of supplied.now (slots_of self.now) (known_in self.now) number) else []) }
+            then missing_line number (hint_in supplied.now self.now number) else []) }
         ensures size { array_vec_len text.new ≤ array_vec_len text.old + 48 }
     {
         if self.is_missing(supplied, number) {
@@ -79,7 +79,7 @@ impl LogReader {
         requires processor { k < 16 }
         requires number { number < 0x1000 }
         requires fit { IfSome self.now.width IsFit }
-        ensures { result ≡ is_noted (firm_of supplied.now (slots_of self.now)) (values_in supplied.now self.now) k number value }
+        ensures { result ≡ is_noted (firm_in supplied.now self.now) (values_in supplied.now self.now) k number value }
     {
         self.firm_value(supplied, k, number).is_none()
             && is_value(self.value(supplied, k, number), value)
@@ -90,7 +90,7 @@ impl LogReader {
         requires few { self.now.processors ≤ 16 }
         requires number { number < 0x1000 }
         requires fit { IfSome self.now.width IsFit }
-        ensures text { result.items ≡ noted_of (firm_of supplied.now (slots_of self.now)) (values_in supplied.now self.now) self.now.processors number value }
+        ensures text { result.items ≡ noted_of (firm_in supplied.now self.now) (values_in supplied.now self.now) self.now.processors number value }
         ensures short { array_vec_len result ≤ 48 }
     {
         let mut processors = ArrayVec::new();
@@ -108,7 +108,7 @@ impl LogReader {
         requires number { HasThreeDigits number }
         requires fit { IfSome self.now.width IsFit }
         ensures text { text.new.items ≡ text.old.items
-            ++ note_by number value (noted_of (firm_of supplied.now (slots_of self.now)) (values_in supplied.now self.now) self.now.processors number value) }
+            ++ note_by number value (noted_of (firm_in supplied.now self.now) (values_in supplied.now self.now) self.now.processors number value) }
         ensures size { array_vec_len text.new ≤ array_vec_len text.old + 112 }
     {
         let processors = self.noted_of(supplied, number, value);
@@ -123,8 +123,8 @@ impl LogReader {
         requires number { HasThreeDigits number }
         requires fit { IfSome self.now.width IsFit }
         ensures text { text.new.items ≡ text.old.items
-            ++ note_line number (noted (firm_of supplied.now (slots_of self.now)) (values_in supplied.now self.now) self.now.processors number)
-            (noted_of (firm_of supplied.now (slots_of self.now)) (values_in supplied.now self.now) self.now.processors number) }
+            ++ note_line number (noted (firm_in supplied.now self.now) (values_in supplied.now self.now) self.now.processors number)
+            (noted_of (firm_in supplied.now self.now) (values_in supplied.now self.now) self.now.processors number) }
         ensures size { array_vec_len text.new ≤ array_vec_len text.old + 224 }
     {
         if let Some(value) = self.noted(supplied, number) {
@@ -142,7 +142,7 @@ impl LogReader {
         requires fit { IfSome self.now.width IsFit }
         ensures short { array_vec_len text.new ≤ 0x7000 }
         ensures text { text.new.items ≡ text.old.items
-            ++ missing_lines (hint_of supplied.now (slots_of self.now) (known_in self.now)) (values_in supplied.now self.now)
+            ++ missing_lines (hint_in supplied.now self.now) (values_in supplied.now self.now)
             self.now.processors (map number_of (writable file.now)) }
     {
         'registers: for i in 0..file.count() {
@@ -159,7 +159,7 @@ impl LogReader {
         requires room { array_vec_len text.old ≤ 512 }
         requires fit { IfSome self.now.width IsFit }
         ensures { text.new.items ≡ text.old.items
-            ++ note_lines (firm_of supplied.now (slots_of self.now)) (values_in supplied.now self.now)
+            ++ note_lines (firm_in supplied.now self.now) (values_in supplied.now self.now)
             self.now.processors (map number_of (writable file.now)) }
     {
         'registers: for i in 0..file.count() {
@@ -175,7 +175,7 @@ impl LogReader {
         requires few { self.now.processors ≤ 16 }
         requires pairs { (value : ℕ) → values_in supplied.now self.now 0 0xfe ≡ Some value → low_byte value ≤ 32 }
         requires fit { IfSome self.now.width IsFit }
-        ensures text { result.items ≡ missing_of supplied.now (slots_of self.now) self.now.processors (known_in self.now) }
+        ensures text { result.items ≡ missing_of supplied.now (findings_in self.now) }
         ensures short { array_vec_len result ≤ 0x7000 }
     {
         let mut text = ArrayVec::new();
@@ -197,7 +197,7 @@ impl LogReader {
         requires few { self.now.processors ≤ 16 }
         requires pairs { (value : ℕ) → values_in supplied.now self.now 0 0xfe ≡ Some value → low_byte value ≤ 32 }
         requires fit { IfSome self.now.width IsFit }
-        ensures { result.items ≡ notes_of supplied.now (slots_of self.now) self.now.processors (known_in self.now) }
+        ensures { result.items ≡ notes_of supplied.now (findings_in self.now) }
     {
         let mut text = ArrayVec::new();
         if self.firm_width(supplied).is_none() {

@@ -62,6 +62,18 @@ pub struct FixedLine {
     pub line: u64,
 }
 
+/// A run of fixed ranges of one type, as a kernel's line shows it.
+#[derive(Clone, Copy)]
+pub struct FixedRun {
+    /// The number of its first range, counted over all fixed-range registers.
+    pub first: u32,
+    /// The number behind that of its last range.
+    pub end: u32,
+    /// The code of its type.
+    pub code: u8,
+    pub place: Place,
+}
+
 /// How many lines were read, and what else is told of them.
 #[derive(Clone, Copy)]
 pub struct Tally {

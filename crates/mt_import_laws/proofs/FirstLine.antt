@@ -13,12 +13,11 @@ use Rattle.mt_import.specs.declared.reading.LineSays.TheVariants.{Nothing, Annou
 use Rattle.mt_import.specs.declared.shape.Tally.{Tally}
 use Rattle.mt_import.specs.Import.{log_outcome}
 use Rattle.mt_import.specs.Kernel.{is_warning_line}
-use Rattle.mt_import.specs.Outcome.{Seen, Outcome, dump_outcome, ended, fact_fault, facts_fault, is_empty, known_of, missing_of, nothing_seen, notes_of, or_fault, processors, refusal, remarks, seen_after, seen_with, slot_shown, unless, values_of}
+use Rattle.mt_import.specs.Outcome.{Seen, Summary, Outcome, dump_outcome, ended, ended_by, fact_fault, facts_fault, findings_of, is_empty, nothing_seen, or_fault, refusal, seen_after, seen_with, summary_of, unless}
 use Rattle.mt_import.specs.Pieces.{shows_width}
 use Rattle.mt_import.specs.Readings.{Fact, announced_after, context_after, fixed_after, is_fault, is_line, is_match, is_register_value, is_warning, is_width, line_facts, processor_after, said_facts, starts, table_behind}
 use Rattle.mt_import.specs.Shown.{context_behind, facts_from, facts_of_line, format_told, said_in, said_of, shown}
 use Rattle.mt_import.specs.Supplied.{Supplied}
-use Rattle.mt_import.specs.Values.{width_by}
 use Rattle.mt_import.specs.X86info.{is_listed, is_size, is_sizes, sizes_said}
 use Rattle.mt_import_laws.specs.FirstLine.{ComeToSame, LinesTellFirst, SaysAlike, TellsFirst, only_turns, says_same}
 
@@ -220,23 +219,20 @@ module _ (format : Format) (supplied : Supplied) where
 
 -- ---- the outcome
 
-same_end : (auto other : Bool) (missing notes : List ℕ) (tally uncounted_tally : Tally) (values : ℕ → ℕ → Option ℕ) (count : ℕ) (width capabilities : Option ℕ)
-    → ComeToSame (if is_empty missing then dump_outcome (refusal tally missing) values count notes (remarks auto tally) width capabilities else refusal tally missing)
-    (if is_empty missing then dump_outcome (refusal uncounted_tally missing) values count notes (remarks other uncounted_tally) width capabilities else refusal uncounted_tally missing)
-same_end auto other missing notes tally uncounted_tally values count width capabilities = by (is_empty missing) width capabilities
+-- the same to tell, beside another count and with or without the name of the format
+same_end : (told : Summary) (auto : Bool) (tally : Tally) → ComeToSame (ended_by told) (ended_by (record told { tally = tally; auto = auto }))
+same_end told auto tally = by (is_empty told.missing) told.width (told.values 0 0xfe)
   where
-    by : (test : Bool) (w c : Option ℕ)
-        → ComeToSame (if test then dump_outcome (refusal tally missing) values count notes (remarks auto tally) w c else refusal tally missing)
-        (if test then dump_outcome (refusal uncounted_tally missing) values count notes (remarks other uncounted_tally) w c else refusal uncounted_tally missing)
+    by : (test : Bool) (width capabilities : Option ℕ)
+        → ComeToSame (if test then dump_outcome (refusal told.tally told.missing) told width capabilities else refusal told.tally told.missing)
+        (if test then dump_outcome (refusal tally told.missing) (record told { tally = tally; auto = auto }) width capabilities else refusal tally told.missing)
     by true None c = record { notes = refl; dump = refl; status = refl }
     by true (Some w) None = record { notes = refl; dump = refl; status = refl }
     by true (Some w) (Some c) = record { notes = refl; dump = refl; status = refl }
     by false w c = record { notes = refl; dump = refl; status = refl }
 
 uncounted_end : (auto other : Bool) (supplied : Supplied) (seen : Seen) → ComeToSame (ended auto supplied seen) (ended other supplied (uncounted seen))
-uncounted_end auto other supplied seen =
-    same_end auto other (missing_of supplied (slot_shown seen.readings) (processors seen.readings) (known_of seen)) (notes_of supplied (slot_shown seen.readings) (processors seen.readings) (known_of seen)) seen.tally (uncounted seen).tally
-    (values_of supplied (slot_shown seen.readings) (known_of seen)) (processors seen.readings) (width_by supplied (slot_shown seen.readings) seen.width) (values_of supplied (slot_shown seen.readings) (known_of seen) 0 0xfe)
+uncounted_end auto other supplied seen = same_end (summary_of auto supplied (findings_of seen) seen.tally) other (uncounted seen).tally
 
 both_ends : (supplied : Supplied) (a b : Seen) → uncounted a ≡ uncounted b → ComeToSame (ended true supplied a) (ended false supplied b)
 both_ends supplied a b same =
