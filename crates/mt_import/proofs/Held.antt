@@ -31,7 +31,7 @@ at_start processor None = refl
 at_start processor (Some slot) = none_at 4112 (257 * processor + slot)
 
 pub taken_new : (context : Context) (format : Option Format)
-    → HasTaken (record { context = context; slots = replicate 4112 blank_slot; capabilities = blank_slot; last = record { count = 0; line = 0 }; line_of_fixed = None; processors = 1; width = None; line_of_width = 0; tally = record { format = format; lines = 0; matches = 0; warned = false } }) (nothing_seen format)
+    → HasTaken (record { context = context; slots = replicate 4112 blank_slot; capabilities = blank_slot; last = None; line_of_fixed = None; processors = 1; width = None; line_of_width = 0; tally = record { format = format; lines = 0; matches = 0; warned = false } }) (nothing_seen format)
 taken_new context format = record {
   size = length-replicate {A = Slot} 4112 blank_slot;
   slots_are = λ processor number. at_start processor (slot_of number);

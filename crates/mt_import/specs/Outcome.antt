@@ -75,16 +75,21 @@ abbrev pub capabilities_shown : List Reading → Slot
 capabilities_shown [] = blank_slot
 capabilities_shown (reading ∷ before) = capabilities_after reading (capabilities_shown before)
 
--- The pair of a reading that shows V, bit 11 of PhysMask, as set. It is counted from 1, and is 0 where the reading shows something else.
-abbrev pub enabled_pair : Reading → ℕ
-enabled_pair reading = if is_pair_number reading.number && reading.number % 2 == 1 && is_bit_set reading.value 11 then (reading.number - 0x1ff) / 2 else 0
+-- The least VCNT that a reading allows: it counts the pair whose V, bit 11 of PhysMask, the reading shows as set.
+abbrev pub least_count : Reading → ℕ
+least_count reading = if is_pair_number reading.number && reading.number % 2 == 1 && is_bit_set reading.value 11 then (reading.number - 0x1ff) / 2 else 0
+
+-- the least VCNT with this last pair
+abbrev pub count_of : Option LastPair → ℕ
+count_of None = 0
+count_of (Some last) = last.count
 
 -- the last pair whose V is shown as set, behind one more reading
-abbrev pub last_after : Reading → LastPair → LastPair
-last_after reading before = if nat_lt before.count (enabled_pair reading) then record { count = enabled_pair reading; line = reading.place.line } else before
+abbrev pub last_after : Reading → Option LastPair → Option LastPair
+last_after reading before = if nat_lt (count_of before) (least_count reading) then Some (record { count = least_count reading; line = reading.place.line }) else before
 
-abbrev pub last_shown : List Reading → LastPair
-last_shown [] = record { count = 0; line = 0 }
+abbrev pub last_shown : List Reading → Option LastPair
+last_shown [] = None
 last_shown (reading ∷ before) = last_after reading (last_shown before)
 
 -- A reading that shows that a fixed-range register isn't 0. No other register's number is between theirs.
@@ -119,16 +124,19 @@ counts_fewer (Some capabilities) pairs = nat_lt (low_byte capabilities) pairs
 abbrev pub counted : Slot → Option ℕ
 counted capabilities = if capabilities.bits % 256 == 255 then Some capabilities.value else None
 
--- A capability register that lines show before has other bits, or VCNT doesn't count a pair that they show as enabled.
-abbrev pub capability_rival : Slot → LastPair → Reading → Option Rival
-capability_rival capabilities last reading =
-    if clashes capabilities reading then Some (Line capabilities.line)
-    else if counts_fewer (counted (slot_with capabilities reading)) last.count then Some (RegisterLine last.line)
-    else None
+-- a last pair that VCNT doesn't count
+abbrev pub uncounted_rival : Option ℕ → Option LastPair → Option Rival
+uncounted_rival capabilities None = None
+uncounted_rival capabilities (Some last) = if counts_fewer capabilities last.count then Some (RegisterLine last.line) else None
 
-abbrev pub count_rival : Slot → LastPair → Reading → Option Rival
+-- A capability register that lines show before has other bits, or VCNT doesn't count a pair that they show as enabled.
+abbrev pub capability_rival : Slot → Option LastPair → Reading → Option Rival
+capability_rival capabilities last reading =
+    if clashes capabilities reading then Some (Line capabilities.line) else uncounted_rival (counted (slot_with capabilities reading)) last
+
+abbrev pub count_rival : Slot → Option LastPair → Reading → Option Rival
 count_rival capabilities last reading =
-    if counts_fewer (counted capabilities) (enabled_pair reading) then Some (CapabilityLine capabilities.line)
+    if counts_fewer (counted capabilities) (least_count reading) then Some (CapabilityLine capabilities.line)
     else if reading.number == 0xfe then capability_rival capabilities last reading
     else None
 
@@ -136,7 +144,7 @@ count_rival capabilities last reading =
 abbrev pub rival : Supplied → List Reading → Reading → Option Rival
 rival supplied before reading =
     if bits_differ (supplied_value supplied reading.number) reading.bits reading.value then Some Word
-    else if counts_fewer (supplied_value supplied 0xfe) (enabled_pair reading) then Some CapabilityWord
+    else if counts_fewer (supplied_value supplied 0xfe) (least_count reading) then Some CapabilityWord
     else if clashes (slot_shown before reading.processor reading.number) reading then Some (Line (slot_shown before reading.processor reading.number).line)
     else count_rival (capabilities_shown before) (last_shown before) reading
 

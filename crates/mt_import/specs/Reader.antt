@@ -17,7 +17,7 @@ pub record State : Type 0 where
   pub context : Context
   pub slots : List Slot  -- 257 for each processor
   pub capabilities : Slot
-  pub last : LastPair
+  pub last : Option LastPair
   pub line_of_fixed : Option ℕ
   pub processors : ℕ
   pub width : Option ℕ

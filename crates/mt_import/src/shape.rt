@@ -40,8 +40,9 @@ pub struct Slot {
 /// The last pair of which a line has shown that V is set.
 #[derive(Clone, Copy)]
 pub struct LastPair {
-    /// Its number counted from 1, or 0 if no line has shown such a pair.
+    /// How many pairs there are up to it.
     pub count: u64,
+    /// The line that has shown it.
     pub line: u64,
 }
 

@@ -10,6 +10,7 @@ use Rattle.mt_import.specs.declared.format.Format.{Format}
 use Rattle.mt_import.specs.declared.reading.Context.{Context}
 use Rattle.mt_import.specs.declared.reading.LineSays.{LineSays}
 use Rattle.mt_import.specs.declared.reading.LineSays.TheVariants.{Nothing, Announces, Value, Turns, Shows, Begins, FixedRanges, VariableRanges, Width, Warns, Long}
+use Rattle.mt_import.specs.declared.reading.Turn.TheVariants.{To}
 use Rattle.mt_import.specs.declared.shape.Tally.{Tally}
 use Rattle.mt_import.specs.Import.{log_outcome}
 use Rattle.mt_import.specs.Kernel.{is_warning_line}
@@ -100,11 +101,11 @@ module _ (supplied : Supplied) where
 
 -- ---- lines
 
-keeps_width : (read : Result ℕ NumberFault) (place : Place) (processor : ℕ) → processor_after (shows_width read place) processor ≡ processor
+keeps_width : (read : Result ℕ NumberFault) (place : Place) (processor : Option ℕ) → processor_after (shows_width read place) processor ≡ processor
 keeps_width (Ok width) place processor = refl
 keeps_width (Err fault) place processor = refl
 
-keeps_sizes : (number : ℕ) (line : List ℕ) (processor : ℕ) → processor_after (sizes_said number line) processor ≡ processor
+keeps_sizes : (number : ℕ) (line : List ℕ) (processor : Option ℕ) → processor_after (sizes_said number line) processor ≡ processor
 keeps_sizes number line processor = by (is_sizes (take 7 (words_of line))) (is_size (take 7 (words_of line))) (is_listed (take 7 (words_of line))) _ _ _ (keeps_width _ _ processor) (keeps_width _ _ processor) (keeps_width _ _ processor)
   where
     by : (a b c : Bool) (x y z : LineSays) → processor_after x processor ≡ processor → processor_after y processor ≡ processor → processor_after z processor ≡ processor
@@ -115,7 +116,7 @@ keeps_sizes number line processor = by (is_sizes (take 7 (words_of line))) (is_s
     by false false false x y z one two three = refl
 
 -- a line that is of no format turns to no processor
-keeps_none : (number : ℕ) (line : List ℕ) (processor : ℕ) → processor_after (said_in None number line) processor ≡ processor
+keeps_none : (number : ℕ) (line : List ℕ) (processor : Option ℕ) → processor_after (said_in None number line) processor ≡ processor
 keeps_none number line processor = by (is_too_long line) (is_warning_line line) (keeps_sizes number line processor)
   where
     by : (long warns : Bool) → processor_after (sizes_said number line) processor ≡ processor
@@ -141,7 +142,7 @@ same_facts : (said : LineSays) (a b : Option Format) (context : Context) → sai
 same_facts Nothing a b context = refl
 same_facts (Announces processor number) a b context = refl
 same_facts (Value value place) a b context = refl
-same_facts (Turns processor) a b context = refl
+same_facts (Turns turn) a b context = refl
 same_facts (Shows processor shows) a b context = refl
 same_facts (Begins shows) a b context = refl
 same_facts (FixedRanges enabled alone place) a b context = refl
@@ -178,7 +179,7 @@ module _ (format : Format) (supplied : Supplied) where
   untold_all context number line lines none =
       ap (λ o. line_facts number o (apart context) (said_in o number line) ++ facts_from (context_after (apart context) o (said_in o number line)) (number + 1) lines) none
 
-  main : (lines : List (List ℕ)) (context : Context) (number : ℕ) (a b : Seen) → context.processor ≡ 0 → untold a ≡ untold b → LinesTellFirst format number lines
+  main : (lines : List (List ℕ)) (context : Context) (number : ℕ) (a b : Seen) → context.processor ≡ Some 0 → untold a ≡ untold b → LinesTellFirst format number lines
       → AreSame supplied a b (facts_from (apart context) number lines) (facts_from (within context) number lines)
   main [] context number a b zero same tells = absurd tells
   main (line ∷ lines) context number a b zero same (inl told) =
@@ -210,11 +211,11 @@ module _ (format : Format) (supplied : Supplied) where
           (is_line number None (is_match (said_in None number line)) ∷ (said_facts (apart context) (said_in None number line) ++ facts_from (apart (next context (said_in None number line))) (number + 1) lines))
           (is_line number (Some format) (is_match s) ∷ (said_facts (within context) s ++ facts_from (within (next context s)) (number + 1) lines))) (sym turns)
           (same_line supplied number None (Some format) (is_match (said_in None number line)) true a b _ _ same (λ c d both.
-          subst (λ (fs : List Fact). AreSame supplied c d (fs ++ facts_from (apart (next context (said_in None number line))) (number + 1) lines) (facts_from (within (next context (Turns 0))) (number + 1) lines))
+          subst (λ (fs : List Fact). AreSame supplied c d (fs ++ facts_from (apart (next context (said_in None number line))) (number + 1) lines) (facts_from (within (next context (Turns (To 0)))) (number + 1) lines))
           (sym (ap (said_facts (apart context)) nothing))
           (subst (λ (n : Context). AreSame supplied c d (facts_from (apart (next context (said_in None number line))) (number + 1) lines) (facts_from (within n) (number + 1) lines)) to_zero (later c d both))))
         where
-          to_zero : next context (said_in None number line) ≡ next context (Turns 0)
+          to_zero : next context (said_in None number line) ≡ next context (Turns (To 0))
           to_zero = ap (next context) nothing ∙ ap (λ p. next (record context { processor = p }) Nothing) zero
 
 -- ---- the outcome

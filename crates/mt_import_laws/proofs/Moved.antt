@@ -39,7 +39,7 @@ module _ (move : ℕ → ℕ) where
   moved_said Nothing = Nothing
   moved_said (Announces processor number) = Announces processor number
   moved_said (Value value place) = Value value (moved_place move place)
-  moved_said (Turns processor) = Turns processor
+  moved_said (Turns turn) = Turns turn
   moved_said (Shows processor shows) = Shows processor (map moved_shown shows)
   moved_said (Begins shows) = Begins (map moved_shown shows)
   moved_said (FixedRanges enabled alone place) = FixedRanges enabled alone (moved_place move place)
@@ -280,7 +280,7 @@ module _ (move : ℕ → ℕ) where
   or_sizes Nothing number line = in_each number line
   or_sizes (Announces processor register) number line = refl
   or_sizes (Value value place) number line = refl
-  or_sizes (Turns processor) number line = refl
+  or_sizes (Turns turn) number line = refl
   or_sizes (Shows processor shows) number line = refl
   or_sizes (Begins shows) number line = refl
   or_sizes (FixedRanges enabled alone place) number line = refl
@@ -303,7 +303,7 @@ module _ (move : ℕ → ℕ) where
   telling Nothing = refl
   telling (Announces processor register) = refl
   telling (Value value place) = refl
-  telling (Turns processor) = refl
+  telling (Turns turn) = refl
   telling (Shows processor shows) = refl
   telling (Begins shows) = refl
   telling (FixedRanges enabled alone place) = refl

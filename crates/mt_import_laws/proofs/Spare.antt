@@ -6,8 +6,6 @@ use Rattle.std.proofs.lemmas.List.{map-append}
 use Rattle.mt_text.specs.Text.{lines_of}
 use Rattle.mt_text.specs.declared.place.Place.{Place}
 use Rattle.mt_import.specs.declared.fault.ImportFault.{ImportFault}
-use Rattle.mt_import.specs.declared.fault.ImportFault.TheVariants.{Contradiction}
-use Rattle.mt_import.specs.declared.fault.Rival.TheVariants.{Line}
 use Rattle.mt_import.specs.declared.format.Choice.{Choice}
 use Rattle.mt_import.specs.declared.format.Format.{Format}
 use Rattle.mt_import.specs.declared.reading.Context.{Context}
@@ -19,7 +17,7 @@ use Rattle.mt_import.specs.declared.shape.Tally.{Tally}
 use Rattle.mt_import.specs.Import.{log_outcome}
 use Rattle.mt_import.specs.Outcome.{Findings, Outcome, Seen, Slots, Summary, dump_outcome, ended, ended_by, facts_fault, findings_of, firm_of, hint_of, is_empty, missing_of, notes_of, nothing_seen, or_fault, processors, refusal, remarks, seen_after, seen_with, slot_shown, summary_of, unless, values_of, warning_text}
 use Rattle.mt_import.specs.Pieces.{shown_as}
-use Rattle.mt_import.specs.Readings.{Fact, context_after, fixed_facts, fixed_line, fixed_shows, is_fault, is_fixed_clash, is_line, is_match, is_register, is_register_value, line_facts, reading_facts, said_facts, shown_facts, shows_facts, starts, value_facts, variable_shows}
+use Rattle.mt_import.specs.Readings.{Fact, context_after, fixed_clash, fixed_facts, fixed_shows, is_line, is_match, is_register, is_register_value, line_facts, reading_facts, said_facts, shown_facts, shows_facts, starts, unless_clash, value_facts, variable_shows}
 use Rattle.mt_ports.specs.declared.status.Status.TheVariants.{Done}
 use Rattle.mt_import.specs.Shown.{chosen, context_behind, facts_from, facts_of_line, format_of, is_auto, said_in, shown}
 use Rattle.mt_import.specs.Supplied.{Supplied}
@@ -61,16 +59,19 @@ keeps_value : (announced : Option Announced) (table value : ℕ) (place : Place)
 keeps_value None table value place seen = (refl, refl)
 keeps_value (Some announced) table value place seen = keeps_shown announced.processor table (shown_as announced.number value place) seen
 
+keeps_unless : (clash : Option ℕ) (place : Place) (facts : List Fact) → Keeps facts → Keeps (unless_clash clash place facts)
+keeps_unless None place facts keeps = keeps
+keeps_unless (Some line) place facts keeps seen = (refl, refl)
+
 keeps_fixed : (context : Context) (enabled alone : Bool) (place : Place) → Keeps (fixed_facts context enabled alone place)
 keeps_fixed context enabled alone place =
-    keeps_if (is_fixed_clash context.fixed enabled) (is_fault (Contradiction place 0x2ff (Line (fixed_line context.fixed))) ∷ []) (shows_facts 0 context.table (fixed_shows enabled alone place))
-    (λ seen. (refl, refl)) (keeps_shows 0 context.table (fixed_shows enabled alone place))
+    keeps_unless (fixed_clash context.fixed enabled) place (shows_facts 0 context.table (fixed_shows enabled alone place)) (keeps_shows 0 context.table (fixed_shows enabled alone place))
 
 keeps_said : (context : Context) (said : LineSays) → Keeps (said_facts context said)
 keeps_said context Nothing seen = (refl, refl)
 keeps_said context (Announces processor number) seen = (refl, refl)
 keeps_said context (Value value place) seen = keeps_value context.announced context.table value place seen
-keeps_said context (Turns processor) seen = (refl, refl)
+keeps_said context (Turns turn) seen = (refl, refl)
 keeps_said context (Shows processor shows) seen = keeps_shows _ context.table shows seen
 keeps_said context (Begins shows) seen = keeps_shows 0 _ shows seen
 keeps_said context (FixedRanges enabled alone place) seen = keeps_fixed context enabled alone place seen
@@ -111,7 +112,7 @@ no_value : (context : Context) (format : Option Format) (said : LineSays) → ((
 no_value context format Nothing other = record { facts = refl; behind = refl }
 no_value context format (Announces processor number) other = record { facts = refl; behind = refl }
 no_value context format (Value value place) other = absurd (other value place refl)
-no_value context format (Turns processor) other = record { facts = refl; behind = refl }
+no_value context format (Turns turn) other = record { facts = refl; behind = refl }
 no_value context format (Shows processor shows) other = record { facts = refl; behind = refl }
 no_value context format (Begins shows) other = record { facts = refl; behind = refl }
 no_value context format (FixedRanges enabled alone place) other = record { facts = refl; behind = refl }

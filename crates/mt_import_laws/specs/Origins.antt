@@ -19,7 +19,7 @@ use Rattle.mt_import.specs.Shown.{chosen, context_behind, facts_of_line, format_
 use Rattle.mt_import.specs.Supplied.{Supplied, supplied_value}
 use Rattle.mt_import.specs.Slot.{whole_value}
 use Rattle.mt_import.specs.Values.{assumed_of, assumed_value, is_pair_number, assumed_width, mask_of, width_by}
-use Rattle.mt_import.specs.Outcome.{Seen, Outcome, capabilities_shown, counted, counts_fewer, dump_in, enabled_pair, findings_of, known_by, needed, notes_of, nothing_seen, processors, seen_after, slot_shown, values_of}
+use Rattle.mt_import.specs.Outcome.{Seen, Outcome, capabilities_shown, counted, counts_fewer, dump_in, least_count, findings_of, known_by, needed, notes_of, nothing_seen, processors, seen_after, slot_shown, values_of}
 
 abbrev pub IsAmong : {A : Type 0} → A → List A → Type 0
 IsAmong x [] = ⊥
@@ -54,7 +54,7 @@ is_heading (Begins shows) = true
 is_heading Nothing = false
 is_heading (Announces processor number) = false
 is_heading (Value value place) = false
-is_heading (Turns processor) = false
+is_heading (Turns turn) = false
 is_heading (Shows processor shows) = false
 is_heading (FixedRanges enabled alone place) = false
 is_heading (VariableRanges enabled place) = false
@@ -146,8 +146,8 @@ pub data Origin (supplied : Supplied) (seen : Seen) (processor number value : �
 
 -- VCNT, as lines show it and as a word supplies it, counts the pair that a reading shows as enabled.
 pub record CountsPair (supplied : Supplied) (readings : List Reading) (a : Reading) : Type 0 where
-  pub shown : counts_fewer (counted (capabilities_shown readings)) (enabled_pair a) ≡ false
-  pub given : counts_fewer (supplied_value supplied 0xfe) (enabled_pair a) ≡ false
+  pub shown : counts_fewer (counted (capabilities_shown readings)) (least_count a) ≡ false
+  pub given : counts_fewer (supplied_value supplied 0xfe) (least_count a) ≡ false
 
 -- ---- lines on fixed ranges
 
@@ -157,7 +157,7 @@ SaysFixed (FixedRanges enabled alone place) on = enabled ≡ on
 SaysFixed Nothing on = ⊥
 SaysFixed (Announces processor number) on = ⊥
 SaysFixed (Value value place) on = ⊥
-SaysFixed (Turns processor) on = ⊥
+SaysFixed (Turns turn) on = ⊥
 SaysFixed (Shows processor shows) on = ⊥
 SaysFixed (Begins shows) on = ⊥
 SaysFixed (VariableRanges enabled place) on = ⊥

@@ -7,5 +7,5 @@ use Rattle.mt_import.proofs.reader.LogReader.new.Goals as goal
 
 pub returns-clause-taken : goal.returns-clause-taken
 returns-clause-taken c =
-    subst (λ (b : Slot). HasTaken (record { context = c.starts.result; slots = replicate 4112 b; capabilities = b; last = record { count = 0; line = 0 }; line_of_fixed = None; processors = 1; width = None; line_of_width = 0; tally = record { format = c.args.format; lines = 0; matches = 0; warned = false } }) (nothing_seen c.args.format))
+    subst (λ (b : Slot). HasTaken (record { context = c.starts.result; slots = replicate 4112 b; capabilities = b; last = None; line_of_fixed = None; processors = 1; width = None; line_of_width = 0; tally = record { format = c.args.format; lines = 0; matches = 0; warned = false } }) (nothing_seen c.args.format))
     (sym c.blank-blank.ensures) (taken_new c.starts.result c.args.format)
