@@ -1,5 +1,5 @@
 -- Two ways to tell the same slots come to the same texts and status.
-use Rattle.std.proofs.Common.{◌≡◌, ◌≤◌, ◌+◌, ◌*◌, ◌%◌, ℕ, zero, suc, Bool, true, false, List, [], ◌∷◌, ◌++◌, map, Option, Some, None, refl, sym, subst, ap, ◌∙◌, arith}
+use Rattle.std.proofs.Common.{◌≡◌, ◌≤◌, ◌+◌, ◌*◌, ◌%◌, ℕ, zero, suc, Bool, true, false, List, [], ◌∷◌, ◌++◌, map, Option, Some, None, refl, sym, ap, ◌∙◌, arith}
 use Rattle.std.specs.Prelude.{IfSome, if◌then◌else◌, ◌==◌}
 use Rattle.mt_kinds.specs.Bits.{is_bit_set}
 use Rattle.mt_regs.specs.RegisterFile.{low_byte}
@@ -10,7 +10,7 @@ use Rattle.mt_import.specs.declared.supplied.Assumed.{Assumed}
 use Rattle.mt_import.specs.Supplied.{IsSupplied, Supplied, all_assumed, supplied_value}
 use Rattle.mt_import.specs.Values.{Known, assumed_capabilities, assumed_of, assumed_pair, assumed_value, assumed_zero, base_of, disabled_value, firm_value, firm_width, has_pairs, is_unshown, mask_of, masks_in, only_if, or_supplied, pair_count, shown_pairs, shows_only_fix, shows_pairs, widest, width_by}
 use Rattle.mt_import.specs.Outcome.{Findings, Seen, Slots, Summary, Outcome, dump_outcome, ended, ended_by, file_of, files_of, findings_of, first_pairs, firm_of, fixed_of, hint_of, is_empty, is_missing, known_by, missing_lines, missing_of, missing_width, needed, note_line, note_lines, noted, noted_of, notes_of, processors, refusal, slot_shown, summary_of, value_or_zero, values_of, width_note}
-use Rattle.mt_import.specs.Reader.{HasTaken, IsFit, State, findings_in, slots_of, summary_in, values_in}
+use Rattle.mt_import.specs.Reader.{HasTaken, IsReader, State, findings_in, slots_of, summary_in, values_in}
 
 -- ---- the same slots of one processor
 
@@ -193,11 +193,15 @@ module _ (supplied : Supplied) (slots : ℕ → Slot) (known : Known) (few : low
   from_shown true value is = let e : (slots 0xfe).value ≡ value = cc is in rw (← e) few
   from_shown false value is = from_supplied (supplied_value supplied 0xfe) refl value is
 
-pub sound_end : (supplied : Supplied) (state : State) (seen : Seen) → HasTaken state seen → IsSupplied supplied → (value : ℕ) → values_in supplied state 0 0xfe ≡ Some value → low_byte value ≤ 32
+sound_end : (supplied : Supplied) (state : State) → IsReader state.slots state.processors state.width → IsSupplied supplied → (value : ℕ) → values_in supplied state 0 0xfe ≡ Some value → low_byte value ≤ 32
 unfolding values_of
-sound_end supplied state seen held sound value is =
-    let few : low_byte (slots_of state 0 0xfe).value ≤ 32 = rw (held.slots_are 0 0xfe) (held.pairs 0) in
-    from_shown supplied (slots_of state 0) (known_by supplied (findings_in state)) few sound ((slots_of state 0 0xfe).fresh == 0xffffffffffffffff) value is
+sound_end supplied state reader sound value is =
+    from_shown supplied (slots_of state 0) (known_by supplied (findings_in state)) (reader.pairs 0) sound ((slots_of state 0 0xfe).fresh == 0xffffffffffffffff) value is
+
+pub few_in : (supplied : Supplied) (state : State) → IsReader state.slots state.processors state.width → IsSupplied supplied → (found : Option ℕ) → found ≡ values_in supplied state 0 0xfe
+    → IfSome found (λ capabilities. low_byte capabilities ≤ 32)
+few_in supplied state reader sound None is = tt
+few_in supplied state reader sound (Some value) is = sound_end supplied state reader sound value (sym is)
 
 -- ---- what a value is made of
 
@@ -205,7 +209,3 @@ pub value_is : (supplied : Supplied) (found : Findings) (k n : ℕ)
     → values_of supplied found k n ≡ or_supplied (firm_value supplied (found.slots k) n) (assumed_value (assumed_of k supplied.assumed) (found.slots k) (known_by supplied found) n)
 unfolding values_of
 value_is supplied found k n = refl
-
--- the width that the reader holds is one that a dump may have
-pub fit_end : (state : State) (seen : Seen) → HasTaken state seen → IfSome state.width IsFit
-fit_end state seen held = subst (λ width. IfSome width IsFit) (sym held.width_is) held.fit

@@ -58,9 +58,16 @@ summary_in auto supplied state = summary_of auto supplied (findings_in state) st
 abbrev pub IsFit : ℕ → Type 0
 IsFit width = (32 ≤ width) × (width ≤ 52)
 
+-- What every reader keeps: a dump of so many processors, of this width and of their pairs may be made.
+pub record IsReader (slots : List Slot) (processors : ℕ) (width : Option ℕ) : Type 0 where
+  pub size : length slots ≡ 4112
+  pub some : 1 ≤ processors
+  pub few : processors ≤ 16
+  pub fit : IfSome width IsFit
+  pub pairs : (processor : ℕ) → low_byte (held_at slots processor (slot_of 0xfe)).value ≤ 32
+
 -- A reader has taken these facts.
 pub record HasTaken (state : State) (seen : Seen) : Type 0 where
-  pub size : length state.slots ≡ 4112
   pub slots_are : (processor number : ℕ) → slots_of state processor number ≡ slot_shown seen.readings processor number
   pub capabilities_is : state.capabilities ≡ capabilities_shown seen.readings
   pub last_is : state.last ≡ last_shown seen.readings
@@ -69,10 +76,6 @@ pub record HasTaken (state : State) (seen : Seen) : Type 0 where
   pub width_is : state.width ≡ seen.width
   pub line_of_width_is : state.line_of_width ≡ seen.line_of_width
   pub tally_is : state.tally ≡ seen.tally
-  pub some : 1 ≤ processors seen.readings
-  pub few : processors seen.readings ≤ 16
-  pub pairs : (processor : ℕ) → low_byte (slot_shown seen.readings processor 0xfe).value ≤ 32
-  pub fit : IfSome seen.width IsFit
 
 -- the register's number has three hexadecimal digits at most
 abbrev pub IsShort : ImportFault → Type 0

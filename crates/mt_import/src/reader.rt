@@ -12,7 +12,7 @@ ghost use Rattle.mt_import.specs.Slot.{slot_with};
 ghost use Rattle.mt_import.specs.Outcome.{Seen, capabilities_after, capability_rival, contradiction, count_of, count_rival, counted, counts_fewer, facts_fault, fix_shown, fixed_line_after, fixed_rival, fixless_rival, is_fit_width, lacks_fix, last_after, least_count, nothing_seen, one_if, or_fault, or_rival, pairs_fault, ranged_rival, reading_fault, rival, seen_after, seen_with, shows_fixed, shows_no_fix, slot_shown, tally_warned, tally_with, uncounted_rival, width_fault, width_rival};
 ghost use Rattle.mt_import.specs.Supplied.{bits_differ, differs};
 ghost use Rattle.mt_import.specs.Import.{IsWritten, dump_text, log_outcome};
-ghost use Rattle.mt_import.specs.Reader.{HasTaken, IsFit, IsShort, held_at, slot_of, slots_of};
+ghost use Rattle.mt_import.specs.Reader.{HasTaken, IsFit, IsReader, IsShort, held_at, slot_of, slots_of};
 
 use crate::format::{chosen, said_in};
 use crate::pieces::{count_on, shown_as};
@@ -68,11 +68,13 @@ pub struct LogReader {
 }
 
 impl Model for LogReader {
-    ghost use Rattle.mt_import.specs.Reader.{State};
+    ghost use Rattle.mt_import.specs.Reader.{IsReader, State};
 
     ghost Value = { State };
 
     ghost view = { λ r. record { context = r.context; slots = r.slots; capabilities = r.capabilities; last = r.last; line_of_fixed = r.line_of_fixed; processors = r.processors; width = r.width; line_of_width = r.line_of_width; tally = r.tally } };
+
+    ghost invariant = { λ r. IsReader r.slots r.processors r.width };
 }
 
 fn slot_of(number: u32) -> Option<usize>
@@ -409,16 +411,26 @@ impl LogReader {
         }
     }
 
+    /// What every value of the type keeps. This does nothing.
+    pub fn is_reader(&self)
+        ensures { IsReader self.now.slots self.now.processors self.now.width }
+    {
+        let _ = &self.processors;
+    }
+
     /// How many processors there are.
     pub fn count(&self) -> u32
-        ensures { result ≡ self.now.processors }
+        ensures count { result ≡ self.now.processors }
+        ensures some { 1 ≤ result }
+        ensures few { result ≤ 16 }
     {
         self.processors
     }
 
     /// The address width that lines show.
     pub(crate) fn shown_width(&self) -> Option<u8>
-        ensures { result ≡ self.now.width }
+        ensures width { result ≡ self.now.width }
+        ensures fit { IfSome result IsFit }
     {
         self.width
     }
@@ -464,7 +476,8 @@ impl LogReader {
     // The low byte of the capability register of a reading's processor behind the reading.
     fn pairs_after(&self, reading: &Reading) -> u64
         requires { reading.now.processor < 16 }
-        ensures { (seen : Seen) → HasTaken self.now seen → result ≡ low_byte (bit_or (slot_shown seen.readings reading.now.processor 0xfe).value reading.now.value) }
+        ensures held { result ≡ low_byte (bit_or (slots_of self.now reading.now.processor 0xfe).value reading.now.value) }
+        ensures shown { (seen : Seen) → HasTaken self.now seen → result ≡ low_byte (bit_or (slot_shown seen.readings reading.now.processor 0xfe).value reading.now.value) }
     {
         (self.slot(reading.processor, CAPABILITIES).value | reading.value) % 256
     }
@@ -472,8 +485,7 @@ impl LogReader {
     // Whether the capability register has more pairs than a dump may have, as this line and those before it show it.
     fn pairs_fault(&self, reading: &Reading) -> Option<ImportFault>
         requires { reading.now.processor < 16 }
-        ensures sound { result ≡ None → (seen : Seen) → HasTaken self.now seen → reading.now.number ≡ 0xfe
-            → low_byte (bit_or (slot_shown seen.readings reading.now.processor 0xfe).value reading.now.value) ≤ 32 }
+        ensures sound { result ≡ None → reading.now.number ≡ 0xfe → low_byte (bit_or (slots_of self.now reading.now.processor 0xfe).value reading.now.value) ≤ 32 }
         ensures short { IfSome result IsShort }
         ensures fault { (seen : Seen) → HasTaken self.now seen → result ≡ pairs_fault seen.readings reading.now }
     {
@@ -486,8 +498,8 @@ impl LogReader {
 
     fn reading_fault(&self, supplied: &Supplied, reading: &Reading) -> Option<ImportFault>
         requires { slot_of reading.now.number ≡ None → ⊥ }
-        ensures sound { result ≡ None → (reading.now.processor < 16) × ((seen : Seen) → HasTaken self.now seen → reading.now.number ≡ 0xfe
-            → low_byte (bit_or (slot_shown seen.readings reading.now.processor 0xfe).value reading.now.value) ≤ 32) }
+        ensures sound { result ≡ None → (reading.now.processor < 16)
+            × (reading.now.number ≡ 0xfe → low_byte (bit_or (slots_of self.now reading.now.processor 0xfe).value reading.now.value) ≤ 32) }
         ensures short { IfSome result IsShort }
         ensures fault { (seen : Seen) → HasTaken self.now seen → result ≡ reading_fault supplied.now seen.readings reading.now }
     {
@@ -506,9 +518,8 @@ impl LogReader {
     fn keep(&mut self, reading: &Reading)
         requires processor { reading.now.processor < 16 }
         requires register { slot_of reading.now.number ≡ None → ⊥ }
-        ensures taken { (seen : Seen) → HasTaken self.old seen
-            → (reading.now.number ≡ 0xfe → low_byte (bit_or (slot_shown seen.readings reading.now.processor 0xfe).value reading.now.value) ≤ 32)
-            → HasTaken self.new (seen_with seen (is_register_value reading.now)) }
+        requires pairs { reading.now.number ≡ 0xfe → low_byte (bit_or (slots_of self.old reading.now.processor 0xfe).value reading.now.value) ≤ 32 }
+        ensures taken { (seen : Seen) → HasTaken self.old seen → HasTaken self.new (seen_with seen (is_register_value reading.now)) }
         ensures context { self.new.context ≡ self.old.context }
     {
         let Some(slot) = slot_of(reading.number) else {
@@ -803,7 +814,6 @@ fn read_lines<S: Source>(
     ensures failed { IsErrOf result FeedFault.ReadFault → Rose (S.faults source.old) (S.faults source.new) }
     ensures stands { (IsErrOf result FeedFault.ReadFault → ⊥) → S.faults source.new ≡ S.faults source.old }
 {
-    supplied.is_supplied(); // a fact for the proof
     let mut reader = LogReader::new(choice.format());
     'lines: while let Some(line) = feed.line(source)? {
         if let Err(fault) = reader.take(supplied, &line) {

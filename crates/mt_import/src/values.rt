@@ -1,4 +1,5 @@
 ghost use Rattle.std.specs.Prelude.{◌≡◌, ◌≤◌, ◌<◌, ◌^◌, IfSome, Some, position};
+ghost use Rattle.mt_regs.specs.RegisterFile.{low_byte};
 ghost use Rattle.mt_import.specs.Reader.{IsFit, firm_in, hint_in, slots_of, values_in};
 ghost use Rattle.mt_import.specs.Slot.{whole_value};
 ghost use Rattle.mt_import.specs.Supplied.{supplied_value};
@@ -358,7 +359,6 @@ impl LogReader {
     pub fn value(&self, supplied: &Supplied, k: u32, number: u32) -> Option<u64>
         requires processor { k < 16 }
         requires number { number < 0x1000 }
-        requires fit { IfSome self.now.width IsFit }
         ensures { result ≡ values_in supplied.now self.now k number }
     {
         let width = self.width(supplied);
@@ -369,10 +369,19 @@ impl LogReader {
         )
     }
 
+    /// The capability register of processor 0, which is that of a dump.
+    pub(crate) fn capabilities(&self, supplied: &Supplied) -> Option<u64>
+        ensures value { result ≡ values_in supplied.now self.now 0 0xfe }
+        ensures few { IfSome result (λ capabilities. low_byte capabilities ≤ 32) }
+    {
+        self.is_reader(); // a fact for the proof
+        supplied.is_supplied(); // a fact for the proof
+        self.value(supplied, 0, CAPABILITIES)
+    }
+
     /// What processor 0's register would be if all were assumed.
     pub(crate) fn hint(&self, supplied: &Supplied, number: u32) -> Option<u64>
-        requires number { number < 0x1000 }
-        requires fit { IfSome self.now.width IsFit }
+        requires { number < 0x1000 }
         ensures { result ≡ hint_in supplied.now self.now number }
     {
         let width = or_widest(self.width(supplied));
@@ -399,7 +408,6 @@ impl LogReader {
 
     /// The address width, shown or else supplied.
     pub(crate) fn firm_width(&self, supplied: &Supplied) -> Option<u8>
-        requires { IfSome self.now.width IsFit }
         ensures width { result ≡ firm_width supplied.now self.now.width }
         ensures fit { IfSome result IsFit }
     {
@@ -412,7 +420,6 @@ impl LogReader {
 
     /// The address width, shown, or else supplied, or else assumed.
     pub fn width(&self, supplied: &Supplied) -> Option<u8>
-        requires { IfSome self.now.width IsFit }
         ensures width { result ≡ width_by supplied.now (slots_of self.now) self.now.width }
         ensures fit { IfSome result IsFit }
     {

@@ -5,7 +5,6 @@ use Rattle.mt_import.specs.Outcome.{ended_by, nothing_seen}
 use Rattle.mt_import.specs.Reader.{HasTaken, summary_in}
 use Rattle.mt_import.specs.Readings.{starts}
 use Rattle.mt_import.proofs.Fed.{at_first, ends, goes_on, offends}
-use Rattle.mt_import.proofs.Same.{fit_end, sound_end}
 use Rattle.mt_import.proofs.reader.read_lines.Goals as goal
 
 pub lines-init : goal.lines-init
@@ -89,9 +88,3 @@ returns-clause-counted g c = (counts_line c.lines.invariant.reading.fed c.line.f
 
 pub returns-clause-stands : goal.returns-clause-stands
 returns-clause-stands g c = λ other. stands_after c.in_ok-line.was c.lines.invariant.stood c.line.ensures.stands
-
-pub finish-requires-clause-pairs : goal.finish-requires-clause-pairs
-finish-requires-clause-pairs g c = sound_end c.args.supplied.now c.lines.reader c.lines.invariant.reading.seen c.lines.invariant.reading.held c.is_supplied.ensures
-
-pub finish-requires-clause-fit : goal.finish-requires-clause-fit
-finish-requires-clause-fit g c = fit_end c.lines.reader c.lines.invariant.reading.seen c.lines.invariant.reading.held

@@ -1,9 +1,12 @@
 use Rattle.std.proofs.Common.{None, false, replicate, sym, subst}
 use Rattle.mt_import.specs.declared.shape.Slot.{Slot}
 use Rattle.mt_import.specs.Outcome.{nothing_seen}
-use Rattle.mt_import.specs.Reader.{HasTaken}
-use Rattle.mt_import.proofs.Held.{taken_new}
+use Rattle.mt_import.specs.Reader.{HasTaken, IsReader}
+use Rattle.mt_import.proofs.Held.{reader_new, taken_new}
 use Rattle.mt_import.proofs.reader.LogReader.new.Goals as goal
+
+pub invariant_of-result : goal.invariant_of-result
+invariant_of-result c = subst (λ (b : Slot). IsReader (replicate 4112 b) 1 None) (sym c.blank-blank.ensures) reader_new
 
 pub returns-clause-taken : goal.returns-clause-taken
 returns-clause-taken c =
