@@ -186,8 +186,8 @@ module _ (state : State) (reading : Reading) (slot : ℕ) (next : Slot) (is : Is
       tally_is = holds.tally_is;
     }
 
-pub reader_width : (slots : List Slot) (processors width : ℕ) (before : Option ℕ) → IsReader slots processors before → IsFit width → IsReader slots processors (Some width)
-reader_width slots processors width before is fit = record { size = is.size; some = is.some; few = is.few; fit = fit; pairs = is.pairs }
+pub reader_width : (held : List Slot) (count width : ℕ) (before : Option ℕ) → IsReader held count before → IsFit width → IsReader held count (Some width)
+reader_width held count width before is fit = record { size = is.size; some = is.some; few = is.few; fit = fit; pairs = is.pairs }
 
 pub taken_width : (state : State) (seen : Seen) (width : ℕ) (place : Place) → HasTaken state seen
     → HasTaken (record { context = state.context; slots = state.slots; capabilities = state.capabilities; last = state.last; line_of_fixed = state.line_of_fixed; processors = state.processors; width = Some width; line_of_width = place.line; tally = state.tally }) (seen_with seen (is_width width place))

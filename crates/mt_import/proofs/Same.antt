@@ -156,8 +156,10 @@ module _ (supplied : Supplied) (v w : Slots) (same : (k n : ℕ) → v k n ≡ w
 -- what the reader and the words tell is what the facts show
 pub same_end : (auto : Bool) (supplied : Supplied) (state : State) (seen : Seen) → HasTaken state seen → ended_by (summary_in auto supplied state) ≡ ended auto supplied seen
 same_end auto supplied state seen held =
-    rw (held.processors_is, held.width_is, held.tally_is)
-    (same_ended supplied (slots_of state) (slot_shown seen.readings) held.slots_are (processors seen.readings) (findings_of seen).shown auto seen.tally)
+    ap (λ n. ended_by (summary_of auto supplied (record { slots = slots_of state; count = n; shown = (findings_in state).shown }) state.tally)) held.processors_is
+    ∙ ap (λ w. ended_by (summary_of auto supplied (record { slots = slots_of state; count = processors seen.readings; shown = record { width = w; format = state.tally.format } }) state.tally)) held.width_is
+    ∙ ap (λ (t : Tally). ended_by (summary_of auto supplied (record { slots = slots_of state; count = processors seen.readings; shown = record { width = seen.width; format = t.format } }) t)) held.tally_is
+    ∙ same_ended supplied (slots_of state) (slot_shown seen.readings) held.slots_are (processors seen.readings) (findings_of seen).shown auto seen.tally
 
 -- ---- the capability register of processor 0 has at most 32 pairs
 

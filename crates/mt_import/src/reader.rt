@@ -216,11 +216,7 @@ fn uncounted_rival(capabilities: Option<u64>, last: Option<LastPair>) -> Option<
 }
 
 // What gives the capability register other bits than this reading of it, or shows a pair that its VCNT doesn't count.
-fn capability_rival(
-    capabilities: &Slot,
-    last: Option<LastPair>,
-    reading: &Reading,
-) -> Option<Rival>
+fn capability_rival(capabilities: &Slot, last: Option<LastPair>, reading: &Reading) -> Option<Rival>
     ensures { result ≡ capability_rival capabilities.now last reading.now }
 {
     if capabilities.clashes(reading) {

@@ -14,8 +14,8 @@ use Rattle.mt_text.specs.declared.place.Place.{Place}
 use Rattle.mt_import.specs.Supplied.{Supplied, supplied_value}
 use Rattle.mt_import.specs.Readings.{Fact, is_fault, is_line, is_register_value, is_warning, is_width}
 use Rattle.mt_import.specs.Slot.{all_bits}
-use Rattle.mt_import.specs.Values.{assumed_of, assumed_value, assumed_width, disabled_value, or_supplied, width_by}
-use Rattle.mt_import.specs.Outcome.{Seen, Slots, Summary, ended, ended_by, file_of, files_of, findings_of, first_pairs, fixed_of, hint_of, is_missing, known_by, missing_lines, missing_of, needed, processors, seen_after, seen_with, slot_shown, summary_of, value_or_zero, values_of, version_of}
+use Rattle.mt_import.specs.Values.{assumed_of, assumed_value, assumed_width, disabled_value, firm_value, masks_in, or_supplied, widest, width_by}
+use Rattle.mt_import.specs.Outcome.{Seen, Slots, Summary, ended, ended_by, file_of, files_of, findings_of, first_pairs, fixed_of, hint_of, is_missing, known_by, missing_lines, missing_of, missing_width, needed, processors, seen_after, seen_with, slot_shown, summary_of, value_or_zero, values_of, version_of}
 use Rattle.mt_import.proofs.Same.{value_is}
 use Rattle.mt_import_laws.specs.Origins.{IsAmong}
 use Rattle.mt_import_laws.specs.Printed.{ReadsAs}
@@ -127,7 +127,8 @@ ended_back auto supplied seen files count alike number width capabilities all =
     let hints : ℕ → Option ℕ = hint_of supplied (findings_of seen) in
     let lines : missing_lines hints values (processors seen.readings) (needed (values 0 0xfe)) ≡ [] =
     ap (λ n. missing_lines hints values n (needed (values 0 0xfe))) number ∙ nothing_missing values files count alike all hints capabilities in
-    let none : missing_of supplied (findings_of seen) ≡ [] = rw width lines in
+    let none : missing_of supplied (findings_of seen) ≡ [] =
+    ap (λ (w : Option ℕ). missing_width w (widest (masks_in supplied (slot_shown seen.readings 0) 32)) ++ missing_lines hints values (processors seen.readings) (needed (values 0 0xfe))) width ∙ lines in
     by_parts (summary_of auto supplied (findings_of seen) seen.tally) (files 0) (first_files files count) count (files_back values files count alike all count (omega arith)) none number width (capabilities 0 alike.some)
 
 -- ---- one value
@@ -135,7 +136,10 @@ ended_back auto supplied seen files count alike number width capabilities all =
 module _ (supplied : Supplied) (seen : Seen) (k : ℕ) where
   -- lines show all of the processor's register
   pub by_lines : (number value : ℕ) → Holds (slot_shown seen.readings k number) value → values_of supplied (findings_of seen) k number ≡ Some value
-  by_lines number value holds = value_is supplied (findings_of seen) k number ∙ rw (holds.fresh, holds.shows) refl
+  by_lines number value holds = value_is supplied (findings_of seen) k number ∙ by
+    where
+      by : or_supplied (firm_value supplied (slot_shown seen.readings k) number) (assumed_value (assumed_of k supplied.assumed) (slot_shown seen.readings k) (known_by supplied (findings_of seen)) number) ≡ Some value
+      by = rw (holds.fresh, holds.shows) refl
 
   -- a word gives the register, and lines show no other bits
   pub by_word : (number value : ℕ) → IsKnown (slot_shown seen.readings k number) value → value < 2 ^ 64 → supplied_value supplied number ≡ Some value
