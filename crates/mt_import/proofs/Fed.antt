@@ -18,9 +18,9 @@ use Rattle.mt_import.specs.declared.reading.LineSays.TheVariants.{Long}
 use Rattle.mt_import.specs.Readings.{Fact, context_after, line_facts, starts}
 use Rattle.mt_import.specs.Shown.{chosen, context_behind, facts_from, facts_of_line, format_of, is_auto, said_in}
 use Rattle.mt_import.specs.Supplied.{Supplied}
-use Rattle.mt_import.specs.Outcome.{Seen, Outcome, ended_with, facts_fault, nothing_seen, facts_outcome, seen_after, unless}
+use Rattle.mt_import.specs.Outcome.{Seen, Outcome, ended_by, facts_fault, nothing_seen, facts_outcome, seen_after, unless}
 use Rattle.mt_import.specs.Import.{log_outcome}
-use Rattle.mt_import.specs.Reader.{HasTaken, State, known_in, slots_of}
+use Rattle.mt_import.specs.Reader.{HasTaken, State, summary_in}
 use Rattle.mt_import.proofs.Facts.{fault_append, seen_append}
 use Rattle.mt_import.proofs.Same.{same_end}
 
@@ -161,7 +161,7 @@ module _ (left_first left after : Option (List ℕ)) (given_first given given_af
 -- at the end of all lines
 module _ (left_first left after : Option (List ℕ)) (given_first given given_after : ℕ) (feed new : Feeding) (choice : Choice) (supplied : Supplied) (reader : State) (reading : IsReading choice supplied left_first left given_first given feed reader)
     (lines : Lines feed new (draw left after given given_after) (Ok None)) where
-  pub ends : (bytes : List ℕ) → left_first ≡ Some bytes → ended_with (is_auto choice) supplied (slots_of reader) reader.processors (known_in reader) reader.tally ≡ log_outcome choice supplied bytes
+  pub ends : (bytes : List ℕ) → left_first ≡ Some bytes → ended_by (summary_in (is_auto choice) supplied reader) ≡ log_outcome choice supplied bytes
   ends bytes is =
       let told = reading.told bytes is in
       let next = lends_lines feed new told.after after given given_after (Ok None) (rw told.left_is at lines) in

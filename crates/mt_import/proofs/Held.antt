@@ -19,7 +19,7 @@ use Rattle.mt_text.specs.declared.place.Place.{Place}
 use Rattle.mt_import.specs.Readings.{is_line, is_register_value, is_warning, is_width}
 use Rattle.mt_import.specs.Outcome.{Seen, capabilities_after, fixed_line_after, last_after, nothing_seen, processors, seen_with, slot_shown, tally_warned, tally_with}
 use Rattle.mt_import.specs.Slot.{blank_slot, slot_with}
-use Rattle.mt_import.specs.Reader.{HasTaken, IsFit, State, held_at, slot_of}
+use Rattle.mt_import.specs.Reader.{HasTaken, IsFit, IsReader, State, held_at, slot_of}
 
 none_at : (n i : ℕ) → slice_index_or (replicate n blank_slot) i blank_slot ≡ blank_slot
 none_at zero i = refl
@@ -31,9 +31,8 @@ at_start processor None = refl
 at_start processor (Some slot) = none_at 4112 (257 * processor + slot)
 
 pub taken_new : (context : Context) (format : Option Format)
-    → HasTaken (record { context = context; slots = replicate 4112 blank_slot; capabilities = blank_slot; last = record { count = 0; line = 0 }; line_of_fixed = None; processors = 1; width = None; line_of_width = 0; tally = record { format = format; lines = 0; matches = 0; warned = false } }) (nothing_seen format)
+    → HasTaken (record { context = context; slots = replicate 4112 blank_slot; capabilities = blank_slot; last = None; line_of_fixed = None; processors = 1; width = None; line_of_width = 0; tally = record { format = format; lines = 0; matches = 0; warned = false } }) (nothing_seen format)
 taken_new context format = record {
-  size = length-replicate {A = Slot} 4112 blank_slot;
   slots_are = λ processor number. at_start processor (slot_of number);
   capabilities_is = refl;
   last_is = refl;
@@ -42,10 +41,15 @@ taken_new context format = record {
   width_is = refl;
   line_of_width_is = refl;
   tally_is = refl;
+}
+
+pub reader_new : IsReader (replicate 4112 blank_slot) 1 None
+reader_new = record {
+  size = length-replicate {A = Slot} 4112 blank_slot;
   some = omega arith;
   few = omega arith;
-  pairs = λ processor. omega arith;
   fit = tt;
+  pairs = λ processor. subst (λ (s : Slot). low_byte s.value ≤ 32) (sym (at_start processor (slot_of 0xfe))) (omega arith);
 }
 
 -- ---- slots
@@ -102,79 +106,92 @@ most a b some few few_too = (grind (arith, nat_tests, some), grind (arith, nat_t
 places_apart : (p k slot s : ℕ) → slot < 257 → s < 257 → 257 * k + s ≡ 257 * p + slot → k ≡ p
 places_apart p k slot s within within_too same = omega (arith, within, within_too, same)
 
-module _ (state : State) (seen : Seen) (reading : Reading) (slot : ℕ) (next : Slot) (holds : HasTaken state seen) (at : slot_of reading.number ≡ Some slot) (few : reading.processor < 16)
+module _ (state : State) (reading : Reading) (slot : ℕ) (next : Slot) (is : IsReader state.slots state.processors state.width) (at : slot_of reading.number ≡ Some slot) (few : reading.processor < 16)
     (is_next : next ≡ slot_with (held_at state.slots reading.processor (Some slot)) reading) where
   abbrev slots : List Slot
   slots = slice_set state.slots (257 * reading.processor + slot) next
 
   other : (k number : ℕ) → (reading.processor == k && reading.number == number) ≡ false → (found : Option ℕ) → slot_of number ≡ found → held_at slots k found ≡ held_at state.slots k found
-  other k number apart None is = refl
-  other k number apart (Some s) is = get_or-set_other state.slots (257 * reading.processor + slot) (257 * k + s) next blank_slot differ
+  other k number apart None found = refl
+  other k number apart (Some s) found = get_or-set_other state.slots (257 * reading.processor + slot) (257 * k + s) next blank_slot differ
     where
       equal : (a b : ℕ) → a ≡ b → (b == a) ≡ true
       equal a b e = grind (arith, nat_tests, e)
 
       differ : 257 * k + s ≢ 257 * reading.processor + slot
       differ same =
-          let p = places_apart reading.processor k slot s (slot_within reading.number slot at) (slot_within number s is) same in
+          let p = places_apart reading.processor k slot s (slot_within reading.number slot at) (slot_within number s found) same in
           let q : s ≡ slot = omega (arith, p, same) in
-          let n = slots_apart number reading.number slot (is ∙ ap Some q) at in
+          let n = slots_apart number reading.number slot (found ∙ ap Some q) at in
           let e : true ≡ false = rw (equal k reading.processor p, equal number reading.number n) at apart in cc e
 
-  -- what was held is what was shown
-  before : held_at state.slots reading.processor (Some slot) ≡ slot_shown seen.readings reading.processor reading.number
-  before = ap (held_at state.slots reading.processor) (sym at) ∙ holds.slots_are reading.processor reading.number
-
-  here : held_at slots reading.processor (slot_of reading.number) ≡ slot_with (slot_shown seen.readings reading.processor reading.number) reading
-  here =
+  own : held_at slots reading.processor (slot_of reading.number) ≡ slot_with (held_at state.slots reading.processor (slot_of reading.number)) reading
+  own =
       ap (held_at slots reading.processor) at
-      ∙ get_or-set_at state.slots (257 * reading.processor + slot) (257 * reading.processor + slot) next blank_slot refl (omega (arith, holds.size, slot_within reading.number slot at, few))
-      ∙ is_next ∙ ap (λ s. slot_with s reading) before
+      ∙ get_or-set_at state.slots (257 * reading.processor + slot) (257 * reading.processor + slot) next blank_slot refl (omega (arith, is.size, slot_within reading.number slot at, few))
+      ∙ is_next ∙ ap (λ found. slot_with (held_at state.slots reading.processor found) reading) (sym at)
 
-  shown : (k number : ℕ) (processor_test number_test : Bool) → (reading.processor == k) ≡ processor_test → (reading.number == number) ≡ number_test
-      → held_at slots k (slot_of number) ≡ slot_shown (reading ∷ seen.readings) k number
-  shown k number true true same same_too =
-      let p = eqb-true reading.processor k same in
-      let n = eqb-true reading.number number same_too in
-      rw (same, same_too) (
-      ap (λ j. held_at slots j (slot_of number)) (sym p) ∙ ap (λ m. held_at slots reading.processor (slot_of m)) (sym n) ∙ here
-      ∙ ap (λ j. slot_with (slot_shown seen.readings j reading.number) reading) p ∙ ap (λ m. slot_with (slot_shown seen.readings k m) reading) n
-      )
-  shown k number true false same apart = let e : (reading.processor == k && reading.number == number) ≡ false = rw (same, apart) refl in rw (same, apart) (other k number e (slot_of number) refl ∙ holds.slots_are k number)
-  shown k number false number_test apart same = let e : (reading.processor == k && reading.number == number) ≡ false = rw apart refl in rw apart (other k number e (slot_of number) refl ∙ holds.slots_are k number)
-
-  fits : (reading.number ≡ 0xfe → low_byte (bit_or (slot_shown seen.readings reading.processor 0xfe).value reading.value) ≤ 32)
-      → (k : ℕ) (processor_test number_test : Bool) → (reading.processor == k) ≡ processor_test → (reading.number == 0xfe) ≡ number_test → low_byte (slot_shown (reading ∷ seen.readings) k 0xfe).value ≤ 32
+  fits : (reading.number ≡ 0xfe → low_byte (bit_or (held_at state.slots reading.processor (slot_of 0xfe)).value reading.value) ≤ 32)
+      → (k : ℕ) (processor_test number_test : Bool) → (reading.processor == k) ≡ processor_test → (reading.number == 0xfe) ≡ number_test → low_byte (held_at slots k (slot_of 0xfe)).value ≤ 32
   fits sound k true true same same_too =
-      rw (same, same_too) (subst (λ j. low_byte (bit_or (slot_shown seen.readings j 0xfe).value reading.value) ≤ 32) (eqb-true reading.processor k same) (sound (eqb-true reading.number 0xfe same_too)))
-  fits sound k true false same apart = rw (same, apart) (holds.pairs k)
-  fits sound k false number_test apart same = rw apart (holds.pairs k)
+      let n = eqb-true reading.number 0xfe same_too in
+      subst (λ j. low_byte (held_at slots j (slot_of 0xfe)).value ≤ 32) (eqb-true reading.processor k same)
+      (subst (λ m. low_byte (held_at slots reading.processor (slot_of m)).value ≤ 32) n
+      (subst (λ (s : Slot). low_byte s.value ≤ 32) (sym own)
+      (subst (λ m. low_byte (bit_or (held_at state.slots reading.processor (slot_of m)).value reading.value) ≤ 32) (sym n) (sound n))))
+  fits sound k true false same apart =
+      let e : (reading.processor == k && reading.number == 0xfe) ≡ false = rw (same, apart) refl in subst (λ (s : Slot). low_byte s.value ≤ 32) (sym (other k 0xfe e (slot_of 0xfe) refl)) (is.pairs k)
+  fits sound k false number_test apart same =
+      let e : (reading.processor == k && reading.number == 0xfe) ≡ false = rw apart refl in subst (λ (s : Slot). low_byte s.value ≤ 32) (sym (other k 0xfe e (slot_of 0xfe) refl)) (is.pairs k)
 
-  pub taken_more : (reading.number ≡ 0xfe → low_byte (bit_or (slot_shown seen.readings reading.processor 0xfe).value reading.value) ≤ 32)
-      → HasTaken (record { context = state.context; slots = slots; capabilities = capabilities_after reading state.capabilities; last = last_after reading state.last; line_of_fixed = fixed_line_after reading state.line_of_fixed; processors = max (reading.processor + 1) state.processors; width = state.width; line_of_width = state.line_of_width; tally = state.tally })
-      (seen_with seen (is_register_value reading))
-  taken_more sound =
-      let bounds = most (reading.processor + 1) (processors seen.readings) (omega arith) (omega (arith, few)) holds.few in
+  pub reader_more : (reading.number ≡ 0xfe → low_byte (bit_or (held_at state.slots reading.processor (slot_of 0xfe)).value reading.value) ≤ 32) → IsReader slots (max (reading.processor + 1) state.processors) state.width
+  reader_more sound =
+      let bounds = most (reading.processor + 1) state.processors (omega arith) (omega (arith, few)) is.few in
       record {
-        size = length-set state.slots (257 * reading.processor + slot) next ∙ holds.size;
-        slots_are = λ k number. shown k number (reading.processor == k) (reading.number == number) refl refl;
-        capabilities_is = ap (capabilities_after reading) holds.capabilities_is;
-        last_is = ap (last_after reading) holds.last_is;
-        line_of_fixed_is = ap (fixed_line_after reading) holds.line_of_fixed_is;
-        processors_is = ap (max (reading.processor + 1)) holds.processors_is;
-        width_is = holds.width_is;
-        line_of_width_is = holds.line_of_width_is;
-        tally_is = holds.tally_is;
+        size = length-set state.slots (257 * reading.processor + slot) next ∙ is.size;
         some = bounds.0;
         few = bounds.1;
+        fit = is.fit;
         pairs = λ k. fits sound k (reading.processor == k) (reading.number == 0xfe) refl refl;
-        fit = holds.fit;
       }
 
-pub taken_width : (state : State) (seen : Seen) (width : ℕ) (place : Place) → HasTaken state seen → IsFit width
+  module _ (seen : Seen) (holds : HasTaken state seen) where
+    here : held_at slots reading.processor (slot_of reading.number) ≡ slot_with (slot_shown seen.readings reading.processor reading.number) reading
+    here = own ∙ ap (λ s. slot_with s reading) (holds.slots_are reading.processor reading.number)
+
+    shown : (k number : ℕ) (processor_test number_test : Bool) → (reading.processor == k) ≡ processor_test → (reading.number == number) ≡ number_test
+        → held_at slots k (slot_of number) ≡ slot_shown (reading ∷ seen.readings) k number
+    shown k number true true same same_too =
+        let p = eqb-true reading.processor k same in
+        let n = eqb-true reading.number number same_too in
+        rw (same, same_too) (
+        ap (λ j. held_at slots j (slot_of number)) (sym p) ∙ ap (λ m. held_at slots reading.processor (slot_of m)) (sym n) ∙ here
+        ∙ ap (λ j. slot_with (slot_shown seen.readings j reading.number) reading) p ∙ ap (λ m. slot_with (slot_shown seen.readings k m) reading) n
+        )
+    shown k number true false same apart =
+        let e : (reading.processor == k && reading.number == number) ≡ false = rw (same, apart) refl in rw (same, apart) (other k number e (slot_of number) refl ∙ holds.slots_are k number)
+    shown k number false number_test apart same =
+        let e : (reading.processor == k && reading.number == number) ≡ false = rw apart refl in rw apart (other k number e (slot_of number) refl ∙ holds.slots_are k number)
+
+    pub taken_more : HasTaken (record { context = state.context; slots = slots; capabilities = capabilities_after reading state.capabilities; last = last_after reading state.last; line_of_fixed = fixed_line_after reading state.line_of_fixed; processors = max (reading.processor + 1) state.processors; width = state.width; line_of_width = state.line_of_width; tally = state.tally })
+        (seen_with seen (is_register_value reading))
+    taken_more = record {
+      slots_are = λ k number. shown k number (reading.processor == k) (reading.number == number) refl refl;
+      capabilities_is = ap (capabilities_after reading) holds.capabilities_is;
+      last_is = ap (last_after reading) holds.last_is;
+      line_of_fixed_is = ap (fixed_line_after reading) holds.line_of_fixed_is;
+      processors_is = ap (max (reading.processor + 1)) holds.processors_is;
+      width_is = holds.width_is;
+      line_of_width_is = holds.line_of_width_is;
+      tally_is = holds.tally_is;
+    }
+
+pub reader_width : (held : List Slot) (count width : ℕ) (before : Option ℕ) → IsReader held count before → IsFit width → IsReader held count (Some width)
+reader_width held count width before is fit = record { size = is.size; some = is.some; few = is.few; fit = fit; pairs = is.pairs }
+
+pub taken_width : (state : State) (seen : Seen) (width : ℕ) (place : Place) → HasTaken state seen
     → HasTaken (record { context = state.context; slots = state.slots; capabilities = state.capabilities; last = state.last; line_of_fixed = state.line_of_fixed; processors = state.processors; width = Some width; line_of_width = place.line; tally = state.tally }) (seen_with seen (is_width width place))
-taken_width state seen width place holds fit = record {
-  size = holds.size;
+taken_width state seen width place holds = record {
   slots_are = holds.slots_are;
   capabilities_is = holds.capabilities_is;
   last_is = holds.last_is;
@@ -183,17 +200,12 @@ taken_width state seen width place holds fit = record {
   width_is = refl;
   line_of_width_is = refl;
   tally_is = holds.tally_is;
-  some = holds.some;
-  few = holds.few;
-  pairs = holds.pairs;
-  fit = fit;
 }
 
 -- a line was counted
 pub taken_line : (state : State) (seen : Seen) (number : ℕ) (format : Option Format) (matched : Bool) → HasTaken state seen
     → HasTaken (record { context = state.context; slots = state.slots; capabilities = state.capabilities; last = state.last; line_of_fixed = state.line_of_fixed; processors = state.processors; width = state.width; line_of_width = state.line_of_width; tally = tally_with state.tally number format matched }) (seen_with seen (is_line number format matched))
 taken_line state seen number format matched holds = record {
-  size = holds.size;
   slots_are = holds.slots_are;
   capabilities_is = holds.capabilities_is;
   last_is = holds.last_is;
@@ -202,17 +214,12 @@ taken_line state seen number format matched holds = record {
   width_is = holds.width_is;
   line_of_width_is = holds.line_of_width_is;
   tally_is = ap (λ t. tally_with t number format matched) holds.tally_is;
-  some = holds.some;
-  few = holds.few;
-  pairs = holds.pairs;
-  fit = holds.fit;
 }
 
 -- the kernel warned
 pub taken_warning : (state : State) (seen : Seen) → HasTaken state seen
     → HasTaken (record { context = state.context; slots = state.slots; capabilities = state.capabilities; last = state.last; line_of_fixed = state.line_of_fixed; processors = state.processors; width = state.width; line_of_width = state.line_of_width; tally = tally_warned state.tally }) (seen_with seen is_warning)
 taken_warning state seen holds = record {
-  size = holds.size;
   slots_are = holds.slots_are;
   capabilities_is = holds.capabilities_is;
   last_is = holds.last_is;
@@ -221,17 +228,12 @@ taken_warning state seen holds = record {
   width_is = holds.width_is;
   line_of_width_is = holds.line_of_width_is;
   tally_is = ap tally_warned holds.tally_is;
-  some = holds.some;
-  few = holds.few;
-  pairs = holds.pairs;
-  fit = holds.fit;
 }
 
 -- what a reader keeps doesn't speak of its context
 pub taken_in : (state : State) (seen : Seen) (context : Context) → HasTaken state seen
     → HasTaken (record { context = context; slots = state.slots; capabilities = state.capabilities; last = state.last; line_of_fixed = state.line_of_fixed; processors = state.processors; width = state.width; line_of_width = state.line_of_width; tally = state.tally }) seen
 taken_in state seen context holds = record {
-  size = holds.size;
   slots_are = holds.slots_are;
   capabilities_is = holds.capabilities_is;
   last_is = holds.last_is;
@@ -240,8 +242,4 @@ taken_in state seen context holds = record {
   width_is = holds.width_is;
   line_of_width_is = holds.line_of_width_is;
   tally_is = holds.tally_is;
-  some = holds.some;
-  few = holds.few;
-  pairs = holds.pairs;
-  fit = holds.fit;
 }

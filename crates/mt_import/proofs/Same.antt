@@ -1,5 +1,5 @@
 -- Two ways to tell the same slots come to the same texts and status.
-use Rattle.std.proofs.Common.{◌≡◌, ◌≤◌, ◌+◌, ◌*◌, ◌%◌, ℕ, zero, suc, Bool, true, false, List, [], ◌∷◌, ◌++◌, map, Option, Some, None, refl, sym, subst, ap, ◌∙◌, arith}
+use Rattle.std.proofs.Common.{◌≡◌, ◌≤◌, ◌+◌, ◌*◌, ◌%◌, ℕ, zero, suc, Bool, true, false, List, [], ◌∷◌, ◌++◌, map, Option, Some, None, refl, sym, ap, ◌∙◌, arith}
 use Rattle.std.specs.Prelude.{IfSome, if◌then◌else◌, ◌==◌}
 use Rattle.mt_kinds.specs.Bits.{is_bit_set}
 use Rattle.mt_regs.specs.RegisterFile.{low_byte}
@@ -9,8 +9,8 @@ use Rattle.mt_import.specs.declared.shape.Tally.{Tally}
 use Rattle.mt_import.specs.declared.supplied.Assumed.{Assumed}
 use Rattle.mt_import.specs.Supplied.{IsSupplied, Supplied, all_assumed, supplied_value}
 use Rattle.mt_import.specs.Values.{Known, assumed_capabilities, assumed_of, assumed_pair, assumed_value, assumed_zero, base_of, disabled_value, firm_value, firm_width, has_pairs, is_unshown, mask_of, masks_in, only_if, or_supplied, pair_count, shown_pairs, shows_only_fix, shows_pairs, widest, width_by}
-use Rattle.mt_import.specs.Outcome.{Seen, Slots, Outcome, dump_outcome, ended, ended_by, ended_with, file_of, files_of, first_pairs, firm_of, fixed_of, hint_of, is_missing, known_by, known_of, missing_lines, missing_of, missing_width, needed, note_line, note_lines, noted, noted_of, notes_of, processors, refusal, remarks, slot_shown, value_or_zero, values_of, width_note}
-use Rattle.mt_import.specs.Reader.{HasTaken, IsFit, State, known_in, slots_of, values_in}
+use Rattle.mt_import.specs.Outcome.{Findings, Seen, Slots, Summary, Outcome, dump_outcome, ended, ended_by, file_of, files_of, findings_of, first_pairs, firm_of, fixed_of, hint_of, is_empty, is_missing, known_by, missing_lines, missing_of, missing_width, needed, note_line, note_lines, noted, noted_of, notes_of, processors, refusal, slot_shown, summary_of, value_or_zero, values_of, width_note}
+use Rattle.mt_import.specs.Reader.{HasTaken, IsReader, State, findings_in, slots_of, summary_in, values_in}
 
 -- ---- the same slots of one processor
 
@@ -77,13 +77,20 @@ module _ (v w : ℕ → ℕ → Option ℕ) (same : (k n : ℕ) → v k n ≡ w 
   same_files width capabilities zero = refl
   same_files width capabilities (suc k) = rw (same_files width capabilities k, same_file k width capabilities) refl
 
-  same_told : (refused : Outcome) (count : ℕ) (notes reasons : List ℕ) (width capabilities : Option ℕ) → dump_outcome refused v count notes reasons width capabilities ≡ dump_outcome refused w count notes reasons width capabilities
-  same_told refused count notes reasons (Some width) (Some capabilities) = rw (same_files width capabilities count) refl
-  same_told refused count notes reasons (Some width) None = refl
-  same_told refused count notes reasons None capabilities = refl
+-- Two summaries with the same values come to the same.
+module _ (a b : Summary) (same : (k n : ℕ) → a.values k n ≡ b.values k n) (notes : a.notes ≡ b.notes) (count : a.count ≡ b.count) (tally : a.tally ≡ b.tally) (auto : a.auto ≡ b.auto) where
+  same_told : (refused : Outcome) (width capabilities : Option ℕ) → dump_outcome refused a width capabilities ≡ dump_outcome refused b width capabilities
+  same_told refused (Some width) (Some capabilities) = rw (notes, count, tally, auto, same_files a.values b.values same width capabilities b.count) refl
+  same_told refused (Some width) None = refl
+  same_told refused None capabilities = refl
 
-  same_by : (missing notes : List ℕ) (tally : Tally) (auto : Bool) (count : ℕ) (width : Option ℕ) → ended_by missing notes tally auto v count width ≡ ended_by missing notes tally auto w count width
-  same_by missing notes tally auto count width = rw (same 0 0xfe, same_told (refusal tally missing) count notes (remarks auto tally) width (w 0 0xfe)) refl
+  pub same_summary : a.missing ≡ b.missing → a.width ≡ b.width → ended_by a ≡ ended_by b
+  same_summary missing width =
+      ap (λ m. if is_empty m then dump_outcome (refusal a.tally m) a a.width (a.values 0 0xfe) else refusal a.tally m) missing
+      ∙ ap (λ t. if is_empty b.missing then dump_outcome (refusal t b.missing) a a.width (a.values 0 0xfe) else refusal t b.missing) tally
+      ∙ ap (λ w. if is_empty b.missing then dump_outcome (refusal b.tally b.missing) a w (a.values 0 0xfe) else refusal b.tally b.missing) width
+      ∙ ap (λ c. if is_empty b.missing then dump_outcome (refusal b.tally b.missing) a b.width c else refusal b.tally b.missing) (same 0 0xfe)
+      ∙ ap (λ (o : Outcome). if is_empty b.missing then o else refusal b.tally b.missing) (same_told (refusal b.tally b.missing) b.width (b.values 0 0xfe))
 
 module _ (v w : ℕ → ℕ → Option ℕ) (same : (k n : ℕ) → v k n ≡ w k n) (a b : ℕ → Option ℕ) (same_hint : (n : ℕ) → a n ≡ b n) where
   same_lines : (count : ℕ) (numbers : List ℕ) → missing_lines a v count numbers ≡ missing_lines b w count numbers
@@ -109,47 +116,50 @@ module _ (v w : ℕ → ℕ → Option ℕ) (same : (k n : ℕ) → v k n ≡ w 
 
 -- ---- the same slots of all processors
 
-module _ (supplied : Supplied) (v w : Slots) (same : (k n : ℕ) → v k n ≡ w k n) (shown : Known) where
+module _ (supplied : Supplied) (v w : Slots) (same : (k n : ℕ) → v k n ≡ w k n) (count : ℕ) (shown : Known) where
+  abbrev one : Findings
+  one = record { slots = v; count = count; shown = shown }
+
+  abbrev two : Findings
+  two = record { slots = w; count = count; shown = shown }
+
   same_width : width_by supplied v shown.width ≡ width_by supplied w shown.width
   same_width = rw (same_masks (v 0) (w 0) (same 0) supplied 32) refl
 
-  same_value : (k n : ℕ) → values_of supplied v shown k n ≡ values_of supplied w shown k n
+  same_value : (k n : ℕ) → values_of supplied one k n ≡ values_of supplied two k n
   unfolding values_of
-  same_value k n = rw (same_width, same_firm (v k) (w k) (same k) supplied n, same_assumed (v k) (w k) (same k) (assumed_of k supplied.assumed) (known_by supplied w shown) n) refl
+  same_value k n = rw (same_width, same_firm (v k) (w k) (same k) supplied n, same_assumed (v k) (w k) (same k) (assumed_of k supplied.assumed) (known_by supplied two) n) refl
 
-  same_hints : (n : ℕ) → hint_of supplied v shown n ≡ hint_of supplied w shown n
+  same_hints : (n : ℕ) → hint_of supplied one n ≡ hint_of supplied two n
   unfolding hint_of
   same_hints n = rw (same_width, same_assumed (v 0) (w 0) (same 0) all_assumed (record { width = or_supplied (width_by supplied w shown.width) (Some 52); format = shown.format }) n) refl
 
-  same_firm_of : (k n : ℕ) → firm_of supplied v k n ≡ firm_of supplied w k n
+  same_firm_of : (k n : ℕ) → firm_of supplied one k n ≡ firm_of supplied two k n
   unfolding firm_of
   same_firm_of k n = same_firm (v k) (w k) (same k) supplied n
 
-  same_missing_of : (count : ℕ) → missing_of supplied v count shown ≡ missing_of supplied w count shown
-  same_missing_of count =
+  same_missing_of : missing_of supplied one ≡ missing_of supplied two
+  same_missing_of =
       rw (same_width, same_masks (v 0) (w 0) (same 0) supplied 32, same_value 0 0xfe)
       (ap (λ l. missing_width (width_by supplied w shown.width) (widest (masks_in supplied (w 0) 32)) ++ l)
-      (same_lines (values_of supplied v shown) (values_of supplied w shown) same_value (hint_of supplied v shown) (hint_of supplied w shown) same_hints count (needed (values_of supplied w shown 0 0xfe))))
+      (same_lines (values_of supplied one) (values_of supplied two) same_value (hint_of supplied one) (hint_of supplied two) same_hints count (needed (values_of supplied two 0 0xfe))))
 
-  same_notes_of : (count : ℕ) → notes_of supplied v count shown ≡ notes_of supplied w count shown
-  same_notes_of count =
+  same_notes_of : notes_of supplied one ≡ notes_of supplied two
+  same_notes_of =
       rw (same_width, same_value 0 0xfe)
       (ap (λ l. width_note (firm_width supplied shown.width) (width_by supplied w shown.width) ++ l)
-      (same_notes (values_of supplied v shown) (values_of supplied w shown) same_value (firm_of supplied v) (firm_of supplied w) same_firm_of count (needed (values_of supplied w shown 0 0xfe))))
+      (same_notes (values_of supplied one) (values_of supplied two) same_value (firm_of supplied one) (firm_of supplied two) same_firm_of count (needed (values_of supplied two 0 0xfe))))
 
-  pub same_ended : (auto : Bool) (count : ℕ) (tally : Tally) → ended_with auto supplied v count shown tally ≡ ended_with auto supplied w count shown tally
-  same_ended auto count tally =
-      ap (λ m. ended_by m (notes_of supplied v count shown) tally auto (values_of supplied v shown) count (width_by supplied v shown.width)) (same_missing_of count)
-      ∙ ap (λ m. ended_by (missing_of supplied w count shown) m tally auto (values_of supplied v shown) count (width_by supplied v shown.width)) (same_notes_of count)
-      ∙ same_by (values_of supplied v shown) (values_of supplied w shown) same_value (missing_of supplied w count shown) (notes_of supplied w count shown) tally auto count (width_by supplied v shown.width)
-      ∙ ap (λ m. ended_by (missing_of supplied w count shown) (notes_of supplied w count shown) tally auto (values_of supplied w shown) count m) same_width
+  same_ended : (auto : Bool) (tally : Tally) → ended_by (summary_of auto supplied one tally) ≡ ended_by (summary_of auto supplied two tally)
+  same_ended auto tally = same_summary (summary_of auto supplied one tally) (summary_of auto supplied two tally) same_value same_notes_of refl refl refl same_missing_of same_width
 
 -- what the reader and the words tell is what the facts show
-pub same_end : (auto : Bool) (supplied : Supplied) (state : State) (seen : Seen) → HasTaken state seen
-    → ended_with auto supplied (slots_of state) state.processors (known_in state) state.tally ≡ ended auto supplied seen
+pub same_end : (auto : Bool) (supplied : Supplied) (state : State) (seen : Seen) → HasTaken state seen → ended_by (summary_in auto supplied state) ≡ ended auto supplied seen
 same_end auto supplied state seen held =
-    rw (held.processors_is, held.width_is, held.tally_is)
-    (same_ended supplied (slots_of state) (slot_shown seen.readings) held.slots_are (known_of seen) auto (processors seen.readings) seen.tally)
+    ap (λ n. ended_by (summary_of auto supplied (record { slots = slots_of state; count = n; shown = (findings_in state).shown }) state.tally)) held.processors_is
+    ∙ ap (λ w. ended_by (summary_of auto supplied (record { slots = slots_of state; count = processors seen.readings; shown = record { width = w; format = state.tally.format } }) state.tally)) held.width_is
+    ∙ ap (λ (t : Tally). ended_by (summary_of auto supplied (record { slots = slots_of state; count = processors seen.readings; shown = record { width = seen.width; format = t.format } }) t)) held.tally_is
+    ∙ same_ended supplied (slots_of state) (slot_shown seen.readings) held.slots_are (processors seen.readings) (findings_of seen).shown auto seen.tally
 
 -- ---- the capability register of processor 0 has at most 32 pairs
 
@@ -185,19 +195,19 @@ module _ (supplied : Supplied) (slots : ℕ → Slot) (known : Known) (few : low
   from_shown true value is = let e : (slots 0xfe).value ≡ value = cc is in rw (← e) few
   from_shown false value is = from_supplied (supplied_value supplied 0xfe) refl value is
 
-pub sound_end : (supplied : Supplied) (state : State) (seen : Seen) → HasTaken state seen → IsSupplied supplied → (value : ℕ) → values_in supplied state 0 0xfe ≡ Some value → low_byte value ≤ 32
+sound_end : (supplied : Supplied) (state : State) → IsReader state.slots state.processors state.width → IsSupplied supplied → (value : ℕ) → values_in supplied state 0 0xfe ≡ Some value → low_byte value ≤ 32
 unfolding values_of
-sound_end supplied state seen held sound value is =
-    let few : low_byte (slots_of state 0 0xfe).value ≤ 32 = rw (held.slots_are 0 0xfe) (held.pairs 0) in
-    from_shown supplied (slots_of state 0) (known_by supplied (slots_of state) (known_in state)) few sound ((slots_of state 0 0xfe).fresh == 0xffffffffffffffff) value is
+sound_end supplied state reader sound value is =
+    from_shown supplied (slots_of state 0) (known_by supplied (findings_in state)) (reader.pairs 0) sound ((slots_of state 0 0xfe).fresh == 0xffffffffffffffff) value is
+
+pub few_in : (supplied : Supplied) (state : State) → IsReader state.slots state.processors state.width → IsSupplied supplied → (found : Option ℕ) → found ≡ values_in supplied state 0 0xfe
+    → IfSome found (λ capabilities. low_byte capabilities ≤ 32)
+few_in supplied state reader sound None is = tt
+few_in supplied state reader sound (Some value) is = sound_end supplied state reader sound value (sym is)
 
 -- ---- what a value is made of
 
-pub value_is : (supplied : Supplied) (slots : Slots) (shown : Known) (k n : ℕ)
-    → values_of supplied slots shown k n ≡ or_supplied (firm_value supplied (slots k) n) (assumed_value (assumed_of k supplied.assumed) (slots k) (known_by supplied slots shown) n)
+pub value_is : (supplied : Supplied) (found : Findings) (k n : ℕ)
+    → values_of supplied found k n ≡ or_supplied (firm_value supplied (found.slots k) n) (assumed_value (assumed_of k supplied.assumed) (found.slots k) (known_by supplied found) n)
 unfolding values_of
-value_is supplied slots shown k n = refl
-
--- the width that the reader holds is one that a dump may have
-pub fit_end : (state : State) (seen : Seen) → HasTaken state seen → IfSome state.width IsFit
-fit_end state seen held = subst (λ width. IfSome width IsFit) (sym held.width_is) held.fit
+value_is supplied found k n = refl

@@ -90,20 +90,30 @@ is_pair first words = is_text (codes "base") (text_of words (first + 1)) && is_t
 abbrev pub is_page : ℕ → Bool
 is_page address = nat_lt address 0x10000000000000 && address % page_bytes == 0
 
--- PhysBase has the type in its low byte, and PhysMask has V set.
-abbrev pub shows_pair : Result ℕ NumberFault → Option ℕ → Option ℕ → Result ℕ NumberFault → Place → Place → LineSays
-shows_pair (Ok pair) (Some base) (Some mask) (Ok kind) base_place mask_place =
-    if is_page base && is_page mask then Shows None (two_shown (shown_as (0x200 + 2 * pair) (base + kind) base_place) (shown_as (0x201 + 2 * pair) (mask + 0x800) mask_place))
-    else Nothing
-shows_pair (Ok pair) (Some base) (Some mask) (Err fault) base_place mask_place = Nothing
-shows_pair (Ok pair) (Some base) None kind base_place mask_place = Nothing
-shows_pair (Ok pair) None mask kind base_place mask_place = Nothing
-shows_pair (Err fault) base mask kind base_place mask_place = Nothing
+-- PhysBase, with the type in its low byte
+abbrev pub base_value : Option ℕ → Result ℕ NumberFault → Option ℕ
+base_value None kind = None
+base_value (Some base) (Err fault) = None
+base_value (Some base) (Ok kind) = if is_page base then Some (base + kind) else None
+
+-- PhysMask, with V set
+abbrev pub mask_value : Option ℕ → Option ℕ
+mask_value None = None
+mask_value (Some mask) = if is_page mask then Some (mask + 0x800) else None
+
+-- both registers of a pair, where both values are known
+abbrev pub shows_pair : Result ℕ NumberFault → Place → Option ℕ → Place → Option ℕ → LineSays
+shows_pair (Err fault) base_place base mask_place mask = Nothing
+shows_pair (Ok pair) base_place None mask_place mask = Nothing
+shows_pair (Ok pair) base_place (Some base) mask_place None = Nothing
+shows_pair (Ok pair) base_place (Some base) mask_place (Some mask) =
+    Shows None (two_shown (shown_as (0x200 + 2 * pair) base base_place) (shown_as (0x201 + 2 * pair) mask mask_place))
 
 abbrev pub pair_from : ℕ → ℕ → List (ℕ × List ℕ) → LineSays
 pair_from first number words =
-    shows_pair (decimal_number (text_of words first) 31) (prefixed_number (text_of words (first + 2))) (prefixed_number (text_of words (first + 4))) (decimal_number (text_of words (first + 6)) 255)
-    (place_of number words (first + 2)) (place_of number words (first + 4))
+    shows_pair (decimal_number (text_of words first) 31)
+    (place_of number words (first + 2)) (base_value (prefixed_number (text_of words (first + 2))) (decimal_number (text_of words (first + 6)) 255))
+    (place_of number words (first + 4)) (mask_value (prefixed_number (text_of words (first + 4))))
 
 -- `CPU physical address size: 39 bits`
 abbrev pub is_size : ℕ → List (ℕ × List ℕ) → Bool

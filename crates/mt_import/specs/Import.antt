@@ -10,6 +10,7 @@ use Rattle.mt_ports.specs.Puts.{AppendsFront}
 use Rattle.mt_ports.specs.declared.status.Status.{Status}
 use Rattle.mt_ports.specs.declared.status.Status.TheVariants.{Done, Refused, Usage, BadText, ReadFault, WriteFault, NoMemory, TooLong, TooFew, Disabled}
 use Rattle.mt_output.specs.Lines.{line}
+use Rattle.mt_output.specs.Ports.{Change, Held, Port}
 use Rattle.mt_output.specs.Written.{Writes}
 use Rattle.mt_import.specs.declared.format.Choice.{Choice}
 use Rattle.mt_import.specs.Shown.{format_of, is_auto, shown}
@@ -71,42 +72,38 @@ abbrev pub IsUnread : List ℕ → Status → Type 0
 IsUnread bytes result = (result ≡ ReadFault) ⊎ ((result ≡ TooLong) × (longest_input < length bytes))
 
 -- the output for the words and all bytes of the source was written, or nothing where the source failed or gave too much
-pub data Imports (words : List (List ℕ)) (bytes : List ℕ) (left old new : Option (List ℕ)) (result : Status) : Type 0 where
-  told : left ≡ Some (left_of words bytes) → Writes (output_of words bytes).0 (output_of words bytes).1 old new result → Imports words bytes left old new result
-  unread : new ≡ old → IsUnread bytes result → Imports words bytes left old new result
+pub data Imports (words : List (List ℕ)) (source : Held) (sink : Port) (result : Status) : Type 0 where
+  told : source.left ≡ Some (left_of words source.bytes) → Writes (output_of words source.bytes).0 (output_of words source.bytes).1 sink.old sink.new result
+      → Imports words source sink result
+  unread : sink.new ≡ sink.old → IsUnread source.bytes result → Imports words source sink result
 
 -- ---- the same with standard error apart
 
--- the bytes that a sink took
-pub record Taken : Type 0 where
-  pub old : Option (List ℕ)
-  pub new : Option (List ℕ)
-
 -- Reasons come first, and then the dump. Each sink took its text, and the status is that of the texts.
 -- Or the sink of the reasons failed, and the other took nothing. Or it took all reasons, and the other failed.
-abbrev pub WritesApart : Outcome → Taken → Taken → Status → Type 0
+abbrev pub WritesApart : Outcome → Port → Port → Status → Type 0
 WritesApart texts out errors result =
     ((result ≡ texts.status) × Appends out.old out.new (dump_text texts) × Appends errors.old errors.new texts.reasons)
     ⊎ ((result ≡ WriteFault) × (out.new ≡ out.old) × AppendsFront errors.old errors.new texts.reasons)
     ⊎ ((result ≡ WriteFault) × AppendsFront out.old out.new (dump_text texts) × Appends errors.old errors.new texts.reasons)
 
-pub data ImportsApart (words : List (List ℕ)) (bytes : List ℕ) (left : Option (List ℕ)) (out errors : Taken) (result : Status) : Type 0 where
-  told : left ≡ Some (left_of words bytes) → WritesApart (outcome_of words bytes) out errors result → ImportsApart words bytes left out errors result
-  unread : out.new ≡ out.old → errors.new ≡ errors.old → IsUnread bytes result → ImportsApart words bytes left out errors result
+pub data ImportsApart (words : List (List ℕ)) (source : Held) (out errors : Port) (result : Status) : Type 0 where
+  told : source.left ≡ Some (left_of words source.bytes) → WritesApart (outcome_of words source.bytes) out errors result → ImportsApart words source out errors result
+  unread : out.new ≡ out.old → errors.new ≡ errors.old → IsUnread source.bytes result → ImportsApart words source out errors result
 
 -- the same where the arguments may have found no memory: then nothing is read or written
-abbrev pub Runs : List (List ℕ) → List ℕ → Option (List ℕ) → Taken → Taken → Status → Type 0
-Runs words bytes left out errors result =
-    ImportsApart words bytes left out errors result ⊎ ((result ≡ NoMemory) × (left ≡ Some bytes) × (out.new ≡ out.old) × (errors.new ≡ errors.old))
+abbrev pub Runs : List (List ℕ) → Held → Port → Port → Status → Type 0
+Runs words source out errors result =
+    ImportsApart words source out errors result ⊎ ((result ≡ NoMemory) × (source.left ≡ Some source.bytes) × (out.new ≡ out.old) × (errors.new ≡ errors.old))
 
--- A source and two sinks are as before, each given by its value before and after.
-abbrev pub AreUnused : {S K E : Type 0} → S × S → K × K → E × E → Type 0
-AreUnused source out errors = (source.1 ≡ source.0) × (out.1 ≡ out.0) × (errors.1 ≡ errors.0)
+-- A source and two sinks are as before.
+abbrev pub AreUnused : {S K E : Type 0} → Change S → Change K → Change E → Type 0
+AreUnused source out errors = (source.new ≡ source.old) × (out.new ≡ out.old) × (errors.new ≡ errors.old)
 
--- One of two sinks failed, once, where the status is `WriteFault`; else none did. Counts are before and after.
-abbrev pub OneFailed : ℕ × ℕ → ℕ × ℕ → Type 0
-OneFailed out errors = (Rose out.0 out.1 × (errors.1 ≡ errors.0)) ⊎ ((out.1 ≡ out.0) × Rose errors.0 errors.1)
+-- One of two sinks failed, once, where the status is `WriteFault`; else none did. Each sink is given by its count of faults.
+abbrev pub OneFailed : Change ℕ → Change ℕ → Type 0
+OneFailed out errors = (Rose out.old out.new × (errors.new ≡ errors.old)) ⊎ ((out.new ≡ out.old) × Rose errors.old errors.new)
 
-pub record HaveCause (out errors : ℕ × ℕ) (status : Status) : Type 0 where
+pub record HaveCause (out errors : Change ℕ) (status : Status) : Type 0 where
   pub one : status ≡ WriteFault → OneFailed out errors
-  pub neither : (status ≡ WriteFault → ⊥) → (out.1 ≡ out.0) × (errors.1 ≡ errors.0)
+  pub neither : (status ≡ WriteFault → ⊥) → (out.new ≡ out.old) × (errors.new ≡ errors.old)

@@ -6,7 +6,8 @@ use Rattle.mt_text.specs.Number.{decimal_number}
 use Rattle.mt_text.specs.declared.fault.NumberFault.{NumberFault}
 use Rattle.mt_import.specs.declared.reading.LineSays.{LineSays}
 use Rattle.mt_import.specs.declared.reading.LineSays.TheVariants.{Nothing, Turns}
-use Rattle.mt_import.specs.Pieces.{before, is_text, prefixed_register, shows_one, unread_processor, whole_number}
+use Rattle.mt_import.specs.declared.reading.Turn.TheVariants.{To, Unread}
+use Rattle.mt_import.specs.Pieces.{before, is_text, prefixed_register, shows_one, whole_number}
 
 -- a value by its upper and its lower half
 abbrev pub of_halves : Option ℕ → Option ℕ → Option ℕ
@@ -26,13 +27,13 @@ abbrev pub halves_value : List ℕ → Option ℕ
 halves_value word = halves_at word (position is_colon word)
 
 abbrev pub turned_to : Result ℕ NumberFault → LineSays
-turned_to (Ok processor) = Turns processor
-turned_to (Err fault) = Turns unread_processor
+turned_to (Ok processor) = Turns (To processor)
+turned_to (Err fault) = Turns Unread
 
 -- `N)`
 abbrev pub turned_by : Option (List ℕ) → LineSays
 turned_by (Some digits) = turned_to (decimal_number digits 65535)
-turned_by None = Turns unread_processor
+turned_by None = Turns Unread
 
 -- `MSR 0x000000FE = 0x00000000:0x00000D08 (IA32_MTRRCAP)`
 abbrev pub is_register_line : List (ℕ × List ℕ) → Bool
@@ -49,7 +50,7 @@ is_unique words = is_text (codes "UNIQUE") (text_of words 1) && is_text (codes "
 abbrev pub said_by_words : ℕ → List (ℕ × List ℕ) → LineSays
 said_by_words number words =
     if is_register_line words then shows_one None (prefixed_register (text_of words 1)) (halves_value (text_of words 3)) (place_of number words 3)
-    else if is_shared words then Turns 0
+    else if is_shared words then Turns (To 0)
     else if is_unique words then turned_by (before (codes ")") (text_of words 4))
     else Nothing
 

@@ -10,6 +10,7 @@ use Rattle.mt_text.specs.Number.{hex_number, decimal_number}
 use Rattle.mt_text.specs.declared.place.Place.{Place}
 use Rattle.mt_import.specs.declared.reading.LineSays.{LineSays}
 use Rattle.mt_import.specs.declared.reading.LineSays.TheVariants.{Nothing, Shows, Begins, FixedRanges, VariableRanges}
+use Rattle.mt_import.specs.declared.shape.FixedRun.{FixedRun}
 use Rattle.mt_import.specs.declared.shape.Shown.{Shown}
 use Rattle.mt_import.specs.Pieces.{is_text, number_in, shown_bits, value_at}
 use Rattle.mt_import.specs.LineWords.{kernel_end, words_behind}
@@ -78,24 +79,26 @@ run_bytes first end at =
 abbrev pub fixed_by : ℕ → ℕ → ℕ → Place → Option Shown
 fixed_by number bytes code place = if bytes == 0 then None else shown_bits number (255 * bytes) (code * bytes) place
 
--- the fixed-range register whose ranges begin with this one
-abbrev pub fixed_shown : ℕ → ℕ → ℕ → Place → ℕ → ℕ → Option Shown
-fixed_shown first end code place at number = fixed_by number (run_bytes first end at) code place
+-- a run from one fixed range up to another, which it doesn't have
+abbrev pub fixed_run : ℕ → ℕ → ℕ → Place → FixedRun
+fixed_run first end code place = record { first = first; end = end; code = code; place = place }
 
--- a run of ranges of one type
-abbrev pub all_fixed_shown : ℕ → ℕ → ℕ → Place → List (Option Shown)
-all_fixed_shown first end code place =
-    fixed_shown first end code place 0 0x250 ∷ fixed_shown first end code place 8 0x258 ∷ fixed_shown first end code place 16 0x259
-    ∷ fixed_shown first end code place 24 0x268 ∷ fixed_shown first end code place 32 0x269 ∷ fixed_shown first end code place 40 0x26a
-    ∷ fixed_shown first end code place 48 0x26b ∷ fixed_shown first end code place 56 0x26c ∷ fixed_shown first end code place 64 0x26d
-    ∷ fixed_shown first end code place 72 0x26e ∷ fixed_shown first end code place 80 0x26f ∷ []
+-- the fixed-range register whose ranges begin with this one
+abbrev pub fixed_shown : FixedRun → ℕ → ℕ → Option Shown
+fixed_shown run at number = fixed_by number (run_bytes run.first run.end at) run.code run.place
+
+-- all that a run shows
+abbrev pub all_fixed_shown : FixedRun → List (Option Shown)
+all_fixed_shown run =
+    fixed_shown run 0 0x250 ∷ fixed_shown run 8 0x258 ∷ fixed_shown run 16 0x259 ∷ fixed_shown run 24 0x268 ∷ fixed_shown run 32 0x269 ∷ fixed_shown run 40 0x26a
+    ∷ fixed_shown run 48 0x26b ∷ fixed_shown run 56 0x26c ∷ fixed_shown run 64 0x26d ∷ fixed_shown run 72 0x26e ∷ fixed_shown run 80 0x26f ∷ []
 
 abbrev pub types_said : Option ℕ → Option ℕ → Option ℕ → Place → LineSays
 types_said None end code place = Nothing
 types_said (Some first) None code place = Nothing
 types_said (Some first) (Some end) None place = Nothing
 types_said (Some first) (Some end) (Some code) place =
-    if nat_lt first end then Shows (Some 0) (all_fixed_shown first end code place) else Nothing
+    if nat_lt first end then Shows (Some 0) (all_fixed_shown (fixed_run first end code place)) else Nothing
 
 abbrev pub addresses_said : Option ℕ → Option ℕ → Option ℕ → Place → LineSays
 addresses_said None last code place = Nothing

@@ -75,16 +75,21 @@ abbrev pub capabilities_shown : List Reading → Slot
 capabilities_shown [] = blank_slot
 capabilities_shown (reading ∷ before) = capabilities_after reading (capabilities_shown before)
 
--- The pair of a reading that shows V, bit 11 of PhysMask, as set. It is counted from 1, and is 0 where the reading shows something else.
-abbrev pub enabled_pair : Reading → ℕ
-enabled_pair reading = if is_pair_number reading.number && reading.number % 2 == 1 && is_bit_set reading.value 11 then (reading.number - 0x1ff) / 2 else 0
+-- The least VCNT that a reading allows: it counts the pair whose V, bit 11 of PhysMask, the reading shows as set.
+abbrev pub least_count : Reading → ℕ
+least_count reading = if is_pair_number reading.number && reading.number % 2 == 1 && is_bit_set reading.value 11 then (reading.number - 0x1ff) / 2 else 0
+
+-- the least VCNT with this last pair
+abbrev pub count_of : Option LastPair → ℕ
+count_of None = 0
+count_of (Some last) = last.count
 
 -- the last pair whose V is shown as set, behind one more reading
-abbrev pub last_after : Reading → LastPair → LastPair
-last_after reading before = if nat_lt before.count (enabled_pair reading) then record { count = enabled_pair reading; line = reading.place.line } else before
+abbrev pub last_after : Reading → Option LastPair → Option LastPair
+last_after reading before = if nat_lt (count_of before) (least_count reading) then Some (record { count = least_count reading; line = reading.place.line }) else before
 
-abbrev pub last_shown : List Reading → LastPair
-last_shown [] = record { count = 0; line = 0 }
+abbrev pub last_shown : List Reading → Option LastPair
+last_shown [] = None
 last_shown (reading ∷ before) = last_after reading (last_shown before)
 
 -- A reading that shows that a fixed-range register isn't 0. No other register's number is between theirs.
@@ -119,16 +124,19 @@ counts_fewer (Some capabilities) pairs = nat_lt (low_byte capabilities) pairs
 abbrev pub counted : Slot → Option ℕ
 counted capabilities = if capabilities.bits % 256 == 255 then Some capabilities.value else None
 
--- A capability register that lines show before has other bits, or VCNT doesn't count a pair that they show as enabled.
-abbrev pub capability_rival : Slot → LastPair → Reading → Option Rival
-capability_rival capabilities last reading =
-    if clashes capabilities reading then Some (Line capabilities.line)
-    else if counts_fewer (counted (slot_with capabilities reading)) last.count then Some (RegisterLine last.line)
-    else None
+-- a last pair that VCNT doesn't count
+abbrev pub uncounted_rival : Option ℕ → Option LastPair → Option Rival
+uncounted_rival capabilities None = None
+uncounted_rival capabilities (Some last) = if counts_fewer capabilities last.count then Some (RegisterLine last.line) else None
 
-abbrev pub count_rival : Slot → LastPair → Reading → Option Rival
+-- A capability register that lines show before has other bits, or VCNT doesn't count a pair that they show as enabled.
+abbrev pub capability_rival : Slot → Option LastPair → Reading → Option Rival
+capability_rival capabilities last reading =
+    if clashes capabilities reading then Some (Line capabilities.line) else uncounted_rival (counted (slot_with capabilities reading)) last
+
+abbrev pub count_rival : Slot → Option LastPair → Reading → Option Rival
 count_rival capabilities last reading =
-    if counts_fewer (counted capabilities) (enabled_pair reading) then Some (CapabilityLine capabilities.line)
+    if counts_fewer (counted capabilities) (least_count reading) then Some (CapabilityLine capabilities.line)
     else if reading.number == 0xfe then capability_rival capabilities last reading
     else None
 
@@ -136,7 +144,7 @@ count_rival capabilities last reading =
 abbrev pub rival : Supplied → List Reading → Reading → Option Rival
 rival supplied before reading =
     if bits_differ (supplied_value supplied reading.number) reading.bits reading.value then Some Word
-    else if counts_fewer (supplied_value supplied 0xfe) (enabled_pair reading) then Some CapabilityWord
+    else if counts_fewer (supplied_value supplied 0xfe) (least_count reading) then Some CapabilityWord
     else if clashes (slot_shown before reading.processor reading.number) reading then Some (Line (slot_shown before reading.processor reading.number).line)
     else count_rival (capabilities_shown before) (last_shown before) reading
 
@@ -408,53 +416,80 @@ refusal tally missing = record { notes = []; dump = []; reasons = count_line tal
 abbrev pub Slots : Type 0
 Slots = ℕ → ℕ → Slot
 
+-- what the lines of a log show: each processor's registers, how many processors there are, and the width and the format
+pub record Findings : Type 0 where
+  pub slots : Slots
+  pub count : ℕ
+  pub shown : Known
+
 -- what is known of a log, of which lines may show the width
-abbrev pub known_by : Supplied → Slots → Known → Known
-known_by supplied slots shown = record { width = width_by supplied slots shown.width; format = shown.format }
+abbrev pub known_by : Supplied → Findings → Known
+known_by supplied found = record { width = width_by supplied found.slots found.shown.width; format = found.shown.format }
 
 -- the values of each processor's registers
-unfoldable pub values_of : Supplied → Slots → Known → ℕ → ℕ → Option ℕ
-values_of supplied slots shown k number = value_by supplied slots (known_by supplied slots shown) k number
+unfoldable pub values_of : Supplied → Findings → ℕ → ℕ → Option ℕ
+values_of supplied found k number = value_by supplied found.slots (known_by supplied found) k number
 
 -- those that aren't assumed
-unfoldable pub firm_of : Supplied → Slots → ℕ → ℕ → Option ℕ
-firm_of supplied slots k number = firm_value supplied (slots k) number
+unfoldable pub firm_of : Supplied → Findings → ℕ → ℕ → Option ℕ
+firm_of supplied found k number = firm_value supplied (found.slots k) number
 
 -- what processor 0's register would be if all were assumed
-unfoldable pub hint_of : Supplied → Slots → Known → ℕ → Option ℕ
-hint_of supplied slots shown number = assumed_value all_assumed (slots 0) (record { width = or_supplied (width_by supplied slots shown.width) (Some 52); format = shown.format }) number
+unfoldable pub hint_of : Supplied → Findings → ℕ → Option ℕ
+hint_of supplied found number =
+    assumed_value all_assumed (found.slots 0) (record { width = or_supplied (width_by supplied found.slots found.shown.width) (Some 52); format = found.shown.format }) number
 
-abbrev pub missing_of : Supplied → Slots → ℕ → Known → List ℕ
-missing_of supplied slots count shown =
-    missing_width (width_by supplied slots shown.width) (widest (masks_in supplied (slots 0) 32))
-    ++ missing_lines (hint_of supplied slots shown) (values_of supplied slots shown) count (needed (values_of supplied slots shown 0 0xfe))
+abbrev pub missing_of : Supplied → Findings → List ℕ
+missing_of supplied found =
+    missing_width (width_by supplied found.slots found.shown.width) (widest (masks_in supplied (found.slots 0) 32))
+    ++ missing_lines (hint_of supplied found) (values_of supplied found) found.count (needed (values_of supplied found 0 0xfe))
 
-abbrev pub notes_of : Supplied → Slots → ℕ → Known → List ℕ
-notes_of supplied slots count shown =
-    width_note (firm_width supplied shown.width) (width_by supplied slots shown.width)
-    ++ note_lines (firm_of supplied slots) (values_of supplied slots shown) count (needed (values_of supplied slots shown 0 0xfe))
+abbrev pub notes_of : Supplied → Findings → List ℕ
+notes_of supplied found =
+    width_note (firm_width supplied found.shown.width) (width_by supplied found.slots found.shown.width)
+    ++ note_lines (firm_of supplied found) (values_of supplied found) found.count (needed (values_of supplied found 0 0xfe))
 
--- the dump, where its width and its capability register are known
-abbrev pub dump_outcome : Outcome → (ℕ → ℕ → Option ℕ) → ℕ → List ℕ → List ℕ → Option ℕ → Option ℕ → Outcome
-dump_outcome refused values count notes reasons (Some width) (Some capabilities) = record { notes = notes; dump = canon (dump_in values count width capabilities); reasons = reasons; status = Done }
-dump_outcome refused values count notes reasons (Some width) None = refused
-dump_outcome refused values count notes reasons None capabilities = refused
+-- what there is to tell at the end of a log
+pub record Summary : Type 0 where
+  pub missing : List ℕ  -- lines on what a dump needs and hasn't
+  pub notes : List ℕ  -- comments on what was assumed
+  pub values : ℕ → ℕ → Option ℕ  -- each processor's registers
+  pub count : ℕ  -- how many processors there are
+  pub width : Option ℕ
+  pub tally : Tally
+  pub auto : Bool  -- The format was told by lines, and not by a word.
+
+abbrev pub summary_of : Bool → Supplied → Findings → Tally → Summary
+summary_of auto supplied found tally = record {
+  missing = missing_of supplied found;
+  notes = notes_of supplied found;
+  values = values_of supplied found;
+  count = found.count;
+  width = width_by supplied found.slots found.shown.width;
+  tally = tally;
+  auto = auto;
+}
+
+-- the dump, where its width and its capability register are known, or else this refusal
+abbrev pub dump_outcome : Outcome → Summary → Option ℕ → Option ℕ → Outcome
+dump_outcome refused told (Some width) (Some capabilities) = record {
+  notes = told.notes;
+  dump = canon (dump_in told.values told.count width capabilities);
+  reasons = remarks told.auto told.tally;
+  status = Done;
+}
+dump_outcome refused told (Some width) None = refused
+dump_outcome refused told None capabilities = refused
 
 -- the dump, or what is missing
-abbrev pub ended_by : List ℕ → List ℕ → Tally → Bool → (ℕ → ℕ → Option ℕ) → ℕ → Option ℕ → Outcome
-ended_by missing notes tally auto values count width =
-    if is_empty missing then dump_outcome (refusal tally missing) values count notes (remarks auto tally) width (values 0 0xfe) else refusal tally missing
+abbrev pub ended_by : Summary → Outcome
+ended_by told = if is_empty told.missing then dump_outcome (refusal told.tally told.missing) told told.width (told.values 0 0xfe) else refusal told.tally told.missing
 
-abbrev pub ended_with : Bool → Supplied → Slots → ℕ → Known → Tally → Outcome
-ended_with auto supplied slots count shown tally =
-    ended_by (missing_of supplied slots count shown) (notes_of supplied slots count shown) tally auto (values_of supplied slots shown) count (width_by supplied slots shown.width)
-
--- the width that lines show, and the format of the log
-abbrev pub known_of : Seen → Known
-known_of seen = record { width = seen.width; format = seen.tally.format }
+abbrev pub findings_of : Seen → Findings
+findings_of seen = record { slots = slot_shown seen.readings; count = processors seen.readings; shown = record { width = seen.width; format = seen.tally.format } }
 
 abbrev pub ended : Bool → Supplied → Seen → Outcome
-ended auto supplied seen = ended_with auto supplied (slot_shown seen.readings) (processors seen.readings) (known_of seen) seen.tally
+ended auto supplied seen = ended_by (summary_of auto supplied (findings_of seen) seen.tally)
 
 abbrev pub unless : Option ImportFault → Outcome → Outcome
 unless (Some fault) told = record { notes = []; dump = []; reasons = fault_line fault; status = BadText }

@@ -66,7 +66,7 @@ abbrev pub value_at : ℕ → Place → Option ℕ → Option Shown
 value_at number place None = None
 value_at number place (Some value) = shown_as number value place
 
--- A processor that no dump has. Lines behind one that turns to a processor whose number can't be read are of it.
+-- A processor that no dump has. Registers of a processor that isn't known are of it.
 abbrev pub unread_processor : ℕ
 unread_processor = 65535
 

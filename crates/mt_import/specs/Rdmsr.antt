@@ -1,12 +1,14 @@
 -- Lines of `set -x` over `rdmsr` of msr-tools (own).
 --     rdmsr_said number line      what a line of this number says
-use Rattle.std.specs.Prelude.{ℕ, zero, suc, ◌+◌, ◌==◌, ◌&&◌, ◌||◌, codes, Bool, false, List, [], ◌∷◌, length, if◌then◌else◌, Option, Some, None, Result, Ok, Err, unwrap_or}
+use Rattle.std.specs.Prelude.{ℕ, zero, suc, ◌+◌, ◌==◌, ◌&&◌, ◌||◌, codes, Bool, false, List, [], ◌∷◌, length, if◌then◌else◌, Option, Some, None, Result, Ok, Err}
 use Rattle.mt_text.specs.Text.{words_of}
 use Rattle.mt_text.specs.Words.{text_of, place_of}
 use Rattle.mt_text.specs.Number.{hex_number, decimal_number}
 use Rattle.mt_text.specs.declared.fault.NumberFault.{NumberFault}
 use Rattle.mt_text.specs.declared.place.Place.{Place}
 use Rattle.mt_import.specs.declared.reading.LineSays.{LineSays}
+use Rattle.mt_import.specs.declared.reading.Turn.{Turn}
+use Rattle.mt_import.specs.declared.reading.Turn.TheVariants.{To, UnreadCall}
 use Rattle.mt_import.specs.Pieces.{before, behind, is_prefixed, is_text, number_in, prefixed_register, register_in, shows_one}
 use Rattle.mt_import.specs.declared.reading.LineSays.TheVariants.{Nothing, Announces, Turns, Value}
 
@@ -21,13 +23,13 @@ register_named word =
 abbrev pub is_hex_option : List ℕ → Bool
 is_hex_option word = is_text (codes "-0") word || is_text (codes "-x") word || is_text (codes "-X") word || is_text (codes "-c") word
 
--- Columns behind a call that isn't read are of this processor, which no dump has: neither their base nor their processor is known. It isn't `unread_processor`, so that the call tells its format.
-abbrev pub unread_call : ℕ
-unread_call = 65534
+-- Columns behind a call that is read but for its register are of its processor, where it names one.
+abbrev pub call_of : Option ℕ → Turn
+call_of None = UnreadCall
+call_of (Some processor) = To processor
 
--- Columns behind a call that is read but for its register are of its processor.
 abbrev pub announced : Option ℕ → Option ℕ → LineSays
-announced processor None = Turns (unwrap_or processor unread_call)
+announced processor None = Turns (call_of processor)
 announced processor (Some number) = Announces processor number
 
 -- a `0` with more behind it, which is octal
@@ -65,12 +67,12 @@ option_at at processor words =
 
 -- what a call says behind an option, where the rest says something
 abbrev pub call_behind : (ℕ → Option ℕ → LineSays) → Option (ℕ × Option ℕ) → LineSays
-call_behind rest None = Turns unread_call
+call_behind rest None = Turns UnreadCall
 call_behind rest (Some found) = rest found.0 found.1
 
 -- the words of a call from this one on: options, so many at most, and the register
 abbrev pub call_from : ℕ → ℕ → Option ℕ → List (ℕ × List ℕ) → LineSays
-call_from zero at processor words = if length words == at + 1 then announced processor (register_named (text_of words at)) else Turns unread_call
+call_from zero at processor words = if length words == at + 1 then announced processor (register_named (text_of words at)) else Turns UnreadCall
 call_from (suc options) at processor words =
     if length words == at + 1 then announced processor (register_named (text_of words at))
     else call_behind (λ size next. call_from options (at + size) next words) (option_at at processor words)

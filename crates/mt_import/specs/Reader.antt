@@ -1,5 +1,5 @@
 -- What a reader of a log keeps of the facts that it has taken (own).
-use Rattle.std.specs.Prelude.{ℕ, ◌≡◌, ◌≤◌, ◌+◌, ◌-◌, ◌*◌, ◌==◌, nat_lt, List, length, if◌then◌else◌, Option, Some, None, IfSome, ⊤}
+use Rattle.std.specs.Prelude.{ℕ, ◌≡◌, ◌≤◌, ◌+◌, ◌-◌, ◌*◌, ◌==◌, nat_lt, Bool, List, length, if◌then◌else◌, Option, Some, None, IfSome, ⊤}
 use Rattle.std.specs.List.{slice_index_or}
 use Rattle.mt_regs.specs.RegisterFile.{low_byte}
 use Rattle.mt_regs.specs.Registers.{HasThreeDigits}
@@ -11,14 +11,13 @@ use Rattle.mt_import.specs.declared.shape.Slot.{Slot}
 use Rattle.mt_import.specs.declared.shape.Tally.{Tally}
 use Rattle.mt_import.specs.Slot.{blank_slot}
 use Rattle.mt_import.specs.Supplied.{Supplied}
-use Rattle.mt_import.specs.Values.{Known}
-use Rattle.mt_import.specs.Outcome.{Seen, capabilities_shown, last_fixed_line, last_shown, processors, slot_shown, values_of}
+use Rattle.mt_import.specs.Outcome.{Findings, Seen, Summary, capabilities_shown, firm_of, hint_of, last_fixed_line, last_shown, processors, slot_shown, summary_of, values_of}
 
 pub record State : Type 0 where
   pub context : Context
   pub slots : List Slot  -- 257 for each processor
   pub capabilities : Slot
-  pub last : LastPair
+  pub last : Option LastPair
   pub line_of_fixed : Option ℕ
   pub processors : ℕ
   pub width : Option ℕ
@@ -37,21 +36,38 @@ held_at slots processor (Some slot) = slice_index_or slots (257 * processor + sl
 abbrev pub slots_of : State → ℕ → ℕ → Slot
 slots_of state processor number = held_at state.slots processor (slot_of number)
 
--- the width that lines show, and the format of the log
-abbrev pub known_in : State → Known
-known_in state = record { width = state.width; format = state.tally.format }
+abbrev pub findings_in : State → Findings
+findings_in state = record { slots = slots_of state; count = state.processors; shown = record { width = state.width; format = state.tally.format } }
 
 -- the values of each processor's registers
 abbrev pub values_in : Supplied → State → ℕ → ℕ → Option ℕ
-values_in supplied state = values_of supplied (slots_of state) (known_in state)
+values_in supplied state = values_of supplied (findings_in state)
+
+-- those that aren't assumed
+abbrev pub firm_in : Supplied → State → ℕ → ℕ → Option ℕ
+firm_in supplied state = firm_of supplied (findings_in state)
+
+-- what processor 0's register would be if all were assumed
+abbrev pub hint_in : Supplied → State → ℕ → Option ℕ
+hint_in supplied state = hint_of supplied (findings_in state)
+
+abbrev pub summary_in : Bool → Supplied → State → Summary
+summary_in auto supplied state = summary_of auto supplied (findings_in state) state.tally
 
 -- a width that a dump may have
 abbrev pub IsFit : ℕ → Type 0
 IsFit width = (32 ≤ width) × (width ≤ 52)
 
+-- What every reader keeps: a dump of so many processors, of this width and of their pairs may be made.
+pub record IsReader (slots : List Slot) (processors : ℕ) (width : Option ℕ) : Type 0 where
+  pub size : length slots ≡ 4112
+  pub some : 1 ≤ processors
+  pub few : processors ≤ 16
+  pub fit : IfSome width IsFit
+  pub pairs : (processor : ℕ) → low_byte (held_at slots processor (slot_of 0xfe)).value ≤ 32
+
 -- A reader has taken these facts.
 pub record HasTaken (state : State) (seen : Seen) : Type 0 where
-  pub size : length state.slots ≡ 4112
   pub slots_are : (processor number : ℕ) → slots_of state processor number ≡ slot_shown seen.readings processor number
   pub capabilities_is : state.capabilities ≡ capabilities_shown seen.readings
   pub last_is : state.last ≡ last_shown seen.readings
@@ -60,10 +76,6 @@ pub record HasTaken (state : State) (seen : Seen) : Type 0 where
   pub width_is : state.width ≡ seen.width
   pub line_of_width_is : state.line_of_width ≡ seen.line_of_width
   pub tally_is : state.tally ≡ seen.tally
-  pub some : 1 ≤ processors seen.readings
-  pub few : processors seen.readings ≤ 16
-  pub pairs : (processor : ℕ) → low_byte (slot_shown seen.readings processor 0xfe).value ≤ 32
-  pub fit : IfSome seen.width IsFit
 
 -- the register's number has three hexadecimal digits at most
 abbrev pub IsShort : ImportFault → Type 0

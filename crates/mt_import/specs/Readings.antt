@@ -13,6 +13,8 @@ use Rattle.mt_import.specs.declared.format.Format.{Format}
 use Rattle.mt_import.specs.declared.reading.Context.{Context}
 use Rattle.mt_import.specs.declared.reading.LineSays.{LineSays}
 use Rattle.mt_import.specs.declared.reading.LineSays.TheVariants.{Nothing, Announces, Value, Turns, Shows, Begins, FixedRanges, VariableRanges, Width, Warns, Long}
+use Rattle.mt_import.specs.declared.reading.Turn.{Turn}
+use Rattle.mt_import.specs.declared.reading.Turn.TheVariants.{To, Unread, UnreadCall}
 use Rattle.mt_import.specs.declared.shape.Announced.{Announced}
 use Rattle.mt_import.specs.declared.shape.FixedLine.{FixedLine}
 use Rattle.mt_import.specs.declared.shape.Reading.{Reading}
@@ -37,13 +39,13 @@ pub data Fact : Type 0 where
 
 -- before all lines
 abbrev pub starts : Option Format → Context
-starts format = record { format = format; announced = None; processor = 0; table = 0; fixed = None }
+starts format = record { format = format; announced = None; processor = Some 0; table = 0; fixed = None }
 
 abbrev pub is_match : LineSays → Bool
 is_match Nothing = false
 is_match (Announces processor number) = true
 is_match (Value value place) = true
-is_match (Turns processor) = true
+is_match (Turns turn) = true
 is_match (Shows processor shows) = true
 is_match (Begins shows) = true
 is_match (FixedRanges enabled alone place) = true
@@ -75,6 +77,11 @@ two_shown a b = a ∷ b ∷ None ∷ None ∷ None ∷ None ∷ None ∷ None �
 abbrev pub one_shown : Option Shown → List (Option Shown)
 one_shown a = two_shown a None
 
+-- the processor that a line names, or else the one that lines are of, or else one that no dump has
+abbrev pub named_processor : Option ℕ → Option ℕ → ℕ
+named_processor (Some processor) current = processor
+named_processor None current = unwrap_or current unread_processor
+
 -- A value belongs to the register that the line just before announces.
 abbrev pub value_facts : Option Announced → ℕ → ℕ → Place → List Fact
 value_facts None table value place = []
@@ -101,23 +108,22 @@ variable_bits context enabled = if enabled && is_off context.fixed context.table
 abbrev pub variable_shows : Context → Bool → Place → List (Option Shown)
 variable_shows context enabled place = one_shown (shown_bits 0x2ff (variable_bits context enabled) (if enabled then 0x800 else 0) place)
 
--- Lines on fixed ranges have to agree.
 abbrev pub unlike : Bool → Bool → Bool
 unlike true on = not on
 unlike false on = on
 
-abbrev pub is_fixed_clash : Option FixedLine → Bool → Bool
-is_fixed_clash None enabled = false
-is_fixed_clash (Some line) enabled = unlike line.is_enabled enabled
+-- the line on fixed ranges before, where it says something else
+abbrev pub fixed_clash : Option FixedLine → Bool → Option ℕ
+fixed_clash None enabled = None
+fixed_clash (Some line) enabled = if unlike line.is_enabled enabled then Some line.line else None
 
-abbrev pub fixed_line : Option FixedLine → ℕ
-fixed_line None = 0
-fixed_line (Some line) = line.line
+-- Lines on fixed ranges have to agree.
+abbrev pub unless_clash : Option ℕ → Place → List Fact → List Fact
+unless_clash None place facts = facts
+unless_clash (Some line) place facts = is_fault (Contradiction place 0x2ff (Line line)) ∷ []
 
 abbrev pub fixed_facts : Context → Bool → Bool → Place → List Fact
-fixed_facts context enabled alone place =
-    if is_fixed_clash context.fixed enabled then is_fault (Contradiction place 0x2ff (Line (fixed_line context.fixed))) ∷ []
-    else shows_facts 0 context.table (fixed_shows enabled alone place)
+fixed_facts context enabled alone place = unless_clash (fixed_clash context.fixed enabled) place (shows_facts 0 context.table (fixed_shows enabled alone place))
 
 -- ---- a line
 
@@ -126,8 +132,8 @@ abbrev pub said_facts : Context → LineSays → List Fact
 said_facts context Nothing = []
 said_facts context (Announces processor number) = []
 said_facts context (Value value place) = value_facts context.announced context.table value place
-said_facts context (Turns processor) = []
-said_facts context (Shows processor shows) = shows_facts (unwrap_or processor context.processor) context.table shows
+said_facts context (Turns turn) = []
+said_facts context (Shows processor shows) = shows_facts (named_processor processor context.processor) context.table shows
 said_facts context (Begins shows) = shows_facts 0 (one_more context.table) shows
 said_facts context (FixedRanges enabled alone place) = fixed_facts context enabled alone place
 said_facts context (VariableRanges enabled place) = shows_facts 0 context.table (variable_shows context enabled place)
@@ -154,7 +160,7 @@ abbrev pub announced_after : LineSays → Option Announced → Option Announced
 announced_after (Announces processor number) before = Some (announced_by processor number)
 announced_after (Value value place) before = next_announced before
 announced_after Nothing before = None
-announced_after (Turns processor) before = None
+announced_after (Turns turn) before = None
 announced_after (Shows processor shows) before = None
 announced_after (Begins shows) before = None
 announced_after (FixedRanges enabled alone place) before = None
@@ -163,15 +169,15 @@ announced_after (Width width place) before = None
 announced_after Warns before = None
 announced_after (Long place) before = None
 
--- Lines behind a call of all processors tell none.
-abbrev pub processor_called : Option ℕ → ℕ
-processor_called (Some processor) = processor
-processor_called None = unread_processor
+abbrev pub processor_turned_to : Turn → Option ℕ
+processor_turned_to (To processor) = Some processor
+processor_turned_to Unread = None
+processor_turned_to UnreadCall = None
 
--- the processor that lines behind this line are of
-abbrev pub processor_after : LineSays → ℕ → ℕ
-processor_after (Turns processor) before = processor
-processor_after (Announces processor number) before = processor_called processor
+-- The processor that lines behind this line are of. Behind a call of all processors none is known.
+abbrev pub processor_after : LineSays → Option ℕ → Option ℕ
+processor_after (Turns turn) before = processor_turned_to turn
+processor_after (Announces processor number) before = processor
 processor_after Nothing before = before
 processor_after (Value value place) before = before
 processor_after (Shows processor shows) before = before
@@ -188,7 +194,7 @@ table_behind (Begins shows) before = one_more before
 table_behind Nothing before = before
 table_behind (Announces processor number) before = before
 table_behind (Value value place) before = before
-table_behind (Turns processor) before = before
+table_behind (Turns turn) before = before
 table_behind (Shows processor shows) before = before
 table_behind (FixedRanges enabled alone place) before = before
 table_behind (VariableRanges enabled place) before = before
@@ -202,7 +208,7 @@ fixed_after (FixedRanges enabled alone place) table before = Some (record { is_e
 fixed_after Nothing table before = before
 fixed_after (Announces processor number) table before = before
 fixed_after (Value value place) table before = before
-fixed_after (Turns processor) table before = before
+fixed_after (Turns turn) table before = before
 fixed_after (Shows processor shows) table before = before
 fixed_after (Begins shows) table before = before
 fixed_after (VariableRanges enabled place) table before = before

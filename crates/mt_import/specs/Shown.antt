@@ -11,9 +11,10 @@ use Rattle.mt_import.specs.declared.format.Format.TheVariants.{Rdmsr, X86info, I
 use Rattle.mt_import.specs.declared.reading.Context.{Context}
 use Rattle.mt_import.specs.declared.reading.LineSays.{LineSays}
 use Rattle.mt_import.specs.declared.reading.LineSays.TheVariants.{Nothing, Announces, Value, Turns, Shows, Begins, FixedRanges, VariableRanges, Width, Warns, Long}
+use Rattle.mt_import.specs.declared.reading.Turn.{Turn}
+use Rattle.mt_import.specs.declared.reading.Turn.TheVariants.{To, Unread, UnreadCall}
 use Rattle.mt_import.specs.Coreboot.{coreboot_said}
 use Rattle.mt_import.specs.Inteltool.{inteltool_said}
-use Rattle.mt_import.specs.Pieces.{unread_processor}
 use Rattle.mt_import.specs.Rdmsr.{rdmsr_said}
 use Rattle.mt_import.specs.X86info.{sizes_said, x86info_said}
 use Rattle.mt_import.specs.Edk2.{edk2_said}
@@ -39,7 +40,7 @@ abbrev pub said_or_sizes : LineSays → ℕ → List ℕ → LineSays
 said_or_sizes Nothing number line = said_in_each number line
 said_or_sizes (Announces processor register) number line = Announces processor register
 said_or_sizes (Value value place) number line = Value value place
-said_or_sizes (Turns processor) number line = Turns processor
+said_or_sizes (Turns turn) number line = Turns turn
 said_or_sizes (Shows processor shows) number line = Shows processor shows
 said_or_sizes (Begins shows) number line = Begins shows
 said_or_sizes (FixedRanges enabled alone place) number line = FixedRanges enabled alone place
@@ -56,7 +57,13 @@ said_of format number line =
 
 -- ---- `auto`: the format of the first line that tells it
 
--- A value alone tells no format. Nor does a line that turns to processor 0, or to one whose number can't be read.
+-- A line that turns to processor 0 tells no format, nor does one that turns to a processor whose number can't be read.
+abbrev pub tells_turn : Turn → Bool
+tells_turn (To processor) = nat_lt 0 processor
+tells_turn Unread = false
+tells_turn UnreadCall = true
+
+-- A value alone tells no format.
 abbrev pub is_telling : LineSays → Bool
 is_telling (Announces processor register) = true
 is_telling (Shows processor shows) = true
@@ -65,7 +72,7 @@ is_telling (FixedRanges enabled alone place) = true
 is_telling (VariableRanges enabled place) = true
 is_telling Nothing = false
 is_telling (Value value place) = false
-is_telling (Turns processor) = nat_lt 0 processor && nat_lt processor unread_processor
+is_telling (Turns turn) = tells_turn turn
 is_telling (Width width place) = true
 is_telling Warns = false
 is_telling (Long place) = false

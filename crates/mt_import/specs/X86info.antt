@@ -9,17 +9,18 @@ use Rattle.mt_text.specs.Number.{decimal_number}
 use Rattle.mt_text.specs.declared.fault.NumberFault.{NumberFault}
 use Rattle.mt_import.specs.declared.reading.LineSays.{LineSays}
 use Rattle.mt_import.specs.declared.reading.LineSays.TheVariants.{Nothing, Turns}
-use Rattle.mt_import.specs.Pieces.{before, behind, is_text, prefixed_register, shows_one, shows_width, unread_processor, whole_number}
+use Rattle.mt_import.specs.declared.reading.Turn.TheVariants.{To, Unread}
+use Rattle.mt_import.specs.Pieces.{before, behind, is_text, prefixed_register, shows_one, shows_width, whole_number}
 
 -- x86info counts processors from 1.
 abbrev pub turned_to : Result ℕ NumberFault → LineSays
-turned_to (Ok number) = if number == 0 then Turns unread_processor else Turns (number - 1)
-turned_to (Err fault) = Turns unread_processor
+turned_to (Ok number) = if number == 0 then Turns Unread else Turns (To (number - 1))
+turned_to (Err fault) = Turns Unread
 
 -- `N:`
 abbrev pub turned_by : Option (List ℕ) → LineSays
 turned_by (Some digits) = turned_to (decimal_number digits 65536)
-turned_by None = Turns unread_processor
+turned_by None = Turns Unread
 
 -- `(0xfe):`, cut behind its `(`, or `0x26a:`
 abbrev pub number_part : Option (List ℕ) → List ℕ → Option (List ℕ)

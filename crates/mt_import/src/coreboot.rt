@@ -1,7 +1,7 @@
 ghost use Rattle.std.specs.Prelude.{◌≡◌, ◌≤◌, Some, IfOk};
 ghost use Rattle.mt_text.specs.Number.{decimal_number};
 ghost use Rattle.mt_text.specs.Text.{words_of};
-ghost use Rattle.mt_import.specs.Coreboot.{colon_number, coreboot_said, default_from, default_named, displayed_from, fixed_16k_named, fixed_4k_by, fixed_from, fixed_of, flag_said, is_default, is_fixed, is_fixed_flag, is_fixed_of, is_page, is_pair, is_setup, is_size, is_variable_flag, level_words, of_pair, other_from, pair_digits, pair_from, register_named, said_from, said_of_id, set_from, shows_pair, size_from};
+ghost use Rattle.mt_import.specs.Coreboot.{base_value, colon_number, coreboot_said, default_from, default_named, displayed_from, fixed_16k_named, fixed_4k_by, fixed_from, fixed_of, flag_said, is_default, is_fixed, is_fixed_flag, is_fixed_of, is_page, is_pair, is_setup, is_size, is_variable_flag, level_words, mask_value, of_pair, other_from, pair_digits, pair_from, register_named, said_from, said_of_id, set_from, shows_pair, size_from};
 
 use crate::LineSays;
 use crate::kernel::default_shown;
@@ -160,17 +160,36 @@ fn is_page(address: u64) -> bool
     address < 0x10_0000_0000_0000 && address % PAGE_BYTES == 0
 }
 
+// PhysBase, with the type in its low byte.
+fn base_value(base: Option<u64>, kind: Result<u64, NumberFault>) -> Option<u64>
+    requires { IfOk kind (λ kind. kind ≤ 255) }
+    ensures { result ≡ base_value base kind }
+{
+    match (base, kind) {
+        (Some(base), Ok(kind)) if is_page(base) => Some(base + kind),
+        _ => None,
+    }
+}
+
+// PhysMask, with V set.
+fn mask_value(mask: Option<u64>) -> Option<u64>
+    ensures { result ≡ mask_value mask }
+{
+    match mask {
+        Some(mask) if is_page(mask) => Some(mask + VALID),
+        _ => None,
+    }
+}
+
 fn shows_pair(
     pair: Result<u64, NumberFault>,
-    base: Option<u64>,
-    mask: Option<u64>,
-    kind: Result<u64, NumberFault>,
     base_place: Place,
+    base: Option<u64>,
     mask_place: Place,
+    mask: Option<u64>,
 ) -> LineSays
-    requires few { IfOk pair (λ pair. pair ≤ 31) }
-    requires byte { IfOk kind (λ kind. kind ≤ 255) }
-    ensures { result ≡ shows_pair pair base mask kind base_place mask_place }
+    requires { IfOk pair (λ pair. pair ≤ 31) }
+    ensures { result ≡ shows_pair pair base_place base mask_place mask }
 {
     let Ok(pair) = pair else {
         return LineSays::Nothing;
@@ -181,14 +200,8 @@ fn shows_pair(
     let Some(mask) = mask else {
         return LineSays::Nothing;
     };
-    let Ok(kind) = kind else {
-        return LineSays::Nothing;
-    };
-    if !(is_page(base) && is_page(mask)) {
-        return LineSays::Nothing;
-    }
-    let base = shown_as(FIRST_PAIR + 2 * pair as u32, base + kind, base_place);
-    let mask = shown_as(FIRST_MASK + 2 * pair as u32, mask + VALID, mask_place);
+    let base = shown_as(FIRST_PAIR + 2 * pair as u32, base, base_place);
+    let mask = shown_as(FIRST_MASK + 2 * pair as u32, mask, mask_place);
     LineSays::Shows(None, two_shown(base, mask))
 }
 
@@ -196,13 +209,15 @@ fn pair_from(first: usize, line: &Line<'_>) -> LineSays
     requires { first ≤ 8 }
     ensures { result ≡ pair_from first line.now.number (words_of line.now.bytes.now) }
 {
+    let base = prefixed_number(word_text(line, first + 2));
+    let mask = prefixed_number(word_text(line, first + 4));
+    let kind = decimal(word_text(line, first + 6), 255);
     shows_pair(
         decimal(word_text(line, first), MOST_PAIRS),
-        prefixed_number(word_text(line, first + 2)),
-        prefixed_number(word_text(line, first + 4)),
-        decimal(word_text(line, first + 6), 255),
         word_place(line, first + 2),
+        base_value(base, kind),
         word_place(line, first + 4),
+        mask_value(mask),
     )
 }
 

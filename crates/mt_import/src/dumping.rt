@@ -1,9 +1,9 @@
-ghost use Rattle.std.specs.Prelude.{◌≡◌, ◌≤◌, ◌<◌, ◌+◌, ℕ, Some, length, map, IfSome};
+ghost use Rattle.std.specs.Prelude.{◌≡◌, ◌≤◌, ◌<◌, ◌+◌, Some, length, map};
 ghost use Rattle.mt_regs.specs.Registers.{fixed_numbers};
 ghost use Rattle.mt_kinds.specs.Bits.{is_bit_set};
 ghost use Rattle.mt_regs.specs.RegisterFile.{low_byte};
-ghost use Rattle.mt_import.specs.Outcome.{dump_in, dump_outcome, ended_with, file_of, files_of, first_pairs, fixed_of, is_empty, notes_of, refusal, remarks, value_or_zero, version_of};
-ghost use Rattle.mt_import.specs.Reader.{IsFit, known_in, slots_of, values_in};
+ghost use Rattle.mt_import.specs.Outcome.{dump_in, dump_outcome, ended_by, file_of, files_of, first_pairs, fixed_of, is_empty, refusal, remarks, value_or_zero, version_of};
+ghost use Rattle.mt_import.specs.Reader.{slots_of, summary_in, values_in};
 ghost use Rattle.mt_import.specs.Values.{width_by};
 ghost use Rattle.mt_import.specs.Import.{IsWritten, dump_text};
 
@@ -14,7 +14,7 @@ use arrayvec::ArrayVec;
 use mt_dump::{Dump, TextBuffer, append_text, canonical_text};
 use mt_kinds::is_bit_set;
 use mt_ports::Status;
-use mt_regs::{CAPABILITIES, DEFAULT_TYPE, FIRST_PAIR, PAT, RegFile};
+use mt_regs::{DEFAULT_TYPE, FIRST_PAIR, PAT, RegFile};
 
 fn pair_count(capabilities: u64) -> u8
     ensures { result ≡ low_byte capabilities }
@@ -33,7 +33,6 @@ impl LogReader {
     fn value_or_zero(&self, supplied: &Supplied, k: u32, number: u32) -> u64
         requires processor { k < 16 }
         requires number { number < 0x1000 }
-        requires fit { IfSome self.now.width IsFit }
         ensures { result ≡ value_or_zero (values_in supplied.now self.now k) number }
     {
         match self.value(supplied, k, number) {
@@ -46,7 +45,6 @@ impl LogReader {
     fn pairs(&self, supplied: &Supplied, k: u32, count: u8) -> ArrayVec<(u64, u64), 32>
         requires processor { k < 16 }
         requires few { count ≤ 32 }
-        requires fit { IfSome self.now.width IsFit }
         ensures { result.items ≡ first_pairs (values_in supplied.now self.now k) count }
     {
         let mut pairs = ArrayVec::new();
@@ -62,8 +60,7 @@ impl LogReader {
 
     // The fixed-range registers.
     fn fixed(&self, supplied: &Supplied, k: u32) -> [u64; 11]
-        requires processor { k < 16 }
-        requires fit { IfSome self.now.width IsFit }
+        requires { k < 16 }
         ensures { result ≡ map (value_or_zero (values_in supplied.now self.now k)) fixed_numbers }
     {
         [
@@ -83,8 +80,7 @@ impl LogReader {
 
     // The fixed-range registers, which are 0 without FIX.
     fn fixed_part(&self, supplied: &Supplied, k: u32, capabilities: u64) -> [u64; 11]
-        requires processor { k < 16 }
-        requires fit { IfSome self.now.width IsFit }
+        requires { k < 16 }
         ensures { result ≡ fixed_of (values_in supplied.now self.now k) (is_bit_set capabilities 8) }
     {
         if is_bit_set(capabilities, 8) {
@@ -100,7 +96,6 @@ impl LogReader {
         requires wide { 32 ≤ width }
         requires narrow { width ≤ 52 }
         requires pairs { low_byte capabilities ≤ 32 }
-        requires fit { IfSome self.now.width IsFit }
         ensures { result ≡ file_of (values_in supplied.now self.now k) width capabilities }
     {
         let count = pair_count(capabilities);
@@ -117,11 +112,9 @@ impl LogReader {
 
     // The files of all processors.
     fn files(&self, supplied: &Supplied, width: u8, capabilities: u64) -> ArrayVec<RegFile, 16>
-        requires few { self.now.processors ≤ 16 }
         requires wide { 32 ≤ width }
         requires narrow { width ≤ 52 }
         requires pairs { low_byte capabilities ≤ 32 }
-        requires fit { IfSome self.now.width IsFit }
         ensures { result.items ≡ files_of (values_in supplied.now self.now) width capabilities self.now.processors }
     {
         let mut files = ArrayVec::new();
@@ -132,12 +125,9 @@ impl LogReader {
     }
 
     fn dump(&self, supplied: &Supplied, width: u8, capabilities: u64) -> Dump
-        requires some { 1 ≤ self.now.processors }
-        requires few { self.now.processors ≤ 16 }
         requires wide { 32 ≤ width }
         requires narrow { width ≤ 52 }
         requires pairs { low_byte capabilities ≤ 32 }
-        requires fit { IfSome self.now.width IsFit }
         ensures { result ≡ dump_in (values_in supplied.now self.now) self.now.processors width capabilities }
     {
         let version = version_of(self.count());
@@ -147,13 +137,8 @@ impl LogReader {
 
     // The dump, where nothing is missing.
     fn dump_outcome(&self, is_auto: bool, supplied: &Supplied, missing: &[u8]) -> Outcome
-        requires some { 1 ≤ self.now.processors }
-        requires few { self.now.processors ≤ 16 }
-        requires pairs { (value : ℕ) → values_in supplied.now self.now 0 0xfe ≡ Some value → low_byte value ≤ 32 }
-        requires fit { IfSome self.now.width IsFit }
-        requires room { length missing.now ≤ 0x7000 }
-        ensures told { result ≡ dump_outcome (refusal self.now.tally missing.now) (values_in supplied.now self.now) self.now.processors
-            (notes_of supplied.now (slots_of self.now) self.now.processors (known_in self.now)) (remarks is_auto self.now.tally)
+        requires { length missing.now ≤ 0x7000 }
+        ensures told { result ≡ dump_outcome (refusal self.now.tally missing.now) (summary_in is_auto supplied.now self.now)
             (width_by supplied.now (slots_of self.now) self.now.width) (values_in supplied.now self.now 0 0xfe) }
         ensures written { IsWritten result.status (dump_text result) }
     {
@@ -161,7 +146,7 @@ impl LogReader {
         let Some(width) = self.width(supplied) else {
             return refusal(&tally, missing);
         };
-        let Some(capabilities) = self.value(supplied, 0, CAPABILITIES) else {
+        let Some(capabilities) = self.capabilities(supplied) else {
             return refusal(&tally, missing);
         };
         Outcome {
@@ -174,11 +159,7 @@ impl LogReader {
 
     /// The dump of all lines that were taken, or what is missing.
     pub fn finish(&self, is_auto: bool, supplied: &Supplied) -> Outcome
-        requires some { 1 ≤ self.now.processors }
-        requires few { self.now.processors ≤ 16 }
-        requires pairs { (value : ℕ) → values_in supplied.now self.now 0 0xfe ≡ Some value → low_byte value ≤ 32 }
-        requires fit { IfSome self.now.width IsFit }
-        ensures told { result ≡ ended_with is_auto supplied.now (slots_of self.now) self.now.processors (known_in self.now) self.now.tally }
+        ensures told { result ≡ ended_by (summary_in is_auto supplied.now self.now) }
         ensures written { IsWritten result.status (dump_text result) }
     {
         let missing = self.missing(supplied);

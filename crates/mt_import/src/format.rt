@@ -7,7 +7,6 @@ use crate::edk2::edk2_said;
 use crate::inteltool::inteltool_said;
 use crate::kernel::is_warning_line;
 use crate::linux::linux_said;
-use crate::pieces::UNREAD_PROCESSOR;
 use crate::rdmsr::rdmsr_said;
 use crate::x86info::{sizes_said, x86info_said};
 use crate::xen::xen_said;
@@ -123,7 +122,7 @@ fn is_telling(said: &LineSays) -> bool
         | LineSays::FixedRanges(..)
         | LineSays::VariableRanges(..)
         | LineSays::Width(..) => true,
-        LineSays::Turns(processor) => 0 < *processor && *processor < UNREAD_PROCESSOR,
+        LineSays::Turns(turn) => turn.tells(),
         _ => false,
     }
 }

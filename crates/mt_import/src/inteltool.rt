@@ -3,10 +3,8 @@ ghost use Rattle.mt_import.specs.Pieces.{before};
 ghost use Rattle.mt_text.specs.Number.{decimal_number};
 ghost use Rattle.mt_import.specs.Inteltool.{halves_at, halves_value, inteltool_said, is_colon, is_register_line, is_shared, is_unique, of_halves, said_by_words, turned_by, turned_to};
 
-use crate::LineSays;
-use crate::pieces::{
-    UNREAD_PROCESSOR, before, is_text, prefixed_register, shows_one, whole_number,
-};
+use crate::pieces::{before, is_text, prefixed_register, shows_one, whole_number};
+use crate::{LineSays, Turn};
 use mt_text::{Line, Words, decimal};
 
 const HALF: u64 = 0x1_0000_0000;
@@ -52,8 +50,8 @@ fn turned_to(digits: &[u8]) -> LineSays
     ensures { result ≡ turned_to (decimal_number digits.now 65535) }
 {
     match decimal(digits, 65535) {
-        Ok(processor) => LineSays::Turns(processor as u32),
-        Err(_) => LineSays::Turns(UNREAD_PROCESSOR),
+        Ok(processor) => LineSays::Turns(Turn::To(processor as u32)),
+        Err(_) => LineSays::Turns(Turn::Unread),
     }
 }
 
@@ -82,7 +80,7 @@ fn turned_by(word: &[u8]) -> LineSays
 {
     match before(b")", word) {
         Some(digits) => turned_to(digits),
-        None => LineSays::Turns(UNREAD_PROCESSOR),
+        None => LineSays::Turns(Turn::Unread),
     }
 }
 
@@ -98,7 +96,7 @@ fn said_by_words(words: &Words<'_>) -> LineSays
         );
     }
     if is_shared(words) {
-        LineSays::Turns(0)
+        LineSays::Turns(Turn::To(0))
     } else if is_unique(words) {
         turned_by(words.text(4))
     } else {

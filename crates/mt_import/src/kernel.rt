@@ -4,6 +4,7 @@ ghost use Rattle.mt_import.specs.Kernel.{addresses_said, all_fixed_shown, base_v
 use crate::line_words::{LineWords, kernel_end};
 use crate::pieces::{is_text, number_in, shown_bits, value_at};
 use crate::reading::{one_shown, two_shown};
+use crate::shape::FixedRun;
 use crate::{LineSays, Shown, Shows};
 use mt_kinds::PAGE_BYTES;
 use mt_regs::{DEFAULT_TYPE, FIRST_PAIR};
@@ -153,31 +154,36 @@ fn fixed_by(number: u32, bytes: u64, code: u8, place: Place) -> Option<Shown>
     }
 }
 
-fn fixed_shown(first: u32, end: u32, code: u8, place: Place, at: u32, number: u32) -> Option<Shown>
+fn fixed_shown(run: &FixedRun, at: u32, number: u32) -> Option<Shown>
     requires within { at ≤ 80 }
-    requires code { code ≤ 6 }
-    ensures { result ≡ fixed_shown first end code place at number }
+    requires code { run.now.code ≤ 6 }
+    ensures { result ≡ fixed_shown run.now at number }
 {
-    fixed_by(number, run_bytes(first, end, at), code, place)
+    fixed_by(
+        number,
+        run_bytes(run.first, run.end, at),
+        run.code,
+        run.place,
+    )
 }
 
-// A run of ranges of one type.
-fn all_fixed_shown(first: u32, end: u32, code: u8, place: Place) -> Shows
-    requires { code ≤ 6 }
-    ensures { result ≡ all_fixed_shown first end code place }
+// All that a run shows.
+fn all_fixed_shown(run: &FixedRun) -> Shows
+    requires { run.now.code ≤ 6 }
+    ensures { result ≡ all_fixed_shown run.now }
 {
     [
-        fixed_shown(first, end, code, place, 0, 0x250),
-        fixed_shown(first, end, code, place, 8, 0x258),
-        fixed_shown(first, end, code, place, 16, 0x259),
-        fixed_shown(first, end, code, place, 24, 0x268),
-        fixed_shown(first, end, code, place, 32, 0x269),
-        fixed_shown(first, end, code, place, 40, 0x26a),
-        fixed_shown(first, end, code, place, 48, 0x26b),
-        fixed_shown(first, end, code, place, 56, 0x26c),
-        fixed_shown(first, end, code, place, 64, 0x26d),
-        fixed_shown(first, end, code, place, 72, 0x26e),
-        fixed_shown(first, end, code, place, 80, 0x26f),
+        fixed_shown(run, 0, 0x250),
+        fixed_shown(run, 8, 0x258),
+        fixed_shown(run, 16, 0x259),
+        fixed_shown(run, 24, 0x268),
+        fixed_shown(run, 32, 0x269),
+        fixed_shown(run, 40, 0x26a),
+        fixed_shown(run, 48, 0x26b),
+        fixed_shown(run, 56, 0x26c),
+        fixed_shown(run, 64, 0x26d),
+        fixed_shown(run, 72, 0x26e),
+        fixed_shown(run, 80, 0x26f),
     ]
 }
 
@@ -195,7 +201,13 @@ fn types_said(first: Option<u32>, end: Option<u32>, code: Option<u8>, place: Pla
         return LineSays::Nothing;
     };
     if first < end {
-        LineSays::Shows(Some(0), all_fixed_shown(first, end, code, place))
+        let run = FixedRun {
+            first,
+            end,
+            code,
+            place,
+        };
+        LineSays::Shows(Some(0), all_fixed_shown(&run))
     } else {
         LineSays::Nothing
     }

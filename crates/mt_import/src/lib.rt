@@ -31,7 +31,7 @@ pub use fault::{ImportFault, Rival};
 pub use format::{Choice, Format};
 pub use program::program_status;
 pub use reader::{LogReader, read_log};
-pub use reading::{Context, LineSays, Shows};
+pub use reading::{Context, LineSays, Shows, Turn};
 pub use running::{import, import_apart};
 pub use shape::{Announced, FixedLine, Reading, Shown, Slot, Tally};
 pub use supplied::{Assumed, Supplied, command_of};

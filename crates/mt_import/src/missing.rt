@@ -1,9 +1,8 @@
-ghost use Rattle.std.specs.Prelude.{◌≡◌, ◌≤◌, ◌<◌, ◌+◌, ◌++◌, [], List, ℕ, Some, None, length, map, if◌then◌else◌, IfSome, is_none};
+ghost use Rattle.std.specs.Prelude.{◌≡◌, ◌≤◌, ◌<◌, ◌+◌, ◌++◌, [], Some, None, map, if◌then◌else◌, is_none};
 ghost use Rattle.arrayvec.specs.ArrayVec.{array_vec_len};
-ghost use Rattle.mt_regs.specs.RegisterFile.{low_byte};
 ghost use Rattle.mt_regs.specs.Registers.{HasThreeDigits, number_of, writable};
-ghost use Rattle.mt_import.specs.Outcome.{firm_of, hint_of, is_missing, is_value, missing_line, missing_lines, missing_of, needed, note_by, note_line, note_lines, noted, noted_of, is_noted, notes_of};
-ghost use Rattle.mt_import.specs.Reader.{IsFit, known_in, slots_of, values_in};
+ghost use Rattle.mt_import.specs.Outcome.{is_missing, is_value, missing_line, missing_lines, missing_of, needed, note_by, note_line, note_lines, noted, noted_of, is_noted, notes_of};
+ghost use Rattle.mt_import.specs.Reader.{findings_in, firm_in, hint_in, values_in};
 
 use crate::text::{append_noted, missing_line, note_by, width_hint, width_note};
 use crate::values::widest;
@@ -27,9 +26,7 @@ fn is_value(value: Option<u64>, other: u64) -> bool
 impl LogReader {
     // Whether one of the processors hasn't a register.
     fn is_missing(&self, supplied: &Supplied, number: u32) -> bool
-        requires few { self.now.processors ≤ 16 }
-        requires number { number < 0x1000 }
-        requires fit { IfSome self.now.width IsFit }
+        requires { number < 0x1000 }
         ensures { result ≡ is_missing (values_in supplied.now self.now) self.now.processors number }
     {
         'processors: for k in 0..self.count() {
@@ -42,10 +39,8 @@ impl LogReader {
 
     // The value that one of the processors has by an assumption alone.
     fn noted(&self, supplied: &Supplied, number: u32) -> Option<u64>
-        requires few { self.now.processors ≤ 16 }
-        requires number { number < 0x1000 }
-        requires fit { IfSome self.now.width IsFit }
-        ensures { result ≡ noted (firm_of supplied.now (slots_of self.now)) (values_in supplied.now self.now) self.now.processors number }
+        requires { number < 0x1000 }
+        ensures { result ≡ noted (firm_in supplied.now self.now) (values_in supplied.now self.now) self.now.processors number }
     {
         'processors: for k in 0..self.count() {
             if self.firm_value(supplied, k, number).is_none() {
@@ -59,13 +54,11 @@ impl LogReader {
 
     // Names a register that is missing.
     fn append_missing(&self, text: &mut TextBuffer, supplied: &Supplied, number: u32)
-        requires few { self.now.processors ≤ 16 }
         requires room { array_vec_len text.old + 48 ≤ 0x8000 }
         requires number { HasThreeDigits number }
-        requires fit { IfSome self.now.width IsFit }
         ensures text { text.new.items ≡ text.old.items
             ++ (if is_missing (values_in supplied.now self.now) self.now.processors number
-            then missing_line number (hint_of supplied.now (slots_of self.now) (known_in self.now) number) else []) }
+            then missing_line number (hint_in supplied.now self.now number) else []) }
         ensures size { array_vec_len text.new ≤ array_vec_len text.old + 48 }
     {
         if self.is_missing(supplied, number) {
@@ -78,8 +71,7 @@ impl LogReader {
     fn is_noted(&self, supplied: &Supplied, k: u32, number: u32, value: u64) -> bool
         requires processor { k < 16 }
         requires number { number < 0x1000 }
-        requires fit { IfSome self.now.width IsFit }
-        ensures { result ≡ is_noted (firm_of supplied.now (slots_of self.now)) (values_in supplied.now self.now) k number value }
+        ensures { result ≡ is_noted (firm_in supplied.now self.now) (values_in supplied.now self.now) k number value }
     {
         self.firm_value(supplied, k, number).is_none()
             && is_value(self.value(supplied, k, number), value)
@@ -87,10 +79,8 @@ impl LogReader {
 
     // The numbers of the processors that have this value by an assumption alone.
     fn noted_of(&self, supplied: &Supplied, number: u32, value: u64) -> LineBuffer
-        requires few { self.now.processors ≤ 16 }
-        requires number { number < 0x1000 }
-        requires fit { IfSome self.now.width IsFit }
-        ensures text { result.items ≡ noted_of (firm_of supplied.now (slots_of self.now)) (values_in supplied.now self.now) self.now.processors number value }
+        requires { number < 0x1000 }
+        ensures text { result.items ≡ noted_of (firm_in supplied.now self.now) (values_in supplied.now self.now) self.now.processors number value }
         ensures short { array_vec_len result ≤ 48 }
     {
         let mut processors = ArrayVec::new();
@@ -103,12 +93,10 @@ impl LogReader {
 
     // Notes a register's value that was assumed, if it is some processor's.
     fn append_note_by(&self, text: &mut TextBuffer, supplied: &Supplied, number: u32, value: u64)
-        requires few { self.now.processors ≤ 16 }
         requires room { array_vec_len text.old + 112 ≤ 0x8000 }
         requires number { HasThreeDigits number }
-        requires fit { IfSome self.now.width IsFit }
         ensures text { text.new.items ≡ text.old.items
-            ++ note_by number value (noted_of (firm_of supplied.now (slots_of self.now)) (values_in supplied.now self.now) self.now.processors number value) }
+            ++ note_by number value (noted_of (firm_in supplied.now self.now) (values_in supplied.now self.now) self.now.processors number value) }
         ensures size { array_vec_len text.new ≤ array_vec_len text.old + 112 }
     {
         let processors = self.noted_of(supplied, number, value);
@@ -118,13 +106,11 @@ impl LogReader {
 
     // Notes a register that was assumed.
     fn append_note(&self, text: &mut TextBuffer, supplied: &Supplied, number: u32)
-        requires few { self.now.processors ≤ 16 }
         requires room { array_vec_len text.old + 224 ≤ 0x8000 }
         requires number { HasThreeDigits number }
-        requires fit { IfSome self.now.width IsFit }
         ensures text { text.new.items ≡ text.old.items
-            ++ note_line number (noted (firm_of supplied.now (slots_of self.now)) (values_in supplied.now self.now) self.now.processors number)
-            (noted_of (firm_of supplied.now (slots_of self.now)) (values_in supplied.now self.now) self.now.processors number) }
+            ++ note_line number (noted (firm_in supplied.now self.now) (values_in supplied.now self.now) self.now.processors number)
+            (noted_of (firm_in supplied.now self.now) (values_in supplied.now self.now) self.now.processors number) }
         ensures size { array_vec_len text.new ≤ array_vec_len text.old + 224 }
     {
         if let Some(value) = self.noted(supplied, number) {
@@ -137,12 +123,10 @@ impl LogReader {
 
     // Names the writable registers of a file that are missing.
     fn append_registers(&self, text: &mut TextBuffer, supplied: &Supplied, file: &RegFile)
-        requires few { self.now.processors ≤ 16 }
-        requires room { array_vec_len text.old ≤ 256 }
-        requires fit { IfSome self.now.width IsFit }
+        requires { array_vec_len text.old ≤ 256 }
         ensures short { array_vec_len text.new ≤ 0x7000 }
         ensures text { text.new.items ≡ text.old.items
-            ++ missing_lines (hint_of supplied.now (slots_of self.now) (known_in self.now)) (values_in supplied.now self.now)
+            ++ missing_lines (hint_in supplied.now self.now) (values_in supplied.now self.now)
             self.now.processors (map number_of (writable file.now)) }
     {
         'registers: for i in 0..file.count() {
@@ -155,11 +139,9 @@ impl LogReader {
 
     // Notes the writable registers of a file that were assumed.
     fn append_notes(&self, text: &mut TextBuffer, supplied: &Supplied, file: &RegFile)
-        requires few { self.now.processors ≤ 16 }
-        requires room { array_vec_len text.old ≤ 512 }
-        requires fit { IfSome self.now.width IsFit }
+        requires { array_vec_len text.old ≤ 512 }
         ensures { text.new.items ≡ text.old.items
-            ++ note_lines (firm_of supplied.now (slots_of self.now)) (values_in supplied.now self.now)
+            ++ note_lines (firm_in supplied.now self.now) (values_in supplied.now self.now)
             self.now.processors (map number_of (writable file.now)) }
     {
         'registers: for i in 0..file.count() {
@@ -172,10 +154,7 @@ impl LogReader {
 
     /// Adds a line for each thing that a dump needs and that is neither shown nor supplied nor assumed.
     pub(crate) fn missing(&self, supplied: &Supplied) -> TextBuffer
-        requires few { self.now.processors ≤ 16 }
-        requires pairs { (value : ℕ) → values_in supplied.now self.now 0 0xfe ≡ Some value → low_byte value ≤ 32 }
-        requires fit { IfSome self.now.width IsFit }
-        ensures text { result.items ≡ missing_of supplied.now (slots_of self.now) self.now.processors (known_in self.now) }
+        ensures text { result.items ≡ missing_of supplied.now (findings_in self.now) }
         ensures short { array_vec_len result ≤ 0x7000 }
     {
         let mut text = ArrayVec::new();
@@ -183,7 +162,7 @@ impl LogReader {
             append_text(&mut text, width_hint(widest(self.masks(supplied))));
         }
         self.append_missing(&mut text, supplied, CAPABILITIES);
-        if let Some(capabilities) = self.value(supplied, 0, CAPABILITIES) {
+        if let Some(capabilities) = self.capabilities(supplied) {
             match RegFile::blank(USUAL_WIDTH, capabilities) {
                 Ok(file) => self.append_registers(&mut text, supplied, &file),
                 Err(_) => unreachable!(),
@@ -194,10 +173,7 @@ impl LogReader {
 
     /// A comment for each value that was assumed.
     pub(crate) fn notes(&self, supplied: &Supplied) -> TextBuffer
-        requires few { self.now.processors ≤ 16 }
-        requires pairs { (value : ℕ) → values_in supplied.now self.now 0 0xfe ≡ Some value → low_byte value ≤ 32 }
-        requires fit { IfSome self.now.width IsFit }
-        ensures { result.items ≡ notes_of supplied.now (slots_of self.now) self.now.processors (known_in self.now) }
+        ensures { result.items ≡ notes_of supplied.now (findings_in self.now) }
     {
         let mut text = ArrayVec::new();
         if self.firm_width(supplied).is_none() {
@@ -206,7 +182,7 @@ impl LogReader {
             }
         }
         self.append_note(&mut text, supplied, CAPABILITIES);
-        if let Some(capabilities) = self.value(supplied, 0, CAPABILITIES) {
+        if let Some(capabilities) = self.capabilities(supplied) {
             match RegFile::blank(USUAL_WIDTH, capabilities) {
                 Ok(file) => self.append_notes(&mut text, supplied, &file),
                 Err(_) => unreachable!(),

@@ -138,8 +138,7 @@ pub(crate) fn count_on(count: u64) -> u64
     count.saturating_add(1)
 }
 
-/// A processor that no dump has. Lines behind one that turns to a processor whose number can't be
-/// read are of it.
+/// A processor that no dump has. Registers of a processor that isn't known are of it.
 pub(crate) const UNREAD_PROCESSOR: u32 = 65_535;
 
 /// One register of a processor, or else of the one that the lines are of.

@@ -1,19 +1,16 @@
 ghost use Rattle.std.specs.Prelude.{◌≡◌, ◌≤◌, ◌+◌, ◌*◌, codes, IfSome};
 ghost use Rattle.mt_text.specs.Number.{hex_number};
 ghost use Rattle.mt_import.specs.Pieces.{before, behind};
-ghost use Rattle.mt_import.specs.Rdmsr.{announced, call_from, call_said, column_register, column_said, digits_in, is_all, is_hex_option, is_padded, is_traced, option_at, processor_named, rdmsr_said, register_named, said_by_words, said_value, with_processor};
+ghost use Rattle.mt_import.specs.Rdmsr.{announced, call_from, call_of, call_said, column_register, column_said, digits_in, is_all, is_hex_option, is_padded, is_traced, option_at, processor_named, rdmsr_said, register_named, said_by_words, said_value, with_processor};
 
-use crate::LineSays;
 use crate::line_words::LineWords;
 use crate::pieces::{
     before, behind, is_prefixed, is_text, number_in, prefixed_register, register_in, shows_one,
 };
+use crate::{LineSays, Turn};
 use mt_text::{Line, Place, decimal, hex64};
 
 const DIGITS: usize = 3;
-
-// Columns behind a call that isn't read are of this processor, which no dump has.
-const UNREAD_CALL: u32 = 65_534;
 
 fn register_named(word: &[u8]) -> Option<u32>
     ensures { result ≡ register_named word.now }
@@ -33,12 +30,22 @@ fn is_hex_option(word: &[u8]) -> bool
     is_text(b"-0", word) || is_text(b"-x", word) || is_text(b"-X", word) || is_text(b"-c", word)
 }
 
+// Columns behind a call that is read but for its register are of its processor, if it names one.
+fn call_of(processor: Option<u32>) -> Turn
+    ensures { result ≡ call_of processor }
+{
+    match processor {
+        Some(processor) => Turn::To(processor),
+        None => Turn::UnreadCall,
+    }
+}
+
 fn announced(processor: Option<u32>, register: Option<u32>) -> LineSays
     ensures { result ≡ announced processor register }
 {
     match register {
         Some(number) => LineSays::Announces(processor, number),
-        None => LineSays::Turns(processor.unwrap_or(UNREAD_CALL)),
+        None => LineSays::Turns(call_of(processor)),
     }
 }
 
@@ -114,11 +121,11 @@ fn call_from(options: u8, at: u8, processor: Option<u32>, words: &LineWords<'_>)
         return announced(processor, register_named(words.text(at)));
     }
     if options == 0 {
-        return LineSays::Turns(UNREAD_CALL);
+        return LineSays::Turns(Turn::UnreadCall);
     }
     match option_at(at, processor, words) {
         Some((size, next)) => call_from(options - 1, at + size, next, words),
-        None => LineSays::Turns(UNREAD_CALL),
+        None => LineSays::Turns(Turn::UnreadCall),
     }
 }
 

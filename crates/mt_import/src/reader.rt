@@ -6,17 +6,17 @@ ghost use Rattle.mt_text.specs.Feed.{GaveTooMuch, IsLong, at_start, taken};
 ghost use Rattle.mt_text.specs.declared.fault.FeedFault.{FeedFault};
 ghost use Rattle.mt_import.specs.declared.shape.Reading.{Reading as ReadingValue};
 ghost use Rattle.mt_regs.specs.RegisterFile.{low_byte};
-ghost use Rattle.mt_import.specs.Readings.{Fact, fixed_facts, fixed_line, is_fixed_clash, is_line, is_register, is_register_value, is_warning, is_width, line_facts, reading_facts, said_facts, shown_facts, shows_facts, starts, unlike, value_facts};
+ghost use Rattle.mt_import.specs.Readings.{Fact, fixed_clash, fixed_facts, is_line, is_register, is_register_value, is_warning, is_width, line_facts, reading_facts, said_facts, shown_facts, shows_facts, starts, unlike, value_facts};
 ghost use Rattle.mt_import.specs.Shown.{context_behind, facts_of_line};
 ghost use Rattle.mt_import.specs.Slot.{slot_with};
-ghost use Rattle.mt_import.specs.Outcome.{Seen, capabilities_after, capability_rival, contradiction, count_rival, counted, counts_fewer, enabled_pair, facts_fault, fix_shown, fixed_line_after, fixed_rival, fixless_rival, is_fit_width, lacks_fix, last_after, nothing_seen, one_if, or_fault, or_rival, pairs_fault, ranged_rival, reading_fault, rival, seen_after, seen_with, shows_fixed, shows_no_fix, slot_shown, tally_warned, tally_with, width_fault, width_rival};
+ghost use Rattle.mt_import.specs.Outcome.{Seen, capabilities_after, capability_rival, contradiction, count_of, count_rival, counted, counts_fewer, facts_fault, fix_shown, fixed_line_after, fixed_rival, fixless_rival, is_fit_width, lacks_fix, last_after, least_count, nothing_seen, one_if, or_fault, or_rival, pairs_fault, ranged_rival, reading_fault, rival, seen_after, seen_with, shows_fixed, shows_no_fix, slot_shown, tally_warned, tally_with, uncounted_rival, width_fault, width_rival};
 ghost use Rattle.mt_import.specs.Supplied.{bits_differ, differs};
 ghost use Rattle.mt_import.specs.Import.{IsWritten, dump_text, log_outcome};
-ghost use Rattle.mt_import.specs.Reader.{HasTaken, IsFit, IsShort, held_at, slot_of, slots_of};
+ghost use Rattle.mt_import.specs.Reader.{HasTaken, IsFit, IsReader, IsShort, held_at, slot_of, slots_of};
 
 use crate::format::{chosen, said_in};
 use crate::pieces::{count_on, shown_as};
-use crate::reading::{MOST_SHOWN, fixed_shows, is_register};
+use crate::reading::{MOST_SHOWN, fixed_shows, is_register, named_processor};
 use crate::shape::{FixedLine, LastPair, Reading, Shown, Slot, Tally};
 use crate::text::{Outcome, faulted};
 use crate::values::is_pair_number;
@@ -56,7 +56,7 @@ pub struct LogReader {
     // the capability register, as the lines of all processors show it
     capabilities: Slot,
     // the last pair of which a line shows that it is enabled
-    last: LastPair,
+    last: Option<LastPair>,
     // the last line that shows that a fixed-range register isn't 0
     line_of_fixed: Option<u64>,
     // as many as are shown, and one at least
@@ -68,11 +68,13 @@ pub struct LogReader {
 }
 
 impl Model for LogReader {
-    ghost use Rattle.mt_import.specs.Reader.{State};
+    ghost use Rattle.mt_import.specs.Reader.{IsReader, State};
 
     ghost Value = { State };
 
     ghost view = { λ r. record { context = r.context; slots = r.slots; capabilities = r.capabilities; last = r.last; line_of_fixed = r.line_of_fixed; processors = r.processors; width = r.width; line_of_width = r.line_of_width; tally = r.tally } };
+
+    ghost invariant = { λ r. IsReader r.slots r.processors r.width };
 }
 
 fn slot_of(number: u32) -> Option<usize>
@@ -124,9 +126,9 @@ fn capabilities_after(reading: &Reading, before: Slot) -> Slot
     }
 }
 
-// The pair that a reading shows as enabled, counted from 1, or else 0.
-fn enabled_pair(reading: &Reading) -> u64
-    ensures { result ≡ enabled_pair reading.now }
+// The least VCNT that a reading allows: it counts the pair that the reading shows as enabled.
+fn least_count(reading: &Reading) -> u64
+    ensures { result ≡ least_count reading.now }
 {
     if is_pair_number(reading.number)
         && reading.number % 2 == 1
@@ -138,16 +140,25 @@ fn enabled_pair(reading: &Reading) -> u64
     }
 }
 
+fn count_of(last: Option<LastPair>) -> u64
+    ensures { result ≡ count_of last }
+{
+    match last {
+        Some(last) => last.count,
+        None => 0,
+    }
+}
+
 // The last enabled pair behind one more reading.
-fn last_after(reading: &Reading, before: LastPair) -> LastPair
+fn last_after(reading: &Reading, before: Option<LastPair>) -> Option<LastPair>
     ensures { result ≡ last_after reading.now before }
 {
-    let pair = enabled_pair(reading);
-    if before.count < pair {
-        LastPair {
-            count: pair,
+    let count = least_count(reading);
+    if count_of(before) < count {
+        Some(LastPair {
+            count,
             line: reading.place.line,
-        }
+        })
     } else {
         before
     }
@@ -192,25 +203,32 @@ fn counted(capabilities: &Slot) -> Option<u64>
     }
 }
 
+// The last pair, if VCNT doesn't count it.
+fn uncounted_rival(capabilities: Option<u64>, last: Option<LastPair>) -> Option<Rival>
+    ensures { result ≡ uncounted_rival capabilities last }
+{
+    match last {
+        Some(last) if counts_fewer(capabilities, last.count) => {
+            Some(Rival::RegisterLine(last.line))
+        }
+        _ => None,
+    }
+}
+
 // What gives the capability register other bits than this reading of it, or shows a pair that its VCNT doesn't count.
-fn capability_rival(capabilities: &Slot, last: &LastPair, reading: &Reading) -> Option<Rival>
-    ensures { result ≡ capability_rival capabilities.now last.now reading.now }
+fn capability_rival(capabilities: &Slot, last: Option<LastPair>, reading: &Reading) -> Option<Rival>
+    ensures { result ≡ capability_rival capabilities.now last reading.now }
 {
     if capabilities.clashes(reading) {
         return Some(Rival::Line(capabilities.line));
     }
-    let capabilities = capabilities.with(reading);
-    if counts_fewer(counted(&capabilities), last.count) {
-        Some(Rival::RegisterLine(last.line))
-    } else {
-        None
-    }
+    uncounted_rival(counted(&capabilities.with(reading)), last)
 }
 
-fn count_rival(capabilities: &Slot, last: &LastPair, reading: &Reading) -> Option<Rival>
-    ensures { result ≡ count_rival capabilities.now last.now reading.now }
+fn count_rival(capabilities: &Slot, last: Option<LastPair>, reading: &Reading) -> Option<Rival>
+    ensures { result ≡ count_rival capabilities.now last reading.now }
 {
-    if counts_fewer(counted(capabilities), enabled_pair(reading)) {
+    if counts_fewer(counted(capabilities), least_count(reading)) {
         Some(Rival::CapabilityLine(capabilities.line))
     } else if reading.number == CAPABILITIES {
         capability_rival(capabilities, last, reading)
@@ -329,13 +347,13 @@ fn contradiction(reading: &Reading, rival: Option<Rival>) -> Option<ImportFault>
     }
 }
 
-// Whether a line on fixed ranges says something else than one before it.
-fn is_fixed_clash(before: Option<FixedLine>, is_enabled: bool) -> bool
-    ensures { result ≡ is_fixed_clash before is_enabled }
+// The line on fixed ranges before, if it says something else.
+fn fixed_clash(before: Option<FixedLine>, is_enabled: bool) -> Option<u64>
+    ensures { result ≡ fixed_clash before is_enabled }
 {
     match before {
-        Some(line) => unlike(line.is_enabled, is_enabled),
-        None => false,
+        Some(line) if unlike(line.is_enabled, is_enabled) => Some(line.line),
+        _ => None,
     }
 }
 
@@ -343,15 +361,6 @@ fn unlike(flag: bool, on: bool) -> bool
     ensures { result ≡ unlike flag on }
 {
     if flag { !on } else { on }
-}
-
-fn fixed_line(before: Option<FixedLine>) -> u64
-    ensures { result ≡ fixed_line before }
-{
-    match before {
-        Some(line) => line.line,
-        None => 0,
-    }
 }
 
 impl LogReader {
@@ -365,7 +374,7 @@ impl LogReader {
             context: Context::starts(format),
             slots: [blank; 4112],
             capabilities: blank,
-            last: LastPair { count: 0, line: 0 },
+            last: None,
             line_of_fixed: None,
             processors: 1,
             width: None,
@@ -398,16 +407,26 @@ impl LogReader {
         }
     }
 
+    /// What every value of the type keeps. This does nothing.
+    pub fn is_reader(&self)
+        ensures { IsReader self.now.slots self.now.processors self.now.width }
+    {
+        let _ = &self.processors;
+    }
+
     /// How many processors there are.
     pub fn count(&self) -> u32
-        ensures { result ≡ self.now.processors }
+        ensures count { result ≡ self.now.processors }
+        ensures some { 1 ≤ result }
+        ensures few { result ≤ 16 }
     {
         self.processors
     }
 
     /// The address width that lines show.
     pub(crate) fn shown_width(&self) -> Option<u8>
-        ensures { result ≡ self.now.width }
+        ensures width { result ≡ self.now.width }
+        ensures fit { IfSome result IsFit }
     {
         self.width
     }
@@ -426,14 +445,14 @@ impl LogReader {
         if bits_differ(supplied.value(reading.number), reading.bits, reading.value) {
             return Some(Rival::Word);
         }
-        if counts_fewer(supplied.value(CAPABILITIES), enabled_pair(reading)) {
+        if counts_fewer(supplied.value(CAPABILITIES), least_count(reading)) {
             return Some(Rival::CapabilityWord);
         }
         let slot = self.slot(reading.processor, reading.number);
         if slot.clashes(reading) {
             Some(Rival::Line(slot.line))
         } else {
-            count_rival(&self.capabilities, &self.last, reading)
+            count_rival(&self.capabilities, self.last, reading)
         }
     }
 
@@ -453,7 +472,8 @@ impl LogReader {
     // The low byte of the capability register of a reading's processor behind the reading.
     fn pairs_after(&self, reading: &Reading) -> u64
         requires { reading.now.processor < 16 }
-        ensures { (seen : Seen) → HasTaken self.now seen → result ≡ low_byte (bit_or (slot_shown seen.readings reading.now.processor 0xfe).value reading.now.value) }
+        ensures held { result ≡ low_byte (bit_or (slots_of self.now reading.now.processor 0xfe).value reading.now.value) }
+        ensures shown { (seen : Seen) → HasTaken self.now seen → result ≡ low_byte (bit_or (slot_shown seen.readings reading.now.processor 0xfe).value reading.now.value) }
     {
         (self.slot(reading.processor, CAPABILITIES).value | reading.value) % 256
     }
@@ -461,8 +481,7 @@ impl LogReader {
     // Whether the capability register has more pairs than a dump may have, as this line and those before it show it.
     fn pairs_fault(&self, reading: &Reading) -> Option<ImportFault>
         requires { reading.now.processor < 16 }
-        ensures sound { result ≡ None → (seen : Seen) → HasTaken self.now seen → reading.now.number ≡ 0xfe
-            → low_byte (bit_or (slot_shown seen.readings reading.now.processor 0xfe).value reading.now.value) ≤ 32 }
+        ensures sound { result ≡ None → reading.now.number ≡ 0xfe → low_byte (bit_or (slots_of self.now reading.now.processor 0xfe).value reading.now.value) ≤ 32 }
         ensures short { IfSome result IsShort }
         ensures fault { (seen : Seen) → HasTaken self.now seen → result ≡ pairs_fault seen.readings reading.now }
     {
@@ -475,8 +494,8 @@ impl LogReader {
 
     fn reading_fault(&self, supplied: &Supplied, reading: &Reading) -> Option<ImportFault>
         requires { slot_of reading.now.number ≡ None → ⊥ }
-        ensures sound { result ≡ None → (reading.now.processor < 16) × ((seen : Seen) → HasTaken self.now seen → reading.now.number ≡ 0xfe
-            → low_byte (bit_or (slot_shown seen.readings reading.now.processor 0xfe).value reading.now.value) ≤ 32) }
+        ensures sound { result ≡ None → (reading.now.processor < 16)
+            × (reading.now.number ≡ 0xfe → low_byte (bit_or (slots_of self.now reading.now.processor 0xfe).value reading.now.value) ≤ 32) }
         ensures short { IfSome result IsShort }
         ensures fault { (seen : Seen) → HasTaken self.now seen → result ≡ reading_fault supplied.now seen.readings reading.now }
     {
@@ -495,9 +514,8 @@ impl LogReader {
     fn keep(&mut self, reading: &Reading)
         requires processor { reading.now.processor < 16 }
         requires register { slot_of reading.now.number ≡ None → ⊥ }
-        ensures taken { (seen : Seen) → HasTaken self.old seen
-            → (reading.now.number ≡ 0xfe → low_byte (bit_or (slot_shown seen.readings reading.now.processor 0xfe).value reading.now.value) ≤ 32)
-            → HasTaken self.new (seen_with seen (is_register_value reading.now)) }
+        requires pairs { reading.now.number ≡ 0xfe → low_byte (bit_or (slots_of self.old reading.now.processor 0xfe).value reading.now.value) ≤ 32 }
+        ensures taken { (seen : Seen) → HasTaken self.old seen → HasTaken self.new (seen_with seen (is_register_value reading.now)) }
         ensures context { self.new.context ≡ self.old.context }
     {
         let Some(slot) = slot_of(reading.number) else {
@@ -661,8 +679,8 @@ impl LogReader {
         ensures context { self.new.context ≡ self.old.context }
         ensures short { IfErr result IsShort }
     {
-        if is_fixed_clash(self.context.fixed, is_enabled) {
-            let rival = Rival::Line(fixed_line(self.context.fixed));
+        if let Some(line) = fixed_clash(self.context.fixed, is_enabled) {
+            let rival = Rival::Line(line);
             return Err(ImportFault::Contradiction(place, DEFAULT_TYPE, rival));
         }
         let table = self.context.table;
@@ -686,7 +704,7 @@ impl LogReader {
         match said {
             LineSays::Value(value, place) => self.take_value(supplied, *value, *place),
             LineSays::Shows(processor, shows) => {
-                let processor = processor.unwrap_or(self.context.processor);
+                let processor = named_processor(*processor, self.context.processor);
                 self.take_shows(supplied, processor, table, shows)
             }
             LineSays::Begins(shows) => self.take_shows(supplied, 0, count_on(table), shows),
@@ -792,7 +810,6 @@ fn read_lines<S: Source>(
     ensures failed { IsErrOf result FeedFault.ReadFault → Rose (S.faults source.old) (S.faults source.new) }
     ensures stands { (IsErrOf result FeedFault.ReadFault → ⊥) → S.faults source.new ≡ S.faults source.old }
 {
-    supplied.is_supplied(); // a fact for the proof
     let mut reader = LogReader::new(choice.format());
     'lines: while let Some(line) = feed.line(source)? {
         if let Err(fault) = reader.take(supplied, &line) {

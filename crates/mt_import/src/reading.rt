@@ -1,6 +1,7 @@
 ghost use Rattle.std.specs.Prelude.{◌≡◌, true, None};
-ghost use Rattle.mt_import.specs.Readings.{all_registers, announced_after, context_after, fixed_after, fixed_shows, flag_shown, is_match, is_register, one_shown, processor_after, processor_called, starts, table_behind, two_shown, variable_bits, variable_shows};
+ghost use Rattle.mt_import.specs.Readings.{all_registers, announced_after, context_after, fixed_after, fixed_shows, flag_shown, is_match, is_register, named_processor, one_shown, processor_after, processor_turned_to, starts, table_behind, two_shown, variable_bits, variable_shows};
 ghost use Rattle.mt_import.specs.Reader.{slot_of};
+ghost use Rattle.mt_import.specs.Shown.{tells_turn};
 
 use crate::Format;
 use crate::pieces::{REGISTERS, UNREAD_PROCESSOR, count_on, shown_bits};
@@ -23,6 +24,17 @@ pub const MOST_SHOWN: usize = 11;
 /// The registers that a line shows, in their order.
 pub type Shows = [Option<Shown>; MOST_SHOWN];
 
+/// The processor that a line turns to.
+#[derive(Clone, Copy)]
+pub enum Turn {
+    /// This one.
+    To(u32),
+    /// One whose number can't be read.
+    Unread,
+    /// That of a call that can't be read.
+    UnreadCall,
+}
+
 /// What a line of a log says, whatever the other lines say.
 #[derive(Clone, Copy)]
 pub enum LineSays {
@@ -32,8 +44,8 @@ pub enum LineSays {
     Announces(Option<u32>, u32),
     /// A value and nothing else.
     Value(u64, Place),
-    /// The lines behind it are of this processor.
-    Turns(u32),
+    /// The lines behind it are of another processor.
+    Turns(Turn),
     /// Registers of this processor, or else of the one that the lines are of.
     Shows(Option<u32>, Shows),
     /// A kernel's table begins, and shows this.
@@ -57,8 +69,8 @@ pub struct Context {
     pub format: Option<Format>,
     /// The register whose value the line just before announces.
     pub announced: Option<Announced>,
-    /// The processor that the lines are of.
-    pub processor: u32,
+    /// The processor that the lines are of, if it is known.
+    pub processor: Option<u32>,
     /// How many kernel's tables have begun.
     pub table: u64,
     /// The last line on fixed ranges.
@@ -99,13 +111,36 @@ pub(crate) fn fixed_shows(is_enabled: bool, is_alone: bool, place: Place) -> Sho
     )
 }
 
-// The processor that lines behind a call of this processor are of, or behind a call of all.
-fn processor_called(processor: Option<u32>) -> u32
-    ensures { result ≡ processor_called processor }
+/// The processor that a line names, or else the one that lines are of, or else one that no dump has.
+pub(crate) fn named_processor(named: Option<u32>, current: Option<u32>) -> u32
+    ensures { result ≡ named_processor named current }
 {
-    match processor {
+    match named {
         Some(processor) => processor,
-        None => UNREAD_PROCESSOR,
+        None => current.unwrap_or(UNREAD_PROCESSOR),
+    }
+}
+
+impl Turn {
+    // The processor, if it is known.
+    fn processor(&self) -> Option<u32>
+        ensures { result ≡ processor_turned_to self.now }
+    {
+        match self {
+            Turn::To(processor) => Some(*processor),
+            _ => None,
+        }
+    }
+
+    /// Whether such a line tells the format.
+    pub(crate) fn tells(&self) -> bool
+        ensures { result ≡ tells_turn self.now }
+    {
+        match self {
+            Turn::To(processor) => 0 < *processor,
+            Turn::Unread => false,
+            Turn::UnreadCall => true,
+        }
     }
 }
 
@@ -148,12 +183,12 @@ impl LineSays {
         }
     }
 
-    fn processor_or(&self, before: u32) -> u32
+    fn processor_or(&self, before: Option<u32>) -> Option<u32>
         ensures { result ≡ processor_after self.now before }
     {
         match self {
-            LineSays::Turns(processor) => *processor,
-            LineSays::Announces(processor, _) => processor_called(*processor),
+            LineSays::Turns(turn) => turn.processor(),
+            LineSays::Announces(processor, _) => *processor,
             _ => before,
         }
     }
@@ -189,7 +224,7 @@ impl Context {
         Context {
             format,
             announced: None,
-            processor: 0,
+            processor: Some(0),
             table: 0,
             fixed: None,
         }

@@ -3,6 +3,7 @@ ghost use Rattle.mt_text.specs.Text.{longest_input};
 ghost use Rattle.mt_text.specs.declared.fault.FeedFault.{FeedFault};
 ghost use Rattle.mt_ports.specs.Causes.{Rose, StatusHasCause};
 ghost use Rattle.mt_text.specs.Feed.{GaveTooMuch};
+ghost use Rattle.mt_output.specs.Ports.{change, held, port};
 ghost use Rattle.mt_import.specs.Help.{own_text};
 ghost use Rattle.mt_import.specs.Supplied.{command_of};
 ghost use Rattle.mt_import.specs.Import.{HaveCause, Imports, ImportsApart, IsWritten, dump_text, left_of, own_outcome, outcome_of, usage_outcome};
@@ -80,7 +81,7 @@ fn status_of(fault: FeedFault) -> Status
 /// A log is read to its end, unless the source fails or gives more than 16,777,216 bytes; then nothing is written.
 pub fn import<S: Source, K: Sink>(words: &[String], source: &mut S, sink: &mut K) -> Status
     ensures imports { (bytes : List ℕ) → S.left source.old ≡ Some bytes →
-        Imports (map string_bytes words.now) bytes (S.left source.new) (K.taken sink.old) (K.taken sink.new) result }
+        Imports (map string_bytes words.now) (held bytes (S.left source.new)) (port K.taken sink.old sink.new) result }
 
     // Without a command nothing is read, nor for the program's own texts.
     ensures unread { command_of (map string_bytes words.now) ≡ None → source.new ≡ source.old }
@@ -105,8 +106,7 @@ pub fn import_apart<S: Source, K: Sink, E: Sink>(
     errors: &mut E,
 ) -> Status
     ensures imports { (bytes : List ℕ) → S.left source.old ≡ Some bytes →
-        ImportsApart (map string_bytes words.now) bytes (S.left source.new)
-        (record { old = K.taken sink.old; new = K.taken sink.new }) (record { old = E.taken errors.old; new = E.taken errors.new }) result }
+        ImportsApart (map string_bytes words.now) (held bytes (S.left source.new)) (port K.taken sink.old sink.new) (port E.taken errors.old errors.new) result }
     ensures unread { command_of (map string_bytes words.now) ≡ None → source.new ≡ source.old }
     ensures own { IsSome (own_text (map string_bytes words.now)) → source.new ≡ source.old }
 
@@ -114,7 +114,7 @@ pub fn import_apart<S: Source, K: Sink, E: Sink>(
     ensures alone { result ≢ Status.Done → result ≢ Status.WriteFault → sink.new ≡ sink.old }
     ensures memory { result ≢ Status.NoMemory }
     ensures read_fault { StatusHasCause Status.ReadFault (S.faults source.old) (S.faults source.new) result }
-    ensures write_fault { HaveCause (K.faults sink.old, K.faults sink.new) (E.faults errors.old, E.faults errors.new) result }
+    ensures write_fault { HaveCause (change (K.faults sink.old) (K.faults sink.new)) (change (E.faults errors.old) (E.faults errors.new)) result }
     ensures too_long { (result ≡ Status.TooLong) ↔ GaveTooMuch (S.given source.old) (S.given source.new) }
 {
     match command_outcome(words, source) {

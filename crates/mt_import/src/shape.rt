@@ -40,8 +40,9 @@ pub struct Slot {
 /// The last pair of which a line has shown that V is set.
 #[derive(Clone, Copy)]
 pub struct LastPair {
-    /// Its number counted from 1, or 0 if no line has shown such a pair.
+    /// How many pairs there are up to it.
     pub count: u64,
+    /// The line that has shown it.
     pub line: u64,
 }
 
@@ -60,6 +61,18 @@ pub struct FixedLine {
     pub is_enabled: bool,
     pub table: u64,
     pub line: u64,
+}
+
+/// A run of fixed ranges of one type, as a kernel's line shows it.
+#[derive(Clone, Copy)]
+pub struct FixedRun {
+    /// The number of its first range, counted over all fixed-range registers.
+    pub first: u32,
+    /// The number behind that of its last range.
+    pub end: u32,
+    /// The code of its type.
+    pub code: u8,
+    pub place: Place,
 }
 
 /// How many lines were read, and what else is told of them.

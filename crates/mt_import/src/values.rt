@@ -1,6 +1,6 @@
 ghost use Rattle.std.specs.Prelude.{◌≡◌, ◌≤◌, ◌<◌, ◌^◌, IfSome, Some, position};
-ghost use Rattle.mt_import.specs.Reader.{IsFit, known_in, slots_of, values_in};
-ghost use Rattle.mt_import.specs.Outcome.{firm_of, hint_of};
+ghost use Rattle.mt_regs.specs.RegisterFile.{low_byte};
+ghost use Rattle.mt_import.specs.Reader.{IsFit, firm_in, hint_in, slots_of, values_in};
 ghost use Rattle.mt_import.specs.Slot.{whole_value};
 ghost use Rattle.mt_import.specs.Supplied.{supplied_value};
 ghost use Rattle.mt_import.specs.Values.{assumed_capabilities, assumed_mask, assumed_of, assumed_pair, assumed_pat, assumed_value, assumed_zero, base_of, disabled_value, firm_value, firm_width, has_pairs, is_of_table, is_pair_number, is_past, is_unshown, mask_of, mask_of_size, masks_in, only_if, or_supplied, pair_count, shown_pairs, shows_only_fix, shows_pairs, size_in, widest, width_at, width_by, width_limits};
@@ -229,7 +229,7 @@ impl LogReader {
     pub(crate) fn firm_value(&self, supplied: &Supplied, k: u32, number: u32) -> Option<u64>
         requires processor { k < 16 }
         requires number { number < 0x1000 }
-        ensures { result ≡ firm_of supplied.now (slots_of self.now) k number }
+        ensures { result ≡ firm_in supplied.now self.now k number }
     {
         let supplied = or_supplied(supplied.value(number), self.disabled_value(k, number));
         or_supplied(self.slot(k, number).whole(), supplied)
@@ -359,7 +359,6 @@ impl LogReader {
     pub fn value(&self, supplied: &Supplied, k: u32, number: u32) -> Option<u64>
         requires processor { k < 16 }
         requires number { number < 0x1000 }
-        requires fit { IfSome self.now.width IsFit }
         ensures { result ≡ values_in supplied.now self.now k number }
     {
         let width = self.width(supplied);
@@ -370,11 +369,20 @@ impl LogReader {
         )
     }
 
+    /// The capability register of processor 0, which is that of a dump.
+    pub(crate) fn capabilities(&self, supplied: &Supplied) -> Option<u64>
+        ensures value { result ≡ values_in supplied.now self.now 0 0xfe }
+        ensures few { IfSome result (λ capabilities. low_byte capabilities ≤ 32) }
+    {
+        self.is_reader(); // a fact for the proof
+        supplied.is_supplied(); // a fact for the proof
+        self.value(supplied, 0, CAPABILITIES)
+    }
+
     /// What processor 0's register would be if all were assumed.
     pub(crate) fn hint(&self, supplied: &Supplied, number: u32) -> Option<u64>
-        requires number { number < 0x1000 }
-        requires fit { IfSome self.now.width IsFit }
-        ensures { result ≡ hint_of supplied.now (slots_of self.now) (known_in self.now) number }
+        requires { number < 0x1000 }
+        ensures { result ≡ hint_in supplied.now self.now number }
     {
         let width = or_widest(self.width(supplied));
         self.assumed_value(&Assumed::all(), 0, width, number)
@@ -400,7 +408,6 @@ impl LogReader {
 
     /// The address width, shown or else supplied.
     pub(crate) fn firm_width(&self, supplied: &Supplied) -> Option<u8>
-        requires { IfSome self.now.width IsFit }
         ensures width { result ≡ firm_width supplied.now self.now.width }
         ensures fit { IfSome result IsFit }
     {
@@ -413,7 +420,6 @@ impl LogReader {
 
     /// The address width, shown, or else supplied, or else assumed.
     pub fn width(&self, supplied: &Supplied) -> Option<u8>
-        requires { IfSome self.now.width IsFit }
         ensures width { result ≡ width_by supplied.now (slots_of self.now) self.now.width }
         ensures fit { IfSome result IsFit }
     {

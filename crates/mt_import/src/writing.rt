@@ -1,6 +1,7 @@
 ghost use Rattle.std.specs.Prelude.{◌≡◌, ◌≢◌, ◌++◌};
 ghost use Rattle.mt_ports.specs.Causes.{HasCause, StatusHasCause};
 ghost use Rattle.mt_ports.specs.Puts.{Puts};
+ghost use Rattle.mt_output.specs.Ports.{change, port};
 ghost use Rattle.mt_output.specs.Written.{Writes};
 ghost use Rattle.mt_import.specs.Import.{HaveCause, IsWritten, WritesApart, dump_text, one_text};
 
@@ -55,11 +56,10 @@ pub(crate) fn written_apart<K: Sink, E: Sink>(
     outcome: &Outcome,
 ) -> Status
     requires { IsWritten outcome.now.status (dump_text outcome.now) }
-    ensures bytes { WritesApart outcome.now
-        (record { old = K.taken sink.old; new = K.taken sink.new }) (record { old = E.taken errors.old; new = E.taken errors.new }) result }
+    ensures bytes { WritesApart outcome.now (port K.taken sink.old sink.new) (port E.taken errors.old errors.new) result }
     ensures alone { result ≢ Status.Done → result ≢ Status.WriteFault → sink.new ≡ sink.old }
     ensures memory { result ≢ Status.NoMemory }
-    ensures cause { HaveCause (K.faults sink.old, K.faults sink.new) (E.faults errors.old, E.faults errors.new) result }
+    ensures cause { HaveCause (change (K.faults sink.old) (K.faults sink.new)) (change (E.faults errors.old) (E.faults errors.new)) result }
 {
     if put(errors, outcome.reasons.as_slice()).is_err() {
         return Status::WriteFault;

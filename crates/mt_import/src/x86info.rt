@@ -2,11 +2,10 @@ ghost use Rattle.std.specs.Prelude.{◌≡◌, ◌≤◌, codes};
 ghost use Rattle.mt_text.specs.Number.{decimal_number};
 ghost use Rattle.mt_import.specs.X86info.{first_read, is_listed, is_name, is_size, is_sizes, named_register, register_from, said_by_words, sizes_by_words, sizes_said, turned_to, x86info_said};
 
-use crate::LineSays;
 use crate::pieces::{
-    UNREAD_PROCESSOR, VALUE_SIZE, before, behind, is_text, prefixed_register, shows_one,
-    shows_width, whole_number,
+    VALUE_SIZE, before, behind, is_text, prefixed_register, shows_one, shows_width, whole_number,
 };
+use crate::{LineSays, Turn};
 use mt_text::{Line, Words, decimal, without_ending};
 
 const PROCESSOR_LIMIT: u64 = 65_536;
@@ -15,8 +14,8 @@ fn turned_to(digits: &[u8]) -> LineSays
     ensures { result ≡ turned_to (decimal_number digits.now 65536) }
 {
     match decimal(digits, PROCESSOR_LIMIT) {
-        Ok(number) if number > 0 => LineSays::Turns(number as u32 - 1),
-        _ => LineSays::Turns(UNREAD_PROCESSOR),
+        Ok(number) if number > 0 => LineSays::Turns(Turn::To(number as u32 - 1)),
+        _ => LineSays::Turns(Turn::Unread),
     }
 }
 
@@ -127,6 +126,6 @@ pub(crate) fn x86info_said(line: &Line<'_>) -> LineSays
     };
     match before(b":", rest) {
         Some(digits) => turned_to(digits),
-        None => LineSays::Turns(UNREAD_PROCESSOR),
+        None => LineSays::Turns(Turn::Unread),
     }
 }

@@ -11,12 +11,11 @@ use Rattle.mt_regs.specs.Registers.{IsWithin, fixed_numbers, number_of, value_of
 use Rattle.mt_dump.specs.Canon.{canon}
 use Rattle.mt_dump.specs.Dumps.{Dump}
 use Rattle.mt_text.specs.declared.place.Place.{Place}
-use Rattle.mt_import.specs.declared.shape.Tally.{Tally}
 use Rattle.mt_import.specs.Supplied.{Supplied, supplied_value}
 use Rattle.mt_import.specs.Readings.{Fact, is_fault, is_line, is_register_value, is_warning, is_width}
 use Rattle.mt_import.specs.Slot.{all_bits}
-use Rattle.mt_import.specs.Values.{assumed_of, assumed_value, assumed_width, disabled_value, or_supplied, width_by}
-use Rattle.mt_import.specs.Outcome.{Seen, Slots, dump_outcome, ended, file_of, files_of, first_pairs, fixed_of, hint_of, is_empty, is_missing, known_by, known_of, missing_lines, missing_of, needed, notes_of, processors, refusal, remarks, seen_after, seen_with, slot_shown, value_or_zero, values_of, version_of}
+use Rattle.mt_import.specs.Values.{assumed_of, assumed_value, assumed_width, disabled_value, firm_value, masks_in, or_supplied, widest, width_by}
+use Rattle.mt_import.specs.Outcome.{Seen, Slots, Summary, ended, ended_by, file_of, files_of, findings_of, first_pairs, fixed_of, hint_of, is_missing, known_by, missing_lines, missing_of, missing_width, needed, processors, seen_after, seen_with, slot_shown, summary_of, value_or_zero, values_of, version_of}
 use Rattle.mt_import.proofs.Same.{value_is}
 use Rattle.mt_import_laws.specs.Origins.{IsAmong}
 use Rattle.mt_import_laws.specs.Printed.{ReadsAs}
@@ -111,45 +110,47 @@ module _ (values : ℕ → ℕ → Option ℕ) (files : ℕ → RegisterFile) (c
 
 -- ---- the outcome
 
-by_parts : (auto : Bool) (tally : Tally) (values : ℕ → ℕ → Option ℕ) (first : RegisterFile) (wanted : List RegisterFile) (missing notes : List ℕ) (number count : ℕ) (width capabilities : Option ℕ)
-    → files_of values first.width first.capabilities count ≡ wanted → missing ≡ [] → number ≡ count → width ≡ Some first.width → capabilities ≡ Some first.capabilities
-    → ReadsAs (if is_empty missing then dump_outcome (refusal tally missing) values number notes (remarks auto tally) width capabilities else refusal tally missing) (record { version = version_of count; files = wanted })
-by_parts auto tally values first wanted missing notes number count width capabilities is none one own_width own_capabilities =
-    rw (none, one, own_width, own_capabilities) (record { status = refl; dump = ap (λ fs. canon (record { version = version_of count; files = fs })) is })
+by_parts : (told : Summary) (first : RegisterFile) (wanted : List RegisterFile) (count : ℕ)
+    → files_of told.values first.width first.capabilities count ≡ wanted → told.missing ≡ [] → told.count ≡ count → told.width ≡ Some first.width → told.values 0 0xfe ≡ Some first.capabilities
+    → ReadsAs (ended_by told) (record { version = version_of count; files = wanted })
+by_parts told first wanted count is none one own_width own_capabilities =
+    rw (none, own_width, own_capabilities, one) (record { status = refl; dump = ap (λ fs. canon (record { version = version_of count; files = fs })) is })
 
 -- What the registers of files were read as comes out as the files.
 pub ended_back : (auto : Bool) (supplied : Supplied) (seen : Seen) (files : ℕ → RegisterFile) (count : ℕ) → AreAlike files count → processors seen.readings ≡ count
     → width_by supplied (slot_shown seen.readings) seen.width ≡ Some (files 0).width
-    → ((k : ℕ) → k < count → values_of supplied (slot_shown seen.readings) (known_of seen) k 0xfe ≡ Some (files k).capabilities)
-    → ((k : ℕ) → k < count → (register : Register) → IsWithin (files k) register → values_of supplied (slot_shown seen.readings) (known_of seen) k (number_of register) ≡ Some (value_of (files k) register))
+    → ((k : ℕ) → k < count → values_of supplied (findings_of seen) k 0xfe ≡ Some (files k).capabilities)
+    → ((k : ℕ) → k < count → (register : Register) → IsWithin (files k) register → values_of supplied (findings_of seen) k (number_of register) ≡ Some (value_of (files k) register))
     → ReadsAs (ended auto supplied seen) (dump_from files count)
 ended_back auto supplied seen files count alike number width capabilities all =
-    let values : ℕ → ℕ → Option ℕ = values_of supplied (slot_shown seen.readings) (known_of seen) in
-    let hints : ℕ → Option ℕ = hint_of supplied (slot_shown seen.readings) (known_of seen) in
+    let values : ℕ → ℕ → Option ℕ = values_of supplied (findings_of seen) in
+    let hints : ℕ → Option ℕ = hint_of supplied (findings_of seen) in
     let lines : missing_lines hints values (processors seen.readings) (needed (values 0 0xfe)) ≡ [] =
     ap (λ n. missing_lines hints values n (needed (values 0 0xfe))) number ∙ nothing_missing values files count alike all hints capabilities in
-    let none : missing_of supplied (slot_shown seen.readings) (processors seen.readings) (known_of seen) ≡ [] = rw width lines in
-    by_parts auto seen.tally values (files 0) (first_files files count)
-    (missing_of supplied (slot_shown seen.readings) (processors seen.readings) (known_of seen)) (notes_of supplied (slot_shown seen.readings) (processors seen.readings) (known_of seen))
-    (processors seen.readings) count (width_by supplied (slot_shown seen.readings) seen.width) (values 0 0xfe) (files_back values files count alike all count (omega arith)) none number width (capabilities 0 alike.some)
+    let none : missing_of supplied (findings_of seen) ≡ [] =
+    ap (λ (w : Option ℕ). missing_width w (widest (masks_in supplied (slot_shown seen.readings 0) 32)) ++ missing_lines hints values (processors seen.readings) (needed (values 0 0xfe))) width ∙ lines in
+    by_parts (summary_of auto supplied (findings_of seen) seen.tally) (files 0) (first_files files count) count (files_back values files count alike all count (omega arith)) none number width (capabilities 0 alike.some)
 
 -- ---- one value
 
 module _ (supplied : Supplied) (seen : Seen) (k : ℕ) where
   -- lines show all of the processor's register
-  pub by_lines : (number value : ℕ) → Holds (slot_shown seen.readings k number) value → values_of supplied (slot_shown seen.readings) (known_of seen) k number ≡ Some value
-  by_lines number value holds = value_is supplied (slot_shown seen.readings) (known_of seen) k number ∙ rw (holds.fresh, holds.shows) refl
+  pub by_lines : (number value : ℕ) → Holds (slot_shown seen.readings k number) value → values_of supplied (findings_of seen) k number ≡ Some value
+  by_lines number value holds = value_is supplied (findings_of seen) k number ∙ by
+    where
+      by : or_supplied (firm_value supplied (slot_shown seen.readings k) number) (assumed_value (assumed_of k supplied.assumed) (slot_shown seen.readings k) (known_by supplied (findings_of seen)) number) ≡ Some value
+      by = rw (holds.fresh, holds.shows) refl
 
   -- a word gives the register, and lines show no other bits
   pub by_word : (number value : ℕ) → IsKnown (slot_shown seen.readings k number) value → value < 2 ^ 64 → supplied_value supplied number ≡ Some value
-      → values_of supplied (slot_shown seen.readings) (known_of seen) k number ≡ Some value
+      → values_of supplied (findings_of seen) k number ≡ Some value
   by_word number value known fits given =
-      value_is supplied (slot_shown seen.readings) (known_of seen) k number
+      value_is supplied (findings_of seen) k number
       ∙ by ((slot_shown seen.readings k number).fresh == all_bits) refl
     where
       by : (test : Bool) → ((slot_shown seen.readings k number).fresh == all_bits) ≡ test
           → or_supplied (or_supplied (if test then Some (slot_shown seen.readings k number).value else None) (or_supplied (supplied_value supplied number) (disabled_value (slot_shown seen.readings k) number)))
-          (assumed_value (assumed_of k supplied.assumed) (slot_shown seen.readings k) (known_by supplied (slot_shown seen.readings) (known_of seen)) number)
+          (assumed_value (assumed_of k supplied.assumed) (slot_shown seen.readings k) (known_by supplied (findings_of seen)) number)
           ≡ Some value
       by true whole = ap Some (whole_slot (slot_shown seen.readings k number) value known fits (eqb-true (slot_shown seen.readings k number).fresh all_bits whole)).shows
       by false part = rw given refl

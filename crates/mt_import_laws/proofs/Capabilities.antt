@@ -5,7 +5,7 @@ use Rattle.std.specs.Int.{bit_at}
 use Rattle.std.proofs.lemmas.Bool.{eqb-true}
 use Rattle.mt_ports.specs.declared.status.Status.TheVariants.{BadText}
 use Rattle.mt_import.specs.declared.fault.Rival.{Rival}
-use Rattle.mt_import.specs.declared.fault.Rival.TheVariants.{Line, CapabilityLine, RegisterLine}
+use Rattle.mt_import.specs.declared.fault.Rival.TheVariants.{Line, CapabilityLine}
 use Rattle.mt_import.specs.declared.format.Choice.{Choice}
 use Rattle.mt_import.specs.declared.shape.LastPair.{LastPair}
 use Rattle.mt_import.specs.declared.shape.Reading.{Reading}
@@ -13,27 +13,27 @@ use Rattle.mt_import.specs.declared.shape.Slot.{Slot}
 use Rattle.mt_import.specs.Shown.{is_auto}
 use Rattle.mt_import.specs.Slot.{clashes, slot_with}
 use Rattle.mt_import.specs.Supplied.{Supplied}
-use Rattle.mt_import.specs.Outcome.{capabilities_after, capabilities_shown, capability_rival, count_rival, counted, counts_fewer, enabled_pair, ended, last_shown}
+use Rattle.mt_import.specs.Outcome.{capabilities_after, capabilities_shown, capability_rival, count_rival, counted, counts_fewer, ended, last_shown, least_count, uncounted_rival}
 use Rattle.mt_import.specs.Import.{log_outcome}
 use Rattle.mt_import_laws.specs.Origins.{ContradictInCapabilities, IsAmong, readings_of, seen_of}
 use Rattle.mt_import_laws.proofs.Bits.{bit_first, bit_second, same_number, value_kept, value_new}
 use Rattle.mt_import_laws.proofs.Faults.{fault_of, faulty, fine_of}
 use Rattle.mt_import_laws.proofs.Fine.{HasBit, IsFine, tests_of_rival}
 
-no_clash : (clash fewer : Bool) (line other : ℕ) → (if clash then Some (Line line) else if fewer then Some (RegisterLine other) else None) ≡ None → clash ≡ false
-no_clash true fewer line other is = cc is
-no_clash false fewer line other is = refl
+no_clash : (clash : Bool) (line : ℕ) (others : Option Rival) → (if clash then Some (Line line) else others) ≡ None → clash ≡ false
+no_clash true line others is = cc is
+no_clash false line others is = refl
 
 no_count : (fewer : Bool) (line : ℕ) (others : Option Rival) → (if fewer then Some (CapabilityLine line) else others) ≡ None → others ≡ None
 no_count true line others is = cc is
 no_count false line others is = is
 
 -- no reading of the capability register clashes with those before it
-fits : (capabilities : Slot) (last : LastPair) (reading : Reading) → count_rival capabilities last reading ≡ None → reading.number ≡ 0xfe → clashes capabilities reading ≡ false
+fits : (capabilities : Slot) (last : Option LastPair) (reading : Reading) → count_rival capabilities last reading ≡ None → reading.number ≡ 0xfe → clashes capabilities reading ≡ false
 fits capabilities last reading none number =
-    let rest = no_count (counts_fewer (counted capabilities) (enabled_pair reading)) capabilities.line (if reading.number == 0xfe then capability_rival capabilities last reading else None) none in
+    let rest = no_count (counts_fewer (counted capabilities) (least_count reading)) capabilities.line (if reading.number == 0xfe then capability_rival capabilities last reading else None) none in
     let found : capability_rival capabilities last reading ≡ None = rw (same_number reading.number 0xfe number) at rest in
-    no_clash (clashes capabilities reading) (counts_fewer (counted (slot_with capabilities reading)) last.count) capabilities.line last.line found
+    no_clash (clashes capabilities reading) capabilities.line (uncounted_rival (counted (slot_with capabilities reading)) last) found
 
 kept : (slot : Slot) (other reading : Reading) (i : ℕ) → (other.number ≡ 0xfe → clashes slot other ≡ false) → HasBit slot reading i → (test : Bool) → (other.number == 0xfe) ≡ test
     → HasBit (if test then slot_with slot other else slot) reading i

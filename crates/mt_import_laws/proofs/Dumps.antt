@@ -9,12 +9,12 @@ use Rattle.mt_import.specs.declared.shape.Reading.{Reading}
 use Rattle.mt_import.specs.Shown.{is_auto}
 use Rattle.mt_import.specs.Slot.{is_disabled, whole_value}
 use Rattle.mt_import.specs.Supplied.{Supplied, supplied_value}
-use Rattle.mt_import.specs.Values.{Known, assumed_of, assumed_value, disabled_value, firm_value, is_pair_number, mask_of, or_supplied, width_by}
-use Rattle.mt_import.specs.Outcome.{Seen, Outcome, dump_outcome, ended, file_of, is_empty, is_missing, known_by, known_of, missing_line, missing_lines, missing_of, missing_width, needed, notes_of, processors, refusal, remarks, slot_shown, unless, values_of, hint_of}
+use Rattle.mt_import.specs.Values.{assumed_of, assumed_value, disabled_value, firm_value, is_pair_number, mask_of, or_supplied, width_by}
+use Rattle.mt_import.specs.Outcome.{Outcome, Seen, Summary, dump_outcome, ended, file_of, findings_of, hint_of, is_empty, is_missing, known_by, missing_line, missing_lines, missing_of, missing_width, needed, processors, refusal, slot_shown, summary_of, unless, values_of}
 use Rattle.mt_import.specs.Import.{log_outcome}
 use Rattle.mt_import.proofs.Parts.{length_files}
 use Rattle.mt_import.proofs.Same.{value_is}
-use Rattle.mt_import_laws.specs.Origins.{HasOrigins, IsAmong, IsUnshown, IsUntold, Origin, by_assumption, by_disabled, by_lines, by_word, readings_of, seen_of}
+use Rattle.mt_import_laws.specs.Origins.{HasOrigins, IsAmong, IsUnshown, IsUntold, Origin, by_assumption, by_disabled, by_lines, by_word, seen_of}
 use Rattle.mt_import_laws.proofs.Fine.{IsFine}
 use Rattle.mt_import_laws.proofs.Faults.{fault_of, fine_of}
 use Rattle.mt_import_laws.proofs.Sections.{line_of, section_at}
@@ -22,12 +22,15 @@ use Rattle.mt_import_laws.proofs.Shown.{is_shown, only_valid, shown_clear}
 
 -- ---- one value
 
-module _ (supplied : Supplied) (readings : List Reading) (known : Known) (k number value : ℕ) (fine : IsFine supplied readings) where
+module _ (supplied : Supplied) (seen : Seen) (k number value : ℕ) (fine : IsFine supplied seen.readings) where
+  abbrev readings : List Reading
+  readings = seen.readings
+
   abbrev assumed : Option ℕ
-  assumed = assumed_value (assumed_of k supplied.assumed) (slot_shown readings k) known number
+  assumed = assumed_value (assumed_of k supplied.assumed) (slot_shown readings k) (known_by supplied (findings_of seen)) number
 
   from_disabled : IsUntold supplied readings k number → (pair clear : Bool) → is_pair_number number ≡ pair → is_disabled (slot_shown readings k (mask_of number)) ≡ clear
-      → or_supplied (if pair && clear then Some 0 else None) assumed ≡ Some value → Origin supplied readings known k number value
+      → or_supplied (if pair && clear then Some 0 else None) assumed ≡ Some value → Origin supplied seen k number value
   from_disabled untold true true is_pair is_clear is =
       let found = shown_clear supplied readings k (mask_of number) fine is_clear in
       by_disabled untold (record {
@@ -44,17 +47,17 @@ module _ (supplied : Supplied) (readings : List Reading) (known : Known) (k numb
   from_disabled untold false clear not_pair same is = by_assumption untold is
 
   from_word : IsUnshown readings k number → (given : Option ℕ) → supplied_value supplied number ≡ given
-      → or_supplied (or_supplied given (disabled_value (slot_shown readings k) number)) assumed ≡ Some value → Origin supplied readings known k number value
+      → or_supplied (or_supplied given (disabled_value (slot_shown readings k) number)) assumed ≡ Some value → Origin supplied seen k number value
   from_word unshown (Some other) is_given is = by_word unshown (is_given ∙ is)
   from_word unshown None is_given is = from_disabled (unshown, is_given) (is_pair_number number) (is_disabled (slot_shown readings k (mask_of number))) refl refl is
 
   from_lines : (whole : Option ℕ) → whole_value (slot_shown readings k number) ≡ whole
       → or_supplied (or_supplied whole (or_supplied (supplied_value supplied number) (disabled_value (slot_shown readings k) number))) assumed ≡ Some value
-      → Origin supplied readings known k number value
+      → Origin supplied seen k number value
   from_lines (Some other) is_whole is = by_lines (is_shown supplied readings k number value fine (is_whole ∙ is))
   from_lines None is_whole is = from_word is_whole (supplied_value supplied number) refl is
 
-  pub origin : or_supplied (firm_value supplied (slot_shown readings k) number) assumed ≡ Some value → Origin supplied readings known k number value
+  pub origin : or_supplied (firm_value supplied (slot_shown readings k) number) assumed ≡ Some value → Origin supplied seen k number value
   origin is = from_lines (whole_value (slot_shown readings k number)) refl is
 
 -- ---- nothing is missing
@@ -106,20 +109,20 @@ some_value None is = cc is
 
 module _ (supplied : Supplied) (seen : Seen) (auto : Bool) (fine : IsFine supplied seen.readings) where
   abbrev values : ℕ → ℕ → Option ℕ
-  values = values_of supplied (slot_shown seen.readings) (known_of seen)
+  values = values_of supplied (findings_of seen)
 
   abbrev missing : List ℕ
-  missing = missing_of supplied (slot_shown seen.readings) (processors seen.readings) (known_of seen)
+  missing = missing_of supplied (findings_of seen)
 
-  abbrev notes : List ℕ
-  notes = notes_of supplied (slot_shown seen.readings) (processors seen.readings) (known_of seen)
+  abbrev summary : Summary
+  summary = summary_of auto supplied (findings_of seen) seen.tally
 
   -- with this width and this capability register, where nothing is missing
   dumped : (width capabilities : Option ℕ) → width_by supplied (slot_shown seen.readings) seen.width ≡ width → values 0 0xfe ≡ capabilities → missing ≡ []
-      → (dump_outcome (refusal seen.tally missing) values (processors seen.readings) notes (remarks auto seen.tally) width capabilities).status ≡ Done
-      → HasOrigins supplied seen (dump_outcome (refusal seen.tally missing) values (processors seen.readings) notes (remarks auto seen.tally) width capabilities)
+      → (dump_outcome (refusal seen.tally missing) summary width capabilities).status ≡ Done
+      → HasOrigins supplied seen (dump_outcome (refusal seen.tally missing) summary width capabilities)
   dumped (Some width) (Some capabilities) is_width is_capabilities empty done =
-      let both = empty_both (missing_width (width_by supplied (slot_shown seen.readings) seen.width) _) (missing_lines (hint_of supplied (slot_shown seen.readings) (known_of seen)) values (processors seen.readings) (needed (values 0 0xfe))) empty in
+      let both = empty_both (missing_width (width_by supplied (slot_shown seen.readings) seen.width) _) (missing_lines (hint_of supplied (findings_of seen)) values (processors seen.readings) (needed (values 0 0xfe))) empty in
       record {
         width = width;
         capabilities = capabilities;
@@ -134,16 +137,16 @@ module _ (supplied : Supplied) (seen : Seen) (auto : Bool) (fine : IsFine suppli
           line = line_of values width capabilities k number value is_capabilities among is;
         };
         each = λ k number less among.
-            let none = none_missing (hint_of supplied (slot_shown seen.readings) (known_of seen)) values (processors seen.readings) (needed (values 0 0xfe)) number both.1 (subst (λ c. IsAmong number (needed c)) (sym is_capabilities) among) in
+            let none = none_missing (hint_of supplied (findings_of seen)) values (processors seen.readings) (needed (values 0 0xfe)) number both.1 (subst (λ c. IsAmong number (needed c)) (sym is_capabilities) among) in
             let found = some_value (values k number) (not_missing values (processors seen.readings) number k less none) in
-            (found.0, found.1, origin supplied seen.readings (known_by supplied (slot_shown seen.readings) (known_of seen)) k number found.0 fine (sym (value_is supplied (slot_shown seen.readings) (known_of seen) k number) ∙ found.1));
+            (found.0, found.1, origin supplied seen k number found.0 fine (sym (value_is supplied (findings_of seen) k number) ∙ found.1));
       }
   dumped (Some width) None is_width is_capabilities empty done = cc done
   dumped None capabilities is_width is_capabilities empty done = cc done
 
   pub ended_dump : (test : Bool) → is_empty missing ≡ test
-      → (if test then dump_outcome (refusal seen.tally missing) values (processors seen.readings) notes (remarks auto seen.tally) (width_by supplied (slot_shown seen.readings) seen.width) (values 0 0xfe) else refusal seen.tally missing).status ≡ Done
-      → HasOrigins supplied seen (if test then dump_outcome (refusal seen.tally missing) values (processors seen.readings) notes (remarks auto seen.tally) (width_by supplied (slot_shown seen.readings) seen.width) (values 0 0xfe) else refusal seen.tally missing)
+      → (if test then dump_outcome (refusal seen.tally missing) summary summary.width (values 0 0xfe) else refusal seen.tally missing).status ≡ Done
+      → HasOrigins supplied seen (if test then dump_outcome (refusal seen.tally missing) summary summary.width (values 0 0xfe) else refusal seen.tally missing)
   ended_dump true is done = dumped (width_by supplied (slot_shown seen.readings) seen.width) (values 0 0xfe) refl refl (empty_text missing is) done
   ended_dump false is done = cc done
 
@@ -157,4 +160,4 @@ origins choice supplied text done = by (fault_of choice supplied text) refl done
     by (Some fault) is done = cc done
     by None is done =
         ended_dump supplied (seen_of choice text) (is_auto choice) (fine_of choice supplied text is)
-        (is_empty (missing_of supplied (slot_shown (readings_of choice text)) (processors (readings_of choice text)) (known_of (seen_of choice text)))) refl done
+        (is_empty (missing_of supplied (findings_of (seen_of choice text)))) refl done

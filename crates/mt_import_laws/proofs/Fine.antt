@@ -14,7 +14,7 @@ use Rattle.mt_import.specs.declared.shape.Slot.{Slot}
 use Rattle.mt_import.specs.Readings.{Fact, is_fault, is_line, is_register_value, is_warning, is_width}
 use Rattle.mt_import.specs.Slot.{clashes}
 use Rattle.mt_import.specs.Supplied.{Supplied, bits_differ, supplied_value}
-use Rattle.mt_import.specs.Outcome.{Seen, capabilities_shown, contradiction, count_rival, counts_fewer, enabled_pair, fact_fault, last_shown, facts_fault, fixed_rival, or_fault, or_rival, pairs_fault, reading_fault, rival, seen_after, seen_with, slot_shown}
+use Rattle.mt_import.specs.Outcome.{Seen, capabilities_shown, contradiction, count_rival, counts_fewer, least_count, fact_fault, last_shown, facts_fault, fixed_rival, or_fault, or_rival, pairs_fault, reading_fault, rival, seen_after, seen_with, slot_shown}
 use Rattle.mt_import_laws.specs.Origins.{IsAmong}
 use Rattle.mt_import_laws.proofs.Bits.{bit_first, bit_second, not_false, same_number, value_kept, value_new}
 
@@ -77,9 +77,9 @@ rival_by false false false line others is = (refl, refl, is, refl)
 
 pub tests_of_rival : (supplied : Supplied) (before : List Reading) (reading : Reading) → HasNoRival supplied before reading
     → (bits_differ (supplied_value supplied reading.number) reading.bits reading.value ≡ false) × (clashes (slot_shown before reading.processor reading.number) reading ≡ false)
-    × (count_rival (capabilities_shown before) (last_shown before) reading ≡ None) × (counts_fewer (supplied_value supplied 0xfe) (enabled_pair reading) ≡ false)
+    × (count_rival (capabilities_shown before) (last_shown before) reading ≡ None) × (counts_fewer (supplied_value supplied 0xfe) (least_count reading) ≡ false)
 tests_of_rival supplied before reading is =
-    rival_by (bits_differ (supplied_value supplied reading.number) reading.bits reading.value) (counts_fewer (supplied_value supplied 0xfe) (enabled_pair reading))
+    rival_by (bits_differ (supplied_value supplied reading.number) reading.bits reading.value) (counts_fewer (supplied_value supplied 0xfe) (least_count reading))
     (clashes (slot_shown before reading.processor reading.number) reading) (slot_shown before reading.processor reading.number).line (count_rival (capabilities_shown before) (last_shown before) reading) is.rival_is
 
 -- no word gives another bit

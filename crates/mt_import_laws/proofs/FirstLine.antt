@@ -10,15 +10,15 @@ use Rattle.mt_import.specs.declared.format.Format.{Format}
 use Rattle.mt_import.specs.declared.reading.Context.{Context}
 use Rattle.mt_import.specs.declared.reading.LineSays.{LineSays}
 use Rattle.mt_import.specs.declared.reading.LineSays.TheVariants.{Nothing, Announces, Value, Turns, Shows, Begins, FixedRanges, VariableRanges, Width, Warns, Long}
+use Rattle.mt_import.specs.declared.reading.Turn.TheVariants.{To}
 use Rattle.mt_import.specs.declared.shape.Tally.{Tally}
 use Rattle.mt_import.specs.Import.{log_outcome}
 use Rattle.mt_import.specs.Kernel.{is_warning_line}
-use Rattle.mt_import.specs.Outcome.{Seen, Outcome, dump_outcome, ended, fact_fault, facts_fault, is_empty, known_of, missing_of, nothing_seen, notes_of, or_fault, processors, refusal, remarks, seen_after, seen_with, slot_shown, unless, values_of}
+use Rattle.mt_import.specs.Outcome.{Seen, Summary, Outcome, dump_outcome, ended, ended_by, fact_fault, facts_fault, findings_of, is_empty, nothing_seen, or_fault, refusal, seen_after, seen_with, summary_of, unless}
 use Rattle.mt_import.specs.Pieces.{shows_width}
 use Rattle.mt_import.specs.Readings.{Fact, announced_after, context_after, fixed_after, is_fault, is_line, is_match, is_register_value, is_warning, is_width, line_facts, processor_after, said_facts, starts, table_behind}
 use Rattle.mt_import.specs.Shown.{context_behind, facts_from, facts_of_line, format_told, said_in, said_of, shown}
 use Rattle.mt_import.specs.Supplied.{Supplied}
-use Rattle.mt_import.specs.Values.{width_by}
 use Rattle.mt_import.specs.X86info.{is_listed, is_size, is_sizes, sizes_said}
 use Rattle.mt_import_laws.specs.FirstLine.{ComeToSame, LinesTellFirst, SaysAlike, TellsFirst, only_turns, says_same}
 
@@ -101,11 +101,11 @@ module _ (supplied : Supplied) where
 
 -- ---- lines
 
-keeps_width : (read : Result ℕ NumberFault) (place : Place) (processor : ℕ) → processor_after (shows_width read place) processor ≡ processor
+keeps_width : (read : Result ℕ NumberFault) (place : Place) (processor : Option ℕ) → processor_after (shows_width read place) processor ≡ processor
 keeps_width (Ok width) place processor = refl
 keeps_width (Err fault) place processor = refl
 
-keeps_sizes : (number : ℕ) (line : List ℕ) (processor : ℕ) → processor_after (sizes_said number line) processor ≡ processor
+keeps_sizes : (number : ℕ) (line : List ℕ) (processor : Option ℕ) → processor_after (sizes_said number line) processor ≡ processor
 keeps_sizes number line processor = by (is_sizes (take 7 (words_of line))) (is_size (take 7 (words_of line))) (is_listed (take 7 (words_of line))) _ _ _ (keeps_width _ _ processor) (keeps_width _ _ processor) (keeps_width _ _ processor)
   where
     by : (a b c : Bool) (x y z : LineSays) → processor_after x processor ≡ processor → processor_after y processor ≡ processor → processor_after z processor ≡ processor
@@ -116,7 +116,7 @@ keeps_sizes number line processor = by (is_sizes (take 7 (words_of line))) (is_s
     by false false false x y z one two three = refl
 
 -- a line that is of no format turns to no processor
-keeps_none : (number : ℕ) (line : List ℕ) (processor : ℕ) → processor_after (said_in None number line) processor ≡ processor
+keeps_none : (number : ℕ) (line : List ℕ) (processor : Option ℕ) → processor_after (said_in None number line) processor ≡ processor
 keeps_none number line processor = by (is_too_long line) (is_warning_line line) (keeps_sizes number line processor)
   where
     by : (long warns : Bool) → processor_after (sizes_said number line) processor ≡ processor
@@ -142,7 +142,7 @@ same_facts : (said : LineSays) (a b : Option Format) (context : Context) → sai
 same_facts Nothing a b context = refl
 same_facts (Announces processor number) a b context = refl
 same_facts (Value value place) a b context = refl
-same_facts (Turns processor) a b context = refl
+same_facts (Turns turn) a b context = refl
 same_facts (Shows processor shows) a b context = refl
 same_facts (Begins shows) a b context = refl
 same_facts (FixedRanges enabled alone place) a b context = refl
@@ -179,7 +179,7 @@ module _ (format : Format) (supplied : Supplied) where
   untold_all context number line lines none =
       ap (λ o. line_facts number o (apart context) (said_in o number line) ++ facts_from (context_after (apart context) o (said_in o number line)) (number + 1) lines) none
 
-  main : (lines : List (List ℕ)) (context : Context) (number : ℕ) (a b : Seen) → context.processor ≡ 0 → untold a ≡ untold b → LinesTellFirst format number lines
+  main : (lines : List (List ℕ)) (context : Context) (number : ℕ) (a b : Seen) → context.processor ≡ Some 0 → untold a ≡ untold b → LinesTellFirst format number lines
       → AreSame supplied a b (facts_from (apart context) number lines) (facts_from (within context) number lines)
   main [] context number a b zero same tells = absurd tells
   main (line ∷ lines) context number a b zero same (inl told) =
@@ -211,32 +211,29 @@ module _ (format : Format) (supplied : Supplied) where
           (is_line number None (is_match (said_in None number line)) ∷ (said_facts (apart context) (said_in None number line) ++ facts_from (apart (next context (said_in None number line))) (number + 1) lines))
           (is_line number (Some format) (is_match s) ∷ (said_facts (within context) s ++ facts_from (within (next context s)) (number + 1) lines))) (sym turns)
           (same_line supplied number None (Some format) (is_match (said_in None number line)) true a b _ _ same (λ c d both.
-          subst (λ (fs : List Fact). AreSame supplied c d (fs ++ facts_from (apart (next context (said_in None number line))) (number + 1) lines) (facts_from (within (next context (Turns 0))) (number + 1) lines))
+          subst (λ (fs : List Fact). AreSame supplied c d (fs ++ facts_from (apart (next context (said_in None number line))) (number + 1) lines) (facts_from (within (next context (Turns (To 0)))) (number + 1) lines))
           (sym (ap (said_facts (apart context)) nothing))
           (subst (λ (n : Context). AreSame supplied c d (facts_from (apart (next context (said_in None number line))) (number + 1) lines) (facts_from (within n) (number + 1) lines)) to_zero (later c d both))))
         where
-          to_zero : next context (said_in None number line) ≡ next context (Turns 0)
+          to_zero : next context (said_in None number line) ≡ next context (Turns (To 0))
           to_zero = ap (next context) nothing ∙ ap (λ p. next (record context { processor = p }) Nothing) zero
 
 -- ---- the outcome
 
-same_end : (auto other : Bool) (missing notes : List ℕ) (tally uncounted_tally : Tally) (values : ℕ → ℕ → Option ℕ) (count : ℕ) (width capabilities : Option ℕ)
-    → ComeToSame (if is_empty missing then dump_outcome (refusal tally missing) values count notes (remarks auto tally) width capabilities else refusal tally missing)
-    (if is_empty missing then dump_outcome (refusal uncounted_tally missing) values count notes (remarks other uncounted_tally) width capabilities else refusal uncounted_tally missing)
-same_end auto other missing notes tally uncounted_tally values count width capabilities = by (is_empty missing) width capabilities
+-- the same to tell, beside another count and with or without the name of the format
+same_end : (told : Summary) (auto : Bool) (tally : Tally) → ComeToSame (ended_by told) (ended_by (record told { tally = tally; auto = auto }))
+same_end told auto tally = by (is_empty told.missing) told.width (told.values 0 0xfe)
   where
-    by : (test : Bool) (w c : Option ℕ)
-        → ComeToSame (if test then dump_outcome (refusal tally missing) values count notes (remarks auto tally) w c else refusal tally missing)
-        (if test then dump_outcome (refusal uncounted_tally missing) values count notes (remarks other uncounted_tally) w c else refusal uncounted_tally missing)
+    by : (test : Bool) (width capabilities : Option ℕ)
+        → ComeToSame (if test then dump_outcome (refusal told.tally told.missing) told width capabilities else refusal told.tally told.missing)
+        (if test then dump_outcome (refusal tally told.missing) (record told { tally = tally; auto = auto }) width capabilities else refusal tally told.missing)
     by true None c = record { notes = refl; dump = refl; status = refl }
     by true (Some w) None = record { notes = refl; dump = refl; status = refl }
     by true (Some w) (Some c) = record { notes = refl; dump = refl; status = refl }
     by false w c = record { notes = refl; dump = refl; status = refl }
 
 uncounted_end : (auto other : Bool) (supplied : Supplied) (seen : Seen) → ComeToSame (ended auto supplied seen) (ended other supplied (uncounted seen))
-uncounted_end auto other supplied seen =
-    same_end auto other (missing_of supplied (slot_shown seen.readings) (processors seen.readings) (known_of seen)) (notes_of supplied (slot_shown seen.readings) (processors seen.readings) (known_of seen)) seen.tally (uncounted seen).tally
-    (values_of supplied (slot_shown seen.readings) (known_of seen)) (processors seen.readings) (width_by supplied (slot_shown seen.readings) seen.width) (values_of supplied (slot_shown seen.readings) (known_of seen) 0 0xfe)
+uncounted_end auto other supplied seen = same_end (summary_of auto supplied (findings_of seen) seen.tally) other (uncounted seen).tally
 
 both_ends : (supplied : Supplied) (a b : Seen) → uncounted a ≡ uncounted b → ComeToSame (ended true supplied a) (ended false supplied b)
 both_ends supplied a b same =

@@ -3,14 +3,12 @@ use Rattle.std.proofs.Common.{◌≡◌, ◌+◌, ℕ, Bool, true, false, List, 
 use Rattle.std.specs.Prelude.{if◌then◌else◌}
 use Rattle.mt_ports.specs.declared.status.Status.TheVariants.{BadText}
 use Rattle.mt_text.specs.Text.{lines_of}
-use Rattle.mt_import.specs.declared.fault.ImportFault.TheVariants.{Contradiction}
-use Rattle.mt_import.specs.declared.fault.Rival.TheVariants.{Line}
 use Rattle.mt_import.specs.declared.format.Choice.{Choice}
 use Rattle.mt_import.specs.declared.reading.Context.{Context}
 use Rattle.mt_import.specs.declared.reading.LineSays.{LineSays}
 use Rattle.mt_import.specs.declared.reading.LineSays.TheVariants.{Nothing, Announces, Value, Turns, Shows, Begins, FixedRanges, VariableRanges, Width, Warns, Long}
 use Rattle.mt_import.specs.declared.shape.FixedLine.{FixedLine}
-use Rattle.mt_import.specs.Readings.{fixed_after, fixed_line, fixed_shows, is_fault, is_fixed_clash, is_line, is_match, said_facts, shows_facts, starts, unlike}
+use Rattle.mt_import.specs.Readings.{fixed_after, fixed_clash, fixed_shows, is_line, is_match, said_facts, shows_facts, starts, unless_clash, unlike}
 use Rattle.mt_import.specs.Shown.{chosen, context_behind, facts_from, facts_of_line, format_of, is_auto, said_in}
 use Rattle.mt_import.specs.Supplied.{Supplied}
 use Rattle.mt_import.specs.Outcome.{Seen, ended, facts_fault, nothing_seen, seen_after, seen_with}
@@ -26,13 +24,17 @@ agree true false is = cc is
 agree false true is = cc is
 agree false false is = refl
 
+like : (test : Bool) (line : ℕ) → (if test then Some line else None) ≡ None → test ≡ false
+like true line is = cc is
+like false line is = refl
+
 -- a line says one of both
 never_both : (said : LineSays) → SaysFixed said true → SaysFixed said false → ⊥
 never_both (FixedRanges enabled alone place) on off = let e : true ≡ false = sym on ∙ off in cc e
 never_both Nothing on off = on
 never_both (Announces processor number) on off = on
 never_both (Value value place) on off = on
-never_both (Turns processor) on off = on
+never_both (Turns turn) on off = on
 never_both (Shows processor shows) on off = on
 never_both (Begins shows) on off = on
 never_both (VariableRanges enabled place) on off = on
@@ -49,17 +51,16 @@ record LastSays (fixed : Option FixedLine) (on : Bool) : Type 0 where
 module _ (supplied : Supplied) where
   -- a line without a fault says what the last one said
   as_last : (context : Context) (seen : Seen) (said : LineSays) (flag on : Bool) → facts_fault supplied seen (said_facts context said) ≡ None → LastSays context.fixed flag → SaysFixed said on → on ≡ flag
-  as_last context seen (FixedRanges enabled alone place) flag on none last says = sym says ∙ by (is_fixed_clash context.fixed enabled) refl none ∙ last.says
+  as_last context seen (FixedRanges enabled alone place) flag on none last says = sym says ∙ by (fixed_clash context.fixed enabled) refl none ∙ last.says
     where
-      by : (test : Bool) → is_fixed_clash context.fixed enabled ≡ test
-          → facts_fault supplied seen (if test then is_fault (Contradiction place 0x2ff (Line (fixed_line context.fixed))) ∷ [] else shows_facts 0 context.table (fixed_shows enabled alone place)) ≡ None
+      by : (clash : Option ℕ) → fixed_clash context.fixed enabled ≡ clash → facts_fault supplied seen (unless_clash clash place (shows_facts 0 context.table (fixed_shows enabled alone place))) ≡ None
           → enabled ≡ last.line.is_enabled
-      by true is fault = cc fault
-      by false is fault = agree last.line.is_enabled enabled (sym (ap (λ o. is_fixed_clash o enabled) last.last) ∙ is)
+      by (Some line) is fault = cc fault
+      by None is fault = agree last.line.is_enabled enabled (like (unlike last.line.is_enabled enabled) last.line.line (sym (ap (λ o. fixed_clash o enabled) last.last) ∙ is))
   as_last context seen Nothing flag on none last says = absurd says
   as_last context seen (Announces processor number) flag on none last says = absurd says
   as_last context seen (Value value place) flag on none last says = absurd says
-  as_last context seen (Turns processor) flag on none last says = absurd says
+  as_last context seen (Turns turn) flag on none last says = absurd says
   as_last context seen (Shows processor shows) flag on none last says = absurd says
   as_last context seen (Begins shows) flag on none last says = absurd says
   as_last context seen (VariableRanges enabled place) flag on none last says = absurd says
@@ -73,7 +74,7 @@ module _ (supplied : Supplied) where
   says_on Nothing table before on says = absurd says
   says_on (Announces processor number) table before on says = absurd says
   says_on (Value value place) table before on says = absurd says
-  says_on (Turns processor) table before on says = absurd says
+  says_on (Turns turn) table before on says = absurd says
   says_on (Shows processor shows) table before on says = absurd says
   says_on (Begins shows) table before on says = absurd says
   says_on (VariableRanges enabled place) table before on says = absurd says
@@ -86,7 +87,7 @@ module _ (supplied : Supplied) where
   still Nothing table before flag same last = last
   still (Announces processor number) table before flag same last = last
   still (Value value place) table before flag same last = last
-  still (Turns processor) table before flag same last = last
+  still (Turns turn) table before flag same last = last
   still (Shows processor shows) table before flag same last = last
   still (Begins shows) table before flag same last = last
   still (VariableRanges enabled place) table before flag same last = last

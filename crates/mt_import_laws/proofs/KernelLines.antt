@@ -14,7 +14,7 @@ use Rattle.mt_import.specs.declared.format.Format.{Format}
 use Rattle.mt_import.specs.declared.format.Format.TheVariants.{Linux, Xen}
 use Rattle.mt_import.specs.declared.reading.LineSays.{LineSays}
 use Rattle.mt_import.specs.declared.reading.LineSays.TheVariants.{Begins, FixedRanges, Nothing, Shows, VariableRanges}
-use Rattle.mt_import.specs.Kernel.{addresses_said, all_fixed_shown, base_value, default_shown, disabled_said, enabled_by, fixed_said, kernel_said, mask_value, pair_said, run_said, type_named, variable_said}
+use Rattle.mt_import.specs.Kernel.{addresses_said, all_fixed_shown, base_value, default_shown, disabled_said, enabled_by, fixed_run, fixed_said, kernel_said, mask_value, pair_said, run_said, type_named, variable_said}
 use Rattle.mt_import.specs.LineWords.{behind_log, behind_stamp, head_end, is_closed, is_closing}
 use Rattle.mt_import.specs.Linux.{is_map, linux_said, linux_words_said}
 use Rattle.mt_import.specs.Pieces.{is_text, number_in, shown_as, shown_bits, value_at}
@@ -347,12 +347,12 @@ module _ (format : Format) (alone : Bool) (style : Style) (kernel : IsKernel for
     less_test a b less = grind (arith, nat_tests, less)
 
     by_addresses : (place : Place) (first last code : Option ℕ) → first ≡ Some (range_start run.0) → last ≡ Some (range_start run.1 - 1) → code ≡ Some (range_type file run.0)
-        → addresses_said first last code place ≡ Shows (Some 0) (all_fixed_shown run.0 run.1 (range_type file run.0) place)
+        → addresses_said first last code place ≡ Shows (Some 0) (all_fixed_shown (fixed_run run.0 run.1 (range_type file run.0) place))
     by_addresses place first last code one two three =
         let range = range_read run.0 run.1 low (omega (arith, some)) high in
         rw (one, two, three, less_test (range_start run.1 - 1) 0x100000 range.last_small, range.first_read, range.last_read, less_test run.0 run.1 some) refl
 
-    pub run_line_said : (number : ℕ) → said_of format number (run_line style file run) ≡ Shows (Some 0) (all_fixed_shown run.0 run.1 (range_type file run.0) (run_place number))
+    pub run_line_said : (number : ℕ) → said_of format number (run_line style file run) ≡ Shows (Some 0) (all_fixed_shown (fixed_run run.0 run.1 (range_type file run.0) (run_place number)))
     unfolding run_place
     run_line_said number =
         let name = type_names (range_type file run.0) named in

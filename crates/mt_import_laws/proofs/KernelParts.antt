@@ -14,7 +14,7 @@ use Rattle.mt_regs.specs.RegisterFile.{RegisterFile, is_enabled, is_fixed_enable
 use Rattle.mt_regs.specs.Registers.{fixed_numbers}
 use Rattle.mt_text.specs.declared.place.Place.{Place}
 use Rattle.mt_import.specs.declared.shape.Shown.{Shown}
-use Rattle.mt_import.specs.Kernel.{all_fixed_shown, fixed_by, fixed_shown, in_run, run_bytes}
+use Rattle.mt_import.specs.Kernel.{all_fixed_shown, fixed_by, fixed_run, fixed_shown, in_run, run_bytes}
 use Rattle.mt_import.specs.Pieces.{shown_bits}
 use Rattle.mt_import_laws.specs.Origins.{IsAmong}
 use Rattle.mt_import_laws.specs.PrintedByEdk2.{is_valid}
@@ -114,7 +114,7 @@ module _ (file : RegisterFile) where
     all_bytes (suc (suc (suc (suc (suc (suc (suc (suc (suc (suc (suc n))))))))))) few = absurd (omega (arith, few))
 
     shown_true : (register number : ℕ) → register < 11 → number ≡ slice_index fixed_numbers register
-        → IsTrueShown file (kernel_bits file) (fixed_shown run.0 run.1 code place (8 * register) number)
+        → IsTrueShown file (kernel_bits file) (fixed_shown (fixed_run run.0 run.1 code place) (8 * register) number)
     shown_true register number few numbered = by (run_bytes run.0 run.1 (8 * register) == 0)
       where
         by : (test : Bool) → IsTrueShown file (kernel_bits file) (if test then None else shown_bits number (255 * run_bytes run.0 run.1 (8 * register)) (code * run_bytes run.0 run.1 (8 * register)) place)
@@ -128,7 +128,7 @@ module _ (file : RegisterFile) where
           value = ap (λ m. code * m) (all_bytes register few) ∙ sym (part_of register) ∙ ap (λ m. bit_and (slice_index file.fixed register) (255 * m)) (sym (all_bytes register few));
         })
 
-    pub run_true : AllByRecursion (IsTrueShown file (kernel_bits file)) (all_fixed_shown run.0 run.1 code place)
+    pub run_true : AllByRecursion (IsTrueShown file (kernel_bits file)) (all_fixed_shown (fixed_run run.0 run.1 code place))
     run_true = (
       shown_true 0 0x250 (lit< tt) refl,
       (
@@ -161,14 +161,14 @@ module _ (file : RegisterFile) where
     -- the register's part is shown if the run has one of its ranges
     pub record ShowsPart (register : ℕ) : Type 0 where
       pub shown : Shown
-      pub among : IsAmong (Some shown) (all_fixed_shown run.0 run.1 code place)
+      pub among : IsAmong (Some shown) (all_fixed_shown (fixed_run run.0 run.1 code place))
       pub number : shown.number ≡ slice_index fixed_numbers register
       pub bits : shown.bits ≡ 255 * marks run.0 run.1 8 (8 * register)
 
     some_bytes : (number bytes : ℕ) → (bytes == 0) ≡ false → Some (record { number = number; bits = 255 * bytes; value = code * bytes; place = place }) ≡ fixed_by number bytes code place
     some_bytes number bytes some = rw some refl
 
-    one_part : (register number : ℕ) → ((shown : Option Shown) → shown ≡ fixed_shown run.0 run.1 code place (8 * register) number → IsAmong shown (all_fixed_shown run.0 run.1 code place)) → number ≡ slice_index fixed_numbers register
+    one_part : (register number : ℕ) → ((shown : Option Shown) → shown ≡ fixed_shown (fixed_run run.0 run.1 code place) (8 * register) number → IsAmong shown (all_fixed_shown (fixed_run run.0 run.1 code place))) → number ≡ slice_index fixed_numbers register
         → register < 11 → (run_bytes run.0 run.1 (8 * register) == 0) ≡ false → ShowsPart register
     one_part register number among numbered few some = record {
       shown = record { number = number; bits = 255 * run_bytes run.0 run.1 (8 * register); value = code * run_bytes run.0 run.1 (8 * register); place = place };

@@ -18,7 +18,7 @@ use Rattle.mt_import.specs.declared.reading.LineSays.TheVariants.{VariableRanges
 use Rattle.mt_import.specs.declared.shape.FixedLine.{FixedLine}
 use Rattle.mt_import.specs.declared.shape.Reading.{Reading}
 use Rattle.mt_import.specs.declared.shape.Shown.{Shown}
-use Rattle.mt_import.specs.Kernel.{all_fixed_shown}
+use Rattle.mt_import.specs.Kernel.{all_fixed_shown, fixed_run}
 use Rattle.mt_import.specs.Pieces.{shown_as, shown_bits}
 use Rattle.mt_import.specs.Readings.{Fact, fixed_shows, flag_shown, is_line, is_off, one_shown, shows_facts, starts, two_shown}
 use Rattle.mt_import.specs.Shown.{context_behind, facts_from, facts_of_line, said_of, shown}
@@ -82,7 +82,7 @@ module _ (format : Format) (alone : Bool) (style : Style) (kernel : IsKernel for
         let low : run.0 < 88 = omega (arith, some, within) in
         let named = suits.ranges_named has run.0 low in
         record {
-          shows = λ number. all_fixed_shown run.0 run.1 (range_type file run.0) (run_place format alone style kernel file run low is.some is.within named number);
+          shows = λ number. all_fixed_shown (fixed_run run.0 run.1 (range_type file run.0) (run_place format alone style kernel file run low is.some is.within named number));
           said = run_line_said format alone style kernel file run low is.some is.within named;
           tells = λ number. run_true file run is (run_place format alone style kernel file run low is.some is.within named number);
         }
@@ -584,7 +584,7 @@ module _ (format : Format) (alone : Bool) (style : Style) (kernel : IsKernel for
               let part = (bit_shown file run.run is (run_place format alone style kernel file run.run low is.some is.within named number) place i less within run.low run.high).0 in
               record {
                 processor = Some 0;
-                shows = all_fixed_shown run.run.0 run.run.1 (range_type file run.run.0) (run_place format alone style kernel file run.run low is.some is.within named number);
+                shows = all_fixed_shown (fixed_run run.run.0 run.run.1 (range_type file run.run.0) (run_place format alone style kernel file run.run low is.some is.within named number));
                 shown = part.shown;
                 said_is = run_line_said format alone style kernel file run.run low is.some is.within named number;
                 among = part.among;

@@ -1,5 +1,5 @@
 -- Lines of a kernel's table in their order, among lines that say no more of a dump than the file.
-use Rattle.std.proofs.Common.{◌≡◌, ◌∙◌, ◌+◌, ◌==◌, ℕ, Bool, true, false, List, [], ◌∷◌, ◌++◌, Option, Some, None, refl, sym, ap, subst, inl, inr, unwrap_or, lit<}
+use Rattle.std.proofs.Common.{◌≡◌, ◌∙◌, ◌+◌, ◌==◌, ℕ, Bool, true, false, List, [], ◌∷◌, ◌++◌, Option, Some, None, refl, sym, ap, subst, inl, inr, lit<}
 use Rattle.std.specs.Prelude.{◌||◌, if◌then◌else◌}
 use Rattle.std.specs.List.{AllByRecursion}
 use Rattle.mt_regs.specs.declared.registers.Register.TheVariants.{PhysBase, PhysMask, FixedRange, Pat, DefaultType}
@@ -8,9 +8,10 @@ use Rattle.mt_import.specs.declared.format.Format.{Format}
 use Rattle.mt_import.specs.declared.reading.Context.{Context}
 use Rattle.mt_import.specs.declared.reading.LineSays.{LineSays}
 use Rattle.mt_import.specs.declared.reading.LineSays.TheVariants.{Nothing, Shows, Turns, Warns, Width}
+use Rattle.mt_import.specs.declared.reading.Turn.TheVariants.{To}
 use Rattle.mt_import.specs.declared.shape.FixedLine.{FixedLine}
 use Rattle.mt_import.specs.declared.shape.Shown.{Shown}
-use Rattle.mt_import.specs.Readings.{Fact, fixed_after, is_line, is_match, is_register, is_register_value, processor_after, said_facts, shown_facts, shows_facts, table_behind}
+use Rattle.mt_import.specs.Readings.{Fact, fixed_after, is_line, is_match, is_register, is_register_value, named_processor, processor_after, said_facts, shown_facts, shows_facts, table_behind}
 use Rattle.mt_import.specs.Shown.{context_behind, facts_from, facts_of_line, said_of}
 use Rattle.mt_import_laws.specs.Origins.{IsAmong, context_after_lines}
 use Rattle.mt_import_laws.specs.Printed.{IsSame, Key, SaysNoMore, TellsNoMore, Weaves, is_kernel, no_match, number_at, only_shows, only_turns, only_warns, only_width}
@@ -85,7 +86,7 @@ module _ (file : RegisterFile) where
   -- what a table's lines lead to, with what holds of the last line on fixed ranges
   pub record IsWithin (format : Format) (table : ℕ) (fixed : Option FixedLine → Type 0) (context : Context) : Type 0 where
     pub format_is : context.format ≡ Some format
-    pub processor_is : context.processor ≡ 0
+    pub processor_is : context.processor ≡ Some 0
     pub table_is : context.table ≡ table
     pub fixed_is : fixed context.fixed
 
@@ -113,7 +114,7 @@ module _ (file : RegisterFile) where
   no_more_table format context said one (only_warns is) = rw is (tt, tt)
   no_more_table format context said one (only_turns is) = rw is tt
   no_more_table format context said one (only_shows processor shows is own others) =
-      rw is (subst (λ t. AllByRecursion (IsOfTable 1) (shows_facts (unwrap_or processor context.processor) t shows)) (sym one) (table_of (unwrap_or processor context.processor) 1 shows))
+      rw is (subst (λ t. AllByRecursion (IsOfTable 1) (shows_facts (named_processor processor context.processor) t shows)) (sym one) (table_of (named_processor processor context.processor) 1 shows))
 
   module _ (format : Format) (table : ℕ) (fixed : Option FixedLine → Type 0) where
     pub keeps : (context : Context) (number : ℕ) (line : List ℕ) (said : LineSays) → said_of format number line ≡ said → processor_after said context.processor ≡ context.processor → table_behind said context.table ≡ context.table
@@ -129,7 +130,7 @@ module _ (file : RegisterFile) where
     no_more_next context number line is (no_match said) = keeps context number line Nothing said refl refl refl is
     no_more_next context number line is (only_width place said) = keeps context number line (Width file.width place) said refl refl refl is
     no_more_next context number line is (only_warns said) = keeps context number line Warns said refl refl refl is
-    no_more_next context number line is (only_turns said) = keeps context number line (Turns 0) said (sym is.processor_is) refl refl is
+    no_more_next context number line is (only_turns said) = keeps context number line (Turns (To 0)) said (sym is.processor_is) refl refl is
     no_more_next context number line is (only_shows processor shows said own others) = keeps context number line (Shows processor shows) said refl refl refl is
 
     -- behind such lines
@@ -148,7 +149,7 @@ module _ (file : RegisterFile) where
         }))
 
   -- lines in front of a table tell of the file
-  pub front_sound : (format : Format) → is_kernel format ≡ true → IsRegisterFile file → (front : List (List ℕ)) (context : Context) (number : ℕ) → context.format ≡ Some format → context.processor ≡ 0
+  pub front_sound : (format : Format) → is_kernel format ≡ true → IsRegisterFile file → (front : List (List ℕ)) (context : Context) (number : ℕ) → context.format ≡ Some format → context.processor ≡ Some 0
       → AllByRecursion (TellsNoMore format file) front → AllByRecursion (IsSound (same_file file) 1 (kernel_bits file)) (facts_from context number front)
   front_sound format kernel is_file front context number is own others =
       lines_true (same_file file) 1 (kernel_bits file) 0 (lit< tt) refl format front context number is own (λ line among at.

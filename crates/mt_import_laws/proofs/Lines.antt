@@ -1,11 +1,9 @@
 -- Each reading is of one line, and of the table that the last heading begins.
 use Rattle.std.proofs.Common.{◌≡◌, ◌+◌, ℕ, Bool, true, false, List, [], ◌∷◌, ◌++◌, length, Option, Some, None, refl, sym, ◌∙◌, ap, subst, inl, inr, arith}
-use Rattle.std.specs.Prelude.{◌⊎◌, if◌then◌else◌, unwrap_or}
+use Rattle.std.specs.Prelude.{◌⊎◌, if◌then◌else◌}
 use Rattle.mt_ports.specs.Causes.{one_more}
 use Rattle.mt_text.specs.Text.{lines_of}
 use Rattle.mt_text.specs.declared.place.Place.{Place}
-use Rattle.mt_import.specs.declared.fault.ImportFault.TheVariants.{Contradiction}
-use Rattle.mt_import.specs.declared.fault.Rival.TheVariants.{Line}
 use Rattle.mt_import.specs.declared.format.Choice.{Choice}
 use Rattle.mt_import.specs.declared.reading.Context.{Context}
 use Rattle.mt_import.specs.declared.reading.LineSays.{LineSays}
@@ -14,7 +12,7 @@ use Rattle.mt_import.specs.declared.shape.Announced.{Announced}
 use Rattle.mt_import.specs.declared.shape.Reading.{Reading}
 use Rattle.mt_import.specs.declared.shape.Shown.{Shown}
 use Rattle.mt_import.specs.Pieces.{shown_as}
-use Rattle.mt_import.specs.Readings.{Fact, fixed_facts, fixed_line, fixed_shows, is_fault, is_fixed_clash, is_line, is_register, is_register_value, is_warning, is_width, reading_facts, said_facts, shown_facts, shows_facts, starts, table_behind, value_facts, variable_shows}
+use Rattle.mt_import.specs.Readings.{Fact, fixed_clash, fixed_facts, fixed_shows, is_fault, is_line, is_register, is_register_value, is_warning, is_width, named_processor, reading_facts, said_facts, shown_facts, shows_facts, starts, table_behind, unless_clash, value_facts, variable_shows}
 use Rattle.mt_import.specs.Shown.{chosen, context_behind, facts_from, facts_of_line, format_of, said_in, shown}
 use Rattle.mt_import.specs.Outcome.{Seen, nothing_seen, seen_after, seen_with}
 use Rattle.mt_import_laws.specs.Origins.{IsAmong, IsOfLine, IsRead, context_after_lines, heads, is_heading, readings_of, tables_behind}
@@ -71,7 +69,7 @@ heading_by : (said : LineSays) (tables : ℕ) → table_behind said tables ≡ (
 heading_by Nothing tables = refl
 heading_by (Announces processor number) tables = refl
 heading_by (Value value place) tables = refl
-heading_by (Turns processor) tables = refl
+heading_by (Turns turn) tables = refl
 heading_by (Shows processor shows) tables = refl
 heading_by (Begins shows) tables = refl
 heading_by (FixedRanges enabled alone place) tables = refl
@@ -121,19 +119,19 @@ of_value None table value place reading among = absurd among
 of_value (Some announced) table value place reading among = of_shown announced.processor table (shown_as announced.number value place) reading among
 
 of_fixed : (context : Context) (enabled alone : Bool) (place : Place) → AreOf context.table (fixed_facts context enabled alone place)
-of_fixed context enabled alone place = by (is_fixed_clash context.fixed enabled)
+of_fixed context enabled alone place = by (fixed_clash context.fixed enabled)
   where
-    by : (test : Bool) → AreOf context.table (if test then is_fault (Contradiction place 0x2ff (Line (fixed_line context.fixed))) ∷ [] else shows_facts 0 context.table (fixed_shows enabled alone place))
-    by true reading (inl same) = cc same
-    by true reading (inr none) = absurd none
-    by false reading among = of_shows 0 context.table (fixed_shows enabled alone place) reading among
+    by : (clash : Option ℕ) → AreOf context.table (unless_clash clash place (shows_facts 0 context.table (fixed_shows enabled alone place)))
+    by (Some line) reading (inl same) = cc same
+    by (Some line) reading (inr none) = absurd none
+    by None reading among = of_shows 0 context.table (fixed_shows enabled alone place) reading among
 
 of_said : (context : Context) (said : LineSays) → AreOf (table_behind said context.table) (said_facts context said)
 of_said context Nothing reading among = absurd among
 of_said context (Announces processor number) reading among = absurd among
 of_said context (Value value place) reading among = of_value context.announced context.table value place reading among
-of_said context (Turns processor) reading among = absurd among
-of_said context (Shows processor shows) reading among = of_shows (unwrap_or processor context.processor) context.table shows reading among
+of_said context (Turns turn) reading among = absurd among
+of_said context (Shows processor shows) reading among = of_shows (named_processor processor context.processor) context.table shows reading among
 of_said context (Begins shows) reading among = of_shows 0 (one_more context.table) shows reading among
 of_said context (FixedRanges enabled alone place) reading among = of_fixed context enabled alone place reading among
 of_said context (VariableRanges enabled place) reading among = of_shows 0 context.table (variable_shows context enabled place) reading among

@@ -14,7 +14,7 @@ use Rattle.mt_import.specs.Readings.{one_shown, two_shown}
 use Rattle.mt_import.specs.Coreboot.{flag_said, fixed_of, level_words, other_from, said_from, said_of_id, set_from, shows_pair as shows_set_pair, size_from}
 use Rattle.mt_import.specs.Edk2.{said_by_words as edk2_words, shows_pair}
 use Rattle.mt_import.specs.Inteltool.{said_by_words as inteltool_words, turned_by as turned_to_core, turned_to as turned_to_core_number}
-use Rattle.mt_import.specs.Kernel.{addresses_said, all_fixed_shown, default_shown, disabled_said, fixed_said, fixed_shown, head_said, kernel_said, pair_said, run_said, types_said, variable_said}
+use Rattle.mt_import.specs.Kernel.{addresses_said, all_fixed_shown, default_shown, disabled_said, fixed_run, fixed_said, fixed_shown, head_said, kernel_said, pair_said, run_said, types_said, variable_said}
 use Rattle.mt_import.specs.LineWords.{head_end, words_behind}
 use Rattle.mt_import.specs.Linux.{cleanup_said, count_said, is_map, linux_words_said, map_said, pair_shown, pat_changed, pat_said, region_said, size_shown}
 use Rattle.mt_import.specs.Rdmsr.{announced, call_behind, call_from, option_at, said_by_words as rdmsr_words, said_value}
@@ -39,7 +39,7 @@ module _ (move : ℕ → ℕ) where
   moved_said Nothing = Nothing
   moved_said (Announces processor number) = Announces processor number
   moved_said (Value value place) = Value value (moved_place move place)
-  moved_said (Turns processor) = Turns processor
+  moved_said (Turns turn) = Turns turn
   moved_said (Shows processor shows) = Shows processor (map moved_shown shows)
   moved_said (Begins shows) = Begins (map moved_shown shows)
   moved_said (FixedRanges enabled alone place) = FixedRanges enabled alone (moved_place move place)
@@ -161,10 +161,11 @@ module _ (move : ℕ → ℕ) where
   head alone number words =
       search (if_said, begins, default, flag_fixed, flag_variable)
 
-  fixed : (first end code : ℕ) (place : Place) (at number : ℕ) → moved_shown (fixed_shown first end code place at number) ≡ fixed_shown first end code (moved_place move place) at number
+  fixed : (first end code : ℕ) (place : Place) (at number : ℕ)
+      → moved_shown (fixed_shown (fixed_run first end code place) at number) ≡ fixed_shown (fixed_run first end code (moved_place move place)) at number
   fixed first end code place at number = search if_shown
 
-  all_fixed : (first end code : ℕ) (place : Place) → map moved_shown (all_fixed_shown first end code place) ≡ all_fixed_shown first end code (moved_place move place)
+  all_fixed : (first end code : ℕ) (place : Place) → map moved_shown (all_fixed_shown (fixed_run first end code place)) ≡ all_fixed_shown (fixed_run first end code (moved_place move place))
   all_fixed first end code place =
       next _ _ _ _ (fixed first end code place 0 0x250) (next _ _ _ _ (fixed first end code place 8 0x258) (next _ _ _ _ (fixed first end code place 16 0x259)
       (next _ _ _ _ (fixed first end code place 24 0x268) (next _ _ _ _ (fixed first end code place 32 0x269) (next _ _ _ _ (fixed first end code place 40 0x26a)
@@ -232,13 +233,12 @@ module _ (move : ℕ → ℕ) where
 
   -- ---- coreboot
 
-  set_pair : (pair : Result ℕ NumberFault) (base mask : Option ℕ) (kind : Result ℕ NumberFault) (base_place mask_place : Place)
-      → moved_said (shows_set_pair pair base mask kind base_place mask_place) ≡ shows_set_pair pair base mask kind (moved_place move base_place) (moved_place move mask_place)
-  set_pair (Ok pair) (Some base) (Some mask) (Ok kind) base_place mask_place = search if_said
-  set_pair (Ok pair) (Some base) (Some mask) (Err fault) base_place mask_place = refl
-  set_pair (Ok pair) (Some base) None kind base_place mask_place = refl
-  set_pair (Ok pair) None mask kind base_place mask_place = refl
-  set_pair (Err fault) base mask kind base_place mask_place = refl
+  set_pair : (pair : Result ℕ NumberFault) (base_place : Place) (base : Option ℕ) (mask_place : Place) (mask : Option ℕ)
+      → moved_said (shows_set_pair pair base_place base mask_place mask) ≡ shows_set_pair pair (moved_place move base_place) base (moved_place move mask_place) mask
+  set_pair (Err fault) base_place base mask_place mask = refl
+  set_pair (Ok pair) base_place None mask_place mask = refl
+  set_pair (Ok pair) base_place (Some base) mask_place None = refl
+  set_pair (Ok pair) base_place (Some base) mask_place (Some mask) = refl
 
   set : (first number : ℕ) (words : List (ℕ × List ℕ)) → moved_said (set_from first number words) ≡ set_from first (move number) words
   set first number words = search (if_said, one, set_pair, begins, default)
@@ -280,7 +280,7 @@ module _ (move : ℕ → ℕ) where
   or_sizes Nothing number line = in_each number line
   or_sizes (Announces processor register) number line = refl
   or_sizes (Value value place) number line = refl
-  or_sizes (Turns processor) number line = refl
+  or_sizes (Turns turn) number line = refl
   or_sizes (Shows processor shows) number line = refl
   or_sizes (Begins shows) number line = refl
   or_sizes (FixedRanges enabled alone place) number line = refl
@@ -303,7 +303,7 @@ module _ (move : ℕ → ℕ) where
   telling Nothing = refl
   telling (Announces processor register) = refl
   telling (Value value place) = refl
-  telling (Turns processor) = refl
+  telling (Turns turn) = refl
   telling (Shows processor shows) = refl
   telling (Begins shows) = refl
   telling (FixedRanges enabled alone place) = refl

@@ -1,6 +1,6 @@
 -- Lines with other numbers come to the same facts, faults and readings but for the lines that they name.
 use Rattle.std.proofs.Common.{◌≡◌, ◌∙◌, ◌+◌, ◌==◌, ◌&&◌, nat_lt, max, ℕ, Bool, true, false, List, [], ◌∷◌, ◌++◌, bit_or, map, Option, Some, None, refl, sym, ap}
-use Rattle.std.specs.Prelude.{⊤, if◌then◌else◌, unwrap_or}
+use Rattle.std.specs.Prelude.{⊤, if◌then◌else◌}
 use Rattle.std.proofs.Math.Path.{fun_ext}
 use Rattle.std.proofs.lemmas.List.{map-append}
 use Rattle.mt_ports.specs.Causes.{one_more}
@@ -21,11 +21,11 @@ use Rattle.mt_import.specs.declared.shape.Reading.{Reading}
 use Rattle.mt_import.specs.declared.shape.Shown.{Shown}
 use Rattle.mt_import.specs.declared.shape.Slot.{Slot}
 use Rattle.mt_import.specs.Pieces.{shown_as}
-use Rattle.mt_import.specs.Readings.{Fact, context_after, fixed_facts, fixed_shows, is_fault, is_line, is_match, is_register, is_register_value, is_warning, is_width, line_facts, reading_facts, said_facts, shown_facts, shows_facts, unlike, value_facts, variable_bits, variable_shows}
+use Rattle.mt_import.specs.Readings.{Fact, context_after, fixed_facts, fixed_shows, is_fault, is_line, is_match, is_register, is_register_value, is_warning, is_width, line_facts, named_processor, reading_facts, said_facts, shown_facts, shows_facts, unless_clash, unlike, value_facts, variable_bits, variable_shows}
 use Rattle.mt_import.specs.Shown.{chosen, context_behind, facts_from, facts_of_line, said_in}
 use Rattle.mt_import.specs.Slot.{clashes, slot_with}
 use Rattle.mt_import.specs.Supplied.{Supplied, bits_differ, differs, supplied_value}
-use Rattle.mt_import.specs.Outcome.{Seen, capabilities_shown, capability_rival, contradiction, count_rival, counted, counts_fewer, enabled_pair, fact_fault, facts_fault, fix_shown, fixed_rival, fixless_rival, lacks_fix, last_after, last_fixed_line, last_shown, or_fault, or_rival, pairs_fault, processors, ranged_rival, reading_fault, rival, seen_after, seen_with, shows_fixed, shows_no_fix, slot_shown, width_contradiction, width_fault, width_rival}
+use Rattle.mt_import.specs.Outcome.{Seen, capabilities_shown, capability_rival, contradiction, count_rival, counted, counts_fewer, fact_fault, facts_fault, fix_shown, fixed_rival, fixless_rival, lacks_fix, last_after, last_fixed_line, last_shown, least_count, or_fault, or_rival, pairs_fault, processors, ranged_rival, reading_fault, rival, seen_after, seen_with, shows_fixed, shows_no_fix, slot_shown, uncounted_rival, width_contradiction, width_fault, width_rival}
 use Rattle.mt_import_laws.specs.Origins.{context_after_lines}
 use Rattle.mt_import_laws.specs.Spare.{moved_fault, moved_place, moved_rival}
 use Rattle.mt_import_laws.proofs.Moved.{each, in_format, moved_said, moved_shown, same_chosen}
@@ -80,13 +80,18 @@ module _ (move : ℕ → ℕ) where
   of_flags : (table : ℕ) (enabled alone : Bool) (place : Place) → map moved_fact (shows_facts 0 table (fixed_shows enabled alone place)) ≡ shows_facts 0 table (fixed_shows enabled alone (moved_place move place))
   of_flags table enabled alone place = of_shows 0 table (fixed_shows enabled alone place) ∙ ap (shows_facts 0 table) (flags enabled alone place)
 
-  of_fixed : (format : Option Format) (announced : Option Announced) (processor table : ℕ) (fixed : Option FixedLine) (enabled alone : Bool) (place : Place)
+  of_fixed : (format : Option Format) (announced : Option Announced) (processor : Option ℕ) (table : ℕ) (fixed : Option FixedLine) (enabled alone : Bool) (place : Place)
       → let context : Context = record { format = format; announced = announced; processor = processor; table = table; fixed = fixed } in
       map moved_fact (fixed_facts context enabled alone place) ≡ fixed_facts (moved_context context) enabled alone (moved_place move place)
   of_fixed format announced processor table None enabled alone place = of_flags table enabled alone place
-  of_fixed format announced processor table (Some line) enabled alone place = each (map moved_fact) (unlike line.is_enabled enabled) _ _ _ _ refl (of_flags table enabled alone place)
+  of_fixed format announced processor table (Some line) enabled alone place = by (unlike line.is_enabled enabled)
+    where
+      by : (test : Bool) → map moved_fact (unless_clash (if test then Some line.line else None) place (shows_facts 0 table (fixed_shows enabled alone place)))
+          ≡ unless_clash (if test then Some (move line.line) else None) (moved_place move place) (shows_facts 0 table (fixed_shows enabled alone (moved_place move place)))
+      by true = refl
+      by false = of_flags table enabled alone place
 
-  same_bits : (format : Option Format) (announced : Option Announced) (processor table : ℕ) (fixed : Option FixedLine) (enabled : Bool)
+  same_bits : (format : Option Format) (announced : Option Announced) (processor : Option ℕ) (table : ℕ) (fixed : Option FixedLine) (enabled : Bool)
       → let context : Context = record { format = format; announced = announced; processor = processor; table = table; fixed = fixed } in
       variable_bits context enabled ≡ variable_bits (moved_context context) enabled
   same_bits format announced processor table None enabled = refl
@@ -103,8 +108,8 @@ module _ (move : ℕ → ℕ) where
   of_said context Nothing = refl
   of_said context (Announces processor number) = refl
   of_said context (Value value place) = of_value context.announced context.table value place
-  of_said context (Turns processor) = refl
-  of_said context (Shows processor shows) = of_shows (unwrap_or processor context.processor) context.table shows
+  of_said context (Turns turn) = refl
+  of_said context (Shows processor shows) = of_shows (named_processor processor context.processor) context.table shows
   of_said context (Begins shows) = of_shows 0 (one_more context.table) shows
   of_said context (FixedRanges enabled alone place) = of_fixed context.format context.announced context.processor context.table context.fixed enabled alone place
   of_said context (VariableRanges enabled place) = of_variable context enabled place
@@ -116,7 +121,7 @@ module _ (move : ℕ → ℕ) where
   matched Nothing = refl
   matched (Announces processor number) = refl
   matched (Value value place) = refl
-  matched (Turns processor) = refl
+  matched (Turns turn) = refl
   matched (Shows processor shows) = refl
   matched (Begins shows) = refl
   matched (FixedRanges enabled alone place) = refl
@@ -129,7 +134,7 @@ module _ (move : ℕ → ℕ) where
   next_context context format Nothing = refl
   next_context context format (Announces processor number) = refl
   next_context context format (Value value place) = refl
-  next_context context format (Turns processor) = refl
+  next_context context format (Turns turn) = refl
   next_context context format (Shows processor shows) = refl
   next_context context format (Begins shows) = refl
   next_context context format (FixedRanges enabled alone place) = refl
@@ -183,8 +188,9 @@ module _ (move : ℕ → ℕ) where
   abbrev pub moved_slot : Slot → Slot
   moved_slot slot = record { bits = slot.bits; fresh = slot.fresh; table = slot.table; value = slot.value; line = move slot.line }
 
-  abbrev moved_last : LastPair → LastPair
-  moved_last last = record { count = last.count; line = move last.line }
+  abbrev moved_last : Option LastPair → Option LastPair
+  moved_last None = None
+  moved_last (Some last) = Some (record { count = last.count; line = move last.line })
 
   abbrev moved_line : Option ℕ → Option ℕ
   moved_line None = None
@@ -223,9 +229,12 @@ module _ (move : ℕ → ℕ) where
         each moved_slot (reading.number == 0xfe) _ _ _ _ (ap (λ (s : Slot). slot_with s (moved_reading reading)) (of_capabilities before)) (of_capabilities before)
 
     of_last : (readings : List Reading) → moved_last (last_shown readings) ≡ last_shown (map moved_reading readings)
-    of_last [] = ap (λ line. let last : LastPair = record { count = 0; line = line } in last) zero_stays
-    of_last (reading ∷ before) =
-        each moved_last (nat_lt (last_shown before).count (enabled_pair reading)) _ _ _ _ refl refl ∙ ap (last_after (moved_reading reading)) (of_last before)
+    of_last [] = refl
+    of_last (reading ∷ before) = later (last_shown before) ∙ ap (last_after (moved_reading reading)) (of_last before)
+      where
+        later : (last : Option LastPair) → moved_last (last_after reading last) ≡ last_after (moved_reading reading) (moved_last last)
+        later None = each moved_last (nat_lt 0 (least_count reading)) _ _ _ _ refl refl
+        later (Some last) = each moved_last (nat_lt last.count (least_count reading)) _ _ _ _ refl refl
 
     of_fixed_line : (readings : List Reading) → moved_line (last_fixed_line readings) ≡ last_fixed_line (map moved_reading readings)
     of_fixed_line [] = refl
@@ -240,22 +249,26 @@ module _ (move : ℕ → ℕ) where
     if_rival : (test : Bool) (x y v w : Option Rival) → moved_or_none x ≡ v → moved_or_none y ≡ w → moved_or_none (if test then x else y) ≡ (if test then v else w)
     if_rival = each moved_or_none
 
-    of_capability : (capabilities : Slot) (last : LastPair) (reading : Reading)
+    of_uncounted : (capabilities : Option ℕ) (last : Option LastPair) → moved_or_none (uncounted_rival capabilities last) ≡ uncounted_rival capabilities (moved_last last)
+    of_uncounted capabilities None = refl
+    of_uncounted capabilities (Some last) = if_rival (counts_fewer capabilities last.count) _ _ _ _ refl refl
+
+    of_capability : (capabilities : Slot) (last : Option LastPair) (reading : Reading)
         → moved_or_none (capability_rival capabilities last reading) ≡ capability_rival (moved_slot capabilities) (moved_last last) (moved_reading reading)
     of_capability capabilities last reading =
-        if_rival (clashes capabilities reading) _ _ _ _ refl (if_rival (counts_fewer (counted (slot_with capabilities reading)) last.count) _ _ _ _ refl refl)
+        if_rival (clashes capabilities reading) _ _ _ _ refl (of_uncounted (counted (slot_with capabilities reading)) last)
 
-    of_count : (capabilities : Slot) (last : LastPair) (reading : Reading)
+    of_count : (capabilities : Slot) (last : Option LastPair) (reading : Reading)
         → moved_or_none (count_rival capabilities last reading) ≡ count_rival (moved_slot capabilities) (moved_last last) (moved_reading reading)
     of_count capabilities last reading =
-        if_rival (counts_fewer (counted capabilities) (enabled_pair reading)) _ _ _ _ refl (if_rival (reading.number == 0xfe) _ _ _ _ (of_capability capabilities last reading) refl)
+        if_rival (counts_fewer (counted capabilities) (least_count reading)) _ _ _ _ refl (if_rival (reading.number == 0xfe) _ _ _ _ (of_capability capabilities last reading) refl)
 
     module _ (supplied : Supplied) where
       -- the rival by what is shown of the register, of the capability register and of the last pair
-      abbrev rival_by : Reading → Slot → Slot → LastPair → Option Rival
+      abbrev rival_by : Reading → Slot → Slot → Option LastPair → Option Rival
       rival_by reading slot capabilities last =
           if bits_differ (supplied_value supplied reading.number) reading.bits reading.value then Some Word
-          else if counts_fewer (supplied_value supplied 0xfe) (enabled_pair reading) then Some CapabilityWord
+          else if counts_fewer (supplied_value supplied 0xfe) (least_count reading) then Some CapabilityWord
           else if clashes slot reading then Some (Line slot.line)
           else count_rival capabilities last reading
 
@@ -263,7 +276,7 @@ module _ (move : ℕ → ℕ) where
       of_rival before reading =
           let slot : Slot = slot_shown before reading.processor reading.number in
           if_rival (bits_differ (supplied_value supplied reading.number) reading.bits reading.value) _ _ _ _ refl
-          (if_rival (counts_fewer (supplied_value supplied 0xfe) (enabled_pair reading)) _ _ _ _ refl
+          (if_rival (counts_fewer (supplied_value supplied 0xfe) (least_count reading)) _ _ _ _ refl
           (if_rival (clashes slot reading) _ _ _ _ refl (of_count (capabilities_shown before) (last_shown before) reading)))
           ∙ ap (λ s. rival_by (moved_reading reading) s (moved_slot (capabilities_shown before)) (moved_last (last_shown before))) (slots before reading.processor reading.number)
           ∙ ap (λ c. rival_by (moved_reading reading) (slot_shown (map moved_reading before) reading.processor reading.number) c (moved_last (last_shown before))) (of_capabilities before)

@@ -9,7 +9,7 @@ use Rattle.mt_import.specs.declared.shape.Slot.{Slot}
 use Rattle.mt_import.specs.declared.supplied.Assumed.{Assumed}
 use Rattle.mt_import.specs.Supplied.{Supplied}
 use Rattle.mt_import.specs.Values.{Known, assumed_of, assumed_pat, assumed_value, assumed_zero, firm_value, firm_width, is_pair_number, is_unshown, has_pairs, only_if, or_supplied, width_by}
-use Rattle.mt_import.specs.Outcome.{Seen, Outcome, firm_of, is_noted, is_value, known_by, known_of, needed, note_by, note_line, note_lines, noted, noted_of, number_if, processors, slot_shown, values_of, width_note}
+use Rattle.mt_import.specs.Outcome.{Seen, Outcome, findings_of, firm_of, is_noted, is_value, known_by, needed, note_by, note_line, note_lines, noted, noted_of, number_if, processors, slot_shown, values_of, width_note}
 use Rattle.mt_import.proofs.Parts.{noted_at}
 use Rattle.mt_import.proofs.Same.{value_is}
 use Rattle.mt_import_laws.specs.Notes.{AreNoted, AreTrueNotes, IsAssumedAlone, IsNoted, IsTrueNote, numbers_text, on_register, on_width}
@@ -212,13 +212,13 @@ module _ (supplied : Supplied) (seen : Seen) where
   slots = slot_shown seen.readings
 
   abbrev values : ℕ → ℕ → Option ℕ
-  values = values_of supplied slots (known_of seen)
+  values = values_of supplied (findings_of seen)
 
   abbrev firm : ℕ → ℕ → Option ℕ
-  firm = firm_of supplied slots
+  firm = firm_of supplied (findings_of seen)
 
   abbrev known : Known
-  known = known_by supplied slots (known_of seen)
+  known = known_by supplied (findings_of seen)
 
   firm_is : (k number : ℕ) → firm k number ≡ firm_value supplied (slots k) number
   unfolding firm_of
@@ -227,7 +227,7 @@ module _ (supplied : Supplied) (seen : Seen) where
   assumed_is : (k number value : ℕ) → is_none (firm k number) ≡ true → values k number ≡ Some value → assumed_value (assumed_of k supplied.assumed) (slots k) known number ≡ Some value
   assumed_is k number value unfirm is =
       ap (λ o. or_supplied o (assumed_value (assumed_of k supplied.assumed) (slots k) known number)) (sym (of_none (firm k number) unfirm) ∙ firm_is k number)
-      ∙ sym (value_is supplied slots (known_of seen) k number) ∙ is
+      ∙ sym (value_is supplied (findings_of seen) k number) ∙ is
 
   same_or_zero : (count k number value first : ℕ) → k < count → is_none (firm k number) ≡ true → values k number ≡ Some value → noted firm values count number ≡ Some first → (first ≡ value) ⊎ (value ≡ 0)
   same_or_zero count zero number value first less unfirm is is_first =
@@ -322,7 +322,7 @@ each_noted supplied seen told origins k number value less among assumed =
     let here : IsAmong number numbers = subst (λ c. IsAmong number (needed c)) (sym origins.capabilities_is) among in
     let line = within (note_lines f v count numbers) (note_line number (noted f v count number) (noted_of f v count number)) (note_by number value (noted_of f v count number value))
     (notes_have f v count number numbers here) (noted_by supplied seen count k number value less unfirm assumed.value_is) in
-    let all = behind (width_note (firm_width supplied (known_of seen).width) (width_by supplied (slot_shown seen.readings) (known_of seen).width)) (note_lines f v count numbers) (note_by number value (noted_of f v count number value)) line in
+    let all = behind (width_note (firm_width supplied seen.width) (width_by supplied (slot_shown seen.readings) seen.width)) (note_lines f v count numbers) (note_by number value (noted_of f v count number value)) line in
     record {
       before = all.before;
       named = named.named;

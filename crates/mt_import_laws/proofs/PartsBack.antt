@@ -13,7 +13,7 @@ use Rattle.mt_import.specs.Readings.{Fact, is_fault, is_line, is_register_value,
 use Rattle.mt_import.specs.Slot.{all_bits, is_disabled, is_whole, slot_with}
 use Rattle.mt_import.specs.Supplied.{Supplied, supplied_value}
 use Rattle.mt_import.specs.Values.{assumed_of, assumed_value, disabled_value, is_pair_number, mask_of, or_supplied}
-use Rattle.mt_import.specs.Outcome.{Seen, known_by, known_of, seen_after, seen_with, slot_shown, values_of}
+use Rattle.mt_import.specs.Outcome.{Seen, findings_of, known_by, seen_after, seen_with, slot_shown, values_of}
 use Rattle.mt_import.proofs.Same.{value_is}
 use Rattle.mt_import_laws.specs.Origins.{IsAmong}
 use Rattle.mt_import_laws.specs.Printed.{Agrees, Key, number_at, value_in}
@@ -151,8 +151,8 @@ module _ (file : RegisterFile) (supplied : Supplied) (is : IsRegisterFile file) 
   -- V of its mask alone is shown, and clear: a register that no word supplies is 0
   pub off_value : (key : Key) → IsKey key → value_in file key < 2 ^ 64 → IsKnown (slot_shown seen.readings 0 (number_at key)) (value_in file key) → is_pair_number (number_at key) ≡ true
       → is_disabled (slot_shown seen.readings 0 (mask_of (number_at key))) ≡ true → (value_in file key ≡ 0) ⊎ (supplied_value supplied (number_at key) ≡ Some (value_in file key))
-      → values_of supplied (slot_shown seen.readings) (known_of seen) 0 (number_at key) ≡ Some (value_in file key)
-  off_value key is_key fits slot pair off zero_or_word = value_is supplied (slot_shown seen.readings) (known_of seen) 0 (number_at key) ∙ by ((slot_shown seen.readings 0 (number_at key)).fresh == all_bits) refl
+      → values_of supplied (findings_of seen) 0 (number_at key) ≡ Some (value_in file key)
+  off_value key is_key fits slot pair off zero_or_word = value_is supplied (findings_of seen) 0 (number_at key) ∙ by ((slot_shown seen.readings 0 (number_at key)).fresh == all_bits) refl
     where
       by_word : (given : Option ℕ) → supplied_value supplied (number_at key) ≡ given → (value_in file key ≡ 0) ⊎ (given ≡ Some (value_in file key)) → or_supplied given (Some 0) ≡ Some (value_in file key)
       by_word None none (inl zero) = ap Some (sym zero)
@@ -160,7 +160,7 @@ module _ (file : RegisterFile) (supplied : Supplied) (is : IsRegisterFile file) 
       by_word (Some word) some zero = ap Some (value_at_key file key word is is_key (agrees.registers (number_at key) word some))
 
       rest : Option ℕ
-      rest = assumed_value (assumed_of 0 supplied.assumed) (slot_shown seen.readings 0) (known_by supplied (slot_shown seen.readings) (known_of seen)) (number_at key)
+      rest = assumed_value (assumed_of 0 supplied.assumed) (slot_shown seen.readings 0) (known_by supplied (findings_of seen)) (number_at key)
 
       by : (test : Bool) → ((slot_shown seen.readings 0 (number_at key)).fresh == all_bits) ≡ test
           → or_supplied (or_supplied (if test then Some (slot_shown seen.readings 0 (number_at key)).value else None) (or_supplied (supplied_value supplied (number_at key)) (disabled_value (slot_shown seen.readings 0) (number_at key)))) rest

@@ -18,7 +18,7 @@ use Rattle.mt_import.specs.Readings.{Fact, starts}
 use Rattle.mt_import.specs.Shown.{said_of, shown}
 use Rattle.mt_import.specs.Slot.{all_bits}
 use Rattle.mt_import.specs.Supplied.{Supplied, supplied_value}
-use Rattle.mt_import.specs.Outcome.{Seen, known_of, nothing_seen, facts_outcome, processors, seen_after, slot_shown, values_of}
+use Rattle.mt_import.specs.Outcome.{Seen, findings_of, nothing_seen, facts_outcome, processors, seen_after, slot_shown, values_of}
 use Rattle.mt_import.specs.Import.{log_outcome}
 use Rattle.mt_import_laws.specs.Origins.{IsAmong}
 use Rattle.mt_import_laws.specs.Printed.{Agrees, HoldsTable, Key, ReadsAs, ReadsBack, TableReadsBack, number_at, value_in}
@@ -70,7 +70,7 @@ gathered format facts = seen_after (nothing_seen (Some format)) facts
 
 -- the value of a processor's register comes back
 abbrev pub IsBack : (ℕ → RegisterFile) → Format → Supplied → List Fact → ℕ → Key → Type 0
-IsBack files format supplied facts k key = values_of supplied (slot_shown (gathered format facts).readings) (known_of (gathered format facts)) k (number_at key) ≡ Some (value_in (files k) key)
+IsBack files format supplied facts k key = values_of supplied (findings_of (gathered format facts)) k (number_at key) ≡ Some (value_in (files k) key)
 
 module _ (files : ℕ → RegisterFile) (count : ℕ) (prints : Prints) (format : Format) (supplied : Supplied) (alike : AreAlike files count) (words : (k : ℕ) → k < count → HasWords (files k))
     (facts : List Fact) (sound : AllByRecursion (IsSound files count prints) facts) where
@@ -93,7 +93,7 @@ module _ (files : ℕ → RegisterFile) (count : ℕ) (prints : Prints) (format 
 
   -- by a register of which all is shown
   by_slot : (k : ℕ) → k < count → (key : Key) → IsInFile (files k) key → (slot_shown seen.readings k (number_at key)).fresh ≡ all_bits
-      → values_of supplied (slot_shown seen.readings) (known_of seen) k (number_at key) ≡ Some (value_in (files k) key)
+      → values_of supplied (findings_of seen) k (number_at key) ≡ Some (value_in (files k) key)
   by_slot k less key within whole =
       by_lines supplied seen k (number_at key) (value_in (files k) key)
       (whole_slot (slot_shown seen.readings k (number_at key)) (value_in (files k) key) (known files count prints seen.readings k key is_seen.readings (is_key k less key within)) (fit k less key within) whole)
@@ -102,7 +102,7 @@ module _ (files : ℕ → RegisterFile) (count : ℕ) (prints : Prints) (format 
   unfolding seen
   slot_back k less key within whole = by_slot k less key within whole
 
-  by_fact : (k : ℕ) → k < count → (key : Key) → IsInFile (files k) key → HasOwn k key all_bits facts ⊎ IsGiven supplied (files k) key → values_of supplied (slot_shown seen.readings) (known_of seen) k (number_at key) ≡ Some (value_in (files k) key)
+  by_fact : (k : ℕ) → k < count → (key : Key) → IsInFile (files k) key → HasOwn k key all_bits facts ⊎ IsGiven supplied (files k) key → values_of supplied (findings_of seen) k (number_at key) ≡ Some (value_in (files k) key)
   unfolding seen
   by_fact k less key within (inl has) =
       by_slot k less key within

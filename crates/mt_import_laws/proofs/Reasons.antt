@@ -7,8 +7,7 @@ use Rattle.mt_import.specs.declared.format.Choice.{Choice}
 use Rattle.mt_import.specs.declared.shape.Tally.{Tally}
 use Rattle.mt_import.specs.Shown.{is_auto}
 use Rattle.mt_import.specs.Supplied.{Supplied}
-use Rattle.mt_import.specs.Values.{width_by}
-use Rattle.mt_import.specs.Outcome.{Seen, Outcome, dump_outcome, ended, is_empty, known_of, missing_of, notes_of, processors, refusal, remarks, slot_shown, unless, values_of}
+use Rattle.mt_import.specs.Outcome.{Seen, Summary, Outcome, dump_outcome, ended, ended_by, findings_of, is_empty, refusal, summary_of, unless}
 use Rattle.mt_import.specs.Import.{outcome_by}
 use Rattle.mt_import_laws.specs.Origins.{seen_of}
 use Rattle.mt_import_laws.proofs.Faults.{fault_of}
@@ -16,10 +15,10 @@ use Rattle.mt_import_laws.proofs.Faults.{fault_of}
 abbrev IsAlone : Outcome → Type 0
 IsAlone told = told.status ≢ Done → told.notes ++ told.dump ≡ []
 
-dump_alone : (refused : Outcome) (values : ℕ → ℕ → Option ℕ) (count : ℕ) (notes reasons : List ℕ) (width capabilities : Option ℕ) → IsAlone refused → IsAlone (dump_outcome refused values count notes reasons width capabilities)
-dump_alone refused values count notes reasons (Some width) (Some capabilities) alone not_done = absurd (not_done refl)
-dump_alone refused values count notes reasons (Some width) None alone not_done = alone not_done
-dump_alone refused values count notes reasons None capabilities alone not_done = alone not_done
+dump_alone : (refused : Outcome) (told : Summary) (width capabilities : Option ℕ) → IsAlone refused → IsAlone (dump_outcome refused told width capabilities)
+dump_alone refused told (Some width) (Some capabilities) alone not_done = absurd (not_done refl)
+dump_alone refused told (Some width) None alone not_done = alone not_done
+dump_alone refused told None capabilities alone not_done = alone not_done
 
 if_alone : (test : Bool) (told refused : Outcome) → IsAlone told → IsAlone refused → IsAlone (if test then told else refused)
 if_alone true told refused alone other = alone
@@ -28,17 +27,14 @@ if_alone false told refused alone other = other
 refusal_alone : (tally : Tally) (missing : List ℕ) → IsAlone (refusal tally missing)
 refusal_alone tally missing not_done = refl
 
+summary_alone : (told : Summary) → IsAlone (ended_by told)
+summary_alone told =
+    let refused = refusal told.tally told.missing in
+    let alone = refusal_alone told.tally told.missing in
+    if_alone (is_empty told.missing) (dump_outcome refused told told.width (told.values 0 0xfe)) refused (dump_alone refused told told.width (told.values 0 0xfe) alone) alone
+
 ended_alone : (auto : Bool) (supplied : Supplied) (seen : Seen) → IsAlone (ended auto supplied seen)
-ended_alone auto supplied seen =
-    let slots = slot_shown seen.readings in
-    let count = processors seen.readings in
-    let known = known_of seen in
-    let missing = missing_of supplied slots count known in
-    let values = values_of supplied slots known in
-    let notes = notes_of supplied slots count known in
-    let width = width_by supplied slots known.width in
-    if_alone (is_empty missing) (dump_outcome (refusal seen.tally missing) values count notes (remarks auto seen.tally) width (values 0 0xfe)) (refusal seen.tally missing)
-    (dump_alone (refusal seen.tally missing) values count notes (remarks auto seen.tally) width (values 0 0xfe) (refusal_alone seen.tally missing)) (refusal_alone seen.tally missing)
+ended_alone auto supplied seen = summary_alone (summary_of auto supplied (findings_of seen) seen.tally)
 
 unless_alone : (fault : Option ImportFault) (told : Outcome) → IsAlone told → IsAlone (unless fault told)
 unless_alone (Some fault) told alone not_done = refl

@@ -72,7 +72,7 @@ module _ (line : List ℕ) (without : without_return line ≡ line) (apart : len
   or_sizes number Nothing = same_in_each number
   or_sizes number (Announces processor register) = refl
   or_sizes number (Value value place) = refl
-  or_sizes number (Turns processor) = refl
+  or_sizes number (Turns turn) = refl
   or_sizes number (Shows processor shows) = refl
   or_sizes number (Begins shows) = refl
   or_sizes number (FixedRanges enabled alone place) = refl

@@ -6,8 +6,6 @@ use Rattle.std.proofs.lemmas.List.{map-append}
 use Rattle.mt_text.specs.Text.{lines_of}
 use Rattle.mt_text.specs.declared.place.Place.{Place}
 use Rattle.mt_import.specs.declared.fault.ImportFault.{ImportFault}
-use Rattle.mt_import.specs.declared.fault.ImportFault.TheVariants.{Contradiction}
-use Rattle.mt_import.specs.declared.fault.Rival.TheVariants.{Line}
 use Rattle.mt_import.specs.declared.format.Choice.{Choice}
 use Rattle.mt_import.specs.declared.format.Format.{Format}
 use Rattle.mt_import.specs.declared.reading.Context.{Context}
@@ -17,14 +15,15 @@ use Rattle.mt_import.specs.declared.shape.Announced.{Announced}
 use Rattle.mt_import.specs.declared.shape.Shown.{Shown}
 use Rattle.mt_import.specs.declared.shape.Tally.{Tally}
 use Rattle.mt_import.specs.Import.{log_outcome}
-use Rattle.mt_import.specs.Outcome.{Seen, Slots, Outcome, dump_outcome, ended, ended_by, ended_with, facts_fault, firm_of, hint_of, is_empty, known_of, missing_of, notes_of, nothing_seen, or_fault, processors, refusal, remarks, seen_after, seen_with, slot_shown, unless, values_of, warning_text}
+use Rattle.mt_import.specs.Outcome.{Findings, Outcome, Seen, Slots, Summary, dump_outcome, ended, ended_by, facts_fault, findings_of, firm_of, hint_of, is_empty, missing_of, notes_of, nothing_seen, or_fault, processors, refusal, remarks, seen_after, seen_with, slot_shown, summary_of, unless, values_of, warning_text}
 use Rattle.mt_import.specs.Pieces.{shown_as}
-use Rattle.mt_import.specs.Readings.{Fact, context_after, fixed_facts, fixed_line, fixed_shows, is_fault, is_fixed_clash, is_line, is_match, is_register, is_register_value, line_facts, reading_facts, said_facts, shown_facts, shows_facts, starts, value_facts, variable_shows}
+use Rattle.mt_import.specs.Readings.{Fact, context_after, fixed_clash, fixed_facts, fixed_shows, is_line, is_match, is_register, is_register_value, line_facts, reading_facts, said_facts, shown_facts, shows_facts, starts, unless_clash, value_facts, variable_shows}
 use Rattle.mt_ports.specs.declared.status.Status.TheVariants.{Done}
 use Rattle.mt_import.specs.Shown.{chosen, context_behind, facts_from, facts_of_line, format_of, is_auto, said_in, shown}
 use Rattle.mt_import.specs.Supplied.{Supplied}
 use Rattle.mt_import.specs.Values.{Known, width_by}
 use Rattle.mt_import.proofs.Facts.{fault_append, seen_append}
+use Rattle.mt_import.proofs.Same.{same_summary}
 use Rattle.mt_import_laws.specs.Origins.{context_after_lines, seen_of}
 use Rattle.mt_import_laws.specs.Spare.{AreMovedReasons, ComeToSameWithout, HasSpareLine, TakesNoneBack, no_value_next, none_waits, number_without, of_count, of_fault, one_line_less, same_reasons}
 use Rattle.mt_import_laws.proofs.TableLines.{facts_split}
@@ -60,16 +59,19 @@ keeps_value : (announced : Option Announced) (table value : ℕ) (place : Place)
 keeps_value None table value place seen = (refl, refl)
 keeps_value (Some announced) table value place seen = keeps_shown announced.processor table (shown_as announced.number value place) seen
 
+keeps_unless : (clash : Option ℕ) (place : Place) (facts : List Fact) → Keeps facts → Keeps (unless_clash clash place facts)
+keeps_unless None place facts keeps = keeps
+keeps_unless (Some line) place facts keeps seen = (refl, refl)
+
 keeps_fixed : (context : Context) (enabled alone : Bool) (place : Place) → Keeps (fixed_facts context enabled alone place)
 keeps_fixed context enabled alone place =
-    keeps_if (is_fixed_clash context.fixed enabled) (is_fault (Contradiction place 0x2ff (Line (fixed_line context.fixed))) ∷ []) (shows_facts 0 context.table (fixed_shows enabled alone place))
-    (λ seen. (refl, refl)) (keeps_shows 0 context.table (fixed_shows enabled alone place))
+    keeps_unless (fixed_clash context.fixed enabled) place (shows_facts 0 context.table (fixed_shows enabled alone place)) (keeps_shows 0 context.table (fixed_shows enabled alone place))
 
 keeps_said : (context : Context) (said : LineSays) → Keeps (said_facts context said)
 keeps_said context Nothing seen = (refl, refl)
 keeps_said context (Announces processor number) seen = (refl, refl)
 keeps_said context (Value value place) seen = keeps_value context.announced context.table value place seen
-keeps_said context (Turns processor) seen = (refl, refl)
+keeps_said context (Turns turn) seen = (refl, refl)
 keeps_said context (Shows processor shows) seen = keeps_shows _ context.table shows seen
 keeps_said context (Begins shows) seen = keeps_shows 0 _ shows seen
 keeps_said context (FixedRanges enabled alone place) seen = keeps_fixed context enabled alone place seen
@@ -110,7 +112,7 @@ no_value : (context : Context) (format : Option Format) (said : LineSays) → ((
 no_value context format Nothing other = record { facts = refl; behind = refl }
 no_value context format (Announces processor number) other = record { facts = refl; behind = refl }
 no_value context format (Value value place) other = absurd (other value place refl)
-no_value context format (Turns processor) other = record { facts = refl; behind = refl }
+no_value context format (Turns turn) other = record { facts = refl; behind = refl }
 no_value context format (Shows processor shows) other = record { facts = refl; behind = refl }
 no_value context format (Begins shows) other = record { facts = refl; behind = refl }
 no_value context format (FixedRanges enabled alone place) other = record { facts = refl; behind = refl }
@@ -162,31 +164,30 @@ module _ (at : ℕ) where
 -- ---- the outcome
 
 -- The texts but for counts of lines don't depend on which lines show.
-module _ (move : ℕ → ℕ) (supplied : Supplied) (slots : Slots) (known : Known) where
-  abbrev moved : Slots
-  moved k number = moved_slot move (slots k number)
+module _ (move : ℕ → ℕ) (supplied : Supplied) (slots : Slots) (count : ℕ) (known : Known) where
+  abbrev found : Findings
+  found = record { slots = slots; count = count; shown = known }
 
-  same_missing : (count : ℕ) → missing_of supplied moved count known ≡ missing_of supplied slots count known
+  abbrev moved : Findings
+  moved = record { slots = λ k number. moved_slot move (slots k number); count = count; shown = known }
+
+  same_missing : missing_of supplied moved ≡ missing_of supplied found
   unfolding values_of hint_of
-  same_missing count = refl
+  same_missing = refl
 
-  same_notes : (count : ℕ) → notes_of supplied moved count known ≡ notes_of supplied slots count known
+  same_notes : notes_of supplied moved ≡ notes_of supplied found
   unfolding values_of firm_of
-  same_notes count = refl
+  same_notes = refl
 
-  same_values : values_of supplied moved known ≡ values_of supplied slots known
+  same_values : (k n : ℕ) → values_of supplied moved k n ≡ values_of supplied found k n
   unfolding values_of
-  same_values = refl
+  same_values k n = refl
 
-  same_width : width_by supplied moved known.width ≡ width_by supplied slots known.width
+  same_width : width_by supplied moved.slots known.width ≡ width_by supplied slots known.width
   same_width = refl
 
-  pub unmoved : (auto : Bool) (count : ℕ) (tally : Tally) → ended_with auto supplied moved count known tally ≡ ended_with auto supplied slots count known tally
-  unmoved auto count tally =
-      ap (λ m. ended_by m (notes_of supplied moved count known) tally auto (values_of supplied moved known) count (width_by supplied moved known.width)) (same_missing count)
-      ∙ ap (λ n. ended_by (missing_of supplied slots count known) n tally auto (values_of supplied moved known) count (width_by supplied moved known.width)) (same_notes count)
-      ∙ ap (λ v. ended_by (missing_of supplied slots count known) (notes_of supplied slots count known) tally auto v count (width_by supplied moved known.width)) same_values
-      ∙ ap (ended_by (missing_of supplied slots count known) (notes_of supplied slots count known) tally auto (values_of supplied slots known) count) same_width
+  pub unmoved : (auto : Bool) (tally : Tally) → ended_by (summary_of auto supplied moved tally) ≡ ended_by (summary_of auto supplied found tally)
+  unmoved auto tally = same_summary (summary_of auto supplied moved tally) (summary_of auto supplied found tally) same_values same_notes refl refl refl same_missing same_width
 
 module _ (at : ℕ) where
   remarked : (auto : Bool) (tally : Tally) → AreMovedReasons auto Done at (remarks auto tally) (remarks auto (one_line_less tally))
@@ -196,38 +197,40 @@ module _ (at : ℕ) where
   refused : (auto : Bool) (tally : Tally) (missing : List ℕ) → ComeToSameWithout auto at (refusal tally missing) (refusal (one_line_less tally) missing)
   refused auto tally missing = record { same = record { notes = refl; dump = refl; status = refl }; reasons = of_count tally (warning_text tally.warned ++ missing) refl refl }
 
-  dumped : (auto : Bool) (missing notes : List ℕ) (tally : Tally) (values : ℕ → ℕ → Option ℕ) (count : ℕ) (width capabilities : Option ℕ)
-      → ComeToSameWithout auto at (dump_outcome (refusal tally missing) values count notes (remarks auto tally) width capabilities)
-      (dump_outcome (refusal (one_line_less tally) missing) values count notes (remarks auto (one_line_less tally)) width capabilities)
-  dumped auto missing notes tally values count (Some width) (Some capabilities) = record { same = record { notes = refl; dump = refl; status = refl }; reasons = remarked auto tally }
-  dumped auto missing notes tally values count (Some width) None = refused auto tally missing
-  dumped auto missing notes tally values count None capabilities = refused auto tally missing
+  abbrev less_by_one : Summary → Summary
+  less_by_one told = record told { tally = one_line_less told.tally }
 
-  less : (auto : Bool) (missing notes : List ℕ) (tally : Tally) (values : ℕ → ℕ → Option ℕ) (count : ℕ) (width : Option ℕ)
-      → ComeToSameWithout auto at (ended_by missing notes tally auto values count width) (ended_by missing notes (one_line_less tally) auto values count width)
-  less auto missing notes tally values count width = by (is_empty missing)
+  dumped : (told : Summary) (width capabilities : Option ℕ)
+      → ComeToSameWithout told.auto at (dump_outcome (refusal told.tally told.missing) told width capabilities)
+      (dump_outcome (refusal (one_line_less told.tally) told.missing) (less_by_one told) width capabilities)
+  dumped told (Some width) (Some capabilities) = record { same = record { notes = refl; dump = refl; status = refl }; reasons = remarked told.auto told.tally }
+  dumped told (Some width) None = refused told.auto told.tally told.missing
+  dumped told None capabilities = refused told.auto told.tally told.missing
+
+  less : (told : Summary) → ComeToSameWithout told.auto at (ended_by told) (ended_by (less_by_one told))
+  less told = by (is_empty told.missing)
     where
       by : (test : Bool)
-          → ComeToSameWithout auto at (if test then dump_outcome (refusal tally missing) values count notes (remarks auto tally) width (values 0 0xfe) else refusal tally missing)
-          (if test then dump_outcome (refusal (one_line_less tally) missing) values count notes (remarks auto (one_line_less tally)) width (values 0 0xfe) else refusal (one_line_less tally) missing)
-      by true = dumped auto missing notes tally values count width (values 0 0xfe)
-      by false = refused auto tally missing
+          → ComeToSameWithout told.auto at (if test then dump_outcome (refusal told.tally told.missing) told told.width (told.values 0 0xfe) else refusal told.tally told.missing)
+          (if test then dump_outcome (refusal (one_line_less told.tally) told.missing) (less_by_one told) told.width (told.values 0 0xfe) else refusal (one_line_less told.tally) told.missing)
+      by true = dumped told told.width (told.values 0 0xfe)
+      by false = refused told.auto told.tally told.missing
 
   moved_ended : (auto : Bool) (supplied : Supplied) (seen : Seen) → 1 ≤ seen.tally.lines → at ≤ seen.tally.lines
       → ComeToSameWithout auto at (ended auto supplied seen) (ended auto supplied (moved_seen (number_without at) seen))
   moved_ended auto supplied seen some later =
       let slots : Slots = slot_shown seen.readings in
-      let known : Known = known_of seen in
+      let known : Known = (findings_of seen).shown in
+      let count : ℕ = processors seen.readings in
       let tally : Tally = (moved_seen (number_without at) seen).tally in
       let fewer : tally ≡ one_line_less seen.tally = ap (λ n. let t : Tally = record { format = seen.tally.format; lines = n; matches = seen.tally.matches; warned = seen.tally.warned } in t) (above at seen.tally.lines later) in
-      let same : ended_with auto supplied slots (processors seen.readings) known (one_line_less seen.tally) ≡ ended auto supplied (moved_seen (number_without at) seen) =
-      ap (ended_with auto supplied slots (processors seen.readings) known) (sym fewer)
-      ∙ sym (unmoved (number_without at) supplied slots known auto (processors seen.readings) tally)
-      ∙ ap (λ (s : Slots). ended_with auto supplied s (processors seen.readings) known tally) (all_slots (number_without at) (zero_stays at) seen.readings)
-      ∙ ap (λ count. ended_with auto supplied (slot_shown (moved_seen (number_without at) seen).readings) count known tally) (sym (same_processors (number_without at) (zero_stays at) seen.readings)) in
-      subst (ComeToSameWithout auto at (ended auto supplied seen)) same
-      (less auto (missing_of supplied slots (processors seen.readings) known) (notes_of supplied slots (processors seen.readings) known) seen.tally (values_of supplied slots known) (processors seen.readings)
-      (width_by supplied slots known.width))
+      let same : ended_by (summary_of auto supplied (findings_of seen) (one_line_less seen.tally)) ≡ ended auto supplied (moved_seen (number_without at) seen) =
+      ap (λ (t : Tally). ended_by (summary_of auto supplied (findings_of seen) t)) (sym fewer)
+      ∙ sym (unmoved (number_without at) supplied slots count known auto tally)
+      ∙ ap (λ (s : Slots). ended_by (summary_of auto supplied (record { slots = s; count = count; shown = known }) tally)) (all_slots (number_without at) (zero_stays at) seen.readings)
+      ∙ ap (λ n. ended_by (summary_of auto supplied (record { slots = slot_shown (moved_seen (number_without at) seen).readings; count = n; shown = known }) tally))
+      (sym (same_processors (number_without at) (zero_stays at) seen.readings)) in
+      subst (ComeToSameWithout auto at (ended auto supplied seen)) same (less (summary_of auto supplied (findings_of seen) seen.tally))
 
   by_fault : (auto : Bool) (fault : Option ImportFault) (longer shorter : Outcome)
       → ComeToSameWithout auto at longer shorter → ComeToSameWithout auto at (unless fault longer) (unless (moved_faults (number_without at) fault) shorter)

@@ -10,7 +10,7 @@ use Rattle.mt_import.specs.declared.reading.LineSays.{LineSays}
 use Rattle.mt_import.specs.declared.reading.LineSays.TheVariants.{Nothing, Announces, Value, Turns, Shows, Begins, FixedRanges, VariableRanges, Width, Warns, Long}
 use Rattle.mt_import.specs.declared.shape.Reading.{Reading}
 use Rattle.mt_import.specs.declared.shape.Shown.{Shown}
-use Rattle.mt_import.specs.Readings.{Fact, is_fault, is_line, is_match, is_register, is_register_value, is_warning, is_width, processor_after, reading_facts, said_facts, shown_facts, shows_facts}
+use Rattle.mt_import.specs.Readings.{Fact, is_fault, is_line, is_match, is_register, is_register_value, is_warning, is_width, named_processor, processor_after, processor_turned_to, reading_facts, said_facts, shown_facts, shows_facts}
 use Rattle.mt_import.specs.Shown.{context_behind, facts_from, facts_of_line, said_of}
 use Rattle.mt_import.specs.Slot.{all_bits}
 use Rattle.mt_import.specs.Outcome.{Seen, seen_after, seen_with}
@@ -100,7 +100,7 @@ module _ (file : RegisterFile) (prints : Prints) where
   IsTrueSaid at Nothing = ⊤
   IsTrueSaid at (Announces processor number) = ⊥
   IsTrueSaid at (Value value place) = ⊥
-  IsTrueSaid at (Turns processor) = processor ≡ at
+  IsTrueSaid at (Turns turn) = processor_turned_to turn ≡ Some at
   IsTrueSaid at (Shows processor shows) = (unwrap_or processor at ≡ at) × AllByRecursion IsTrueShown shows
   IsTrueSaid at (Begins shows) = ⊥
   IsTrueSaid at (FixedRanges enabled alone place) = ⊥
@@ -150,18 +150,18 @@ said_has : (context : Context) (said : LineSays) (key : Key) (bits : ℕ) → Is
 said_has context said key bits is shows =
     let register : is_register shows.shown.number ≡ true = rw shows.number (is_register_key key is) in
     record {
-      reading = record { processor = unwrap_or shows.processor context.processor; table = context.table; number = shows.shown.number; bits = shows.shown.bits; value = shows.shown.value; place = shows.shown.place };
-      among = rw shows.said_is (shown_among (unwrap_or shows.processor context.processor) context.table shows.shows shows.shown register shows.among);
+      reading = record { processor = named_processor shows.processor context.processor; table = context.table; number = shows.shown.number; bits = shows.shown.bits; value = shows.shown.value; place = shows.shown.place };
+      among = rw shows.said_is (shown_among (named_processor shows.processor context.processor) context.table shows.shows shows.shown register shows.among);
       number = shows.number;
       bits = shows.bits;
     }
 
 -- a line keeps the processor that lines are of
-still : (file : RegisterFile) (prints : Prints) (at : ℕ) (said : LineSays) (current : ℕ) → current ≡ at → IsTrueSaid file prints at said → processor_after said current ≡ at
+still : (file : RegisterFile) (prints : Prints) (at : ℕ) (said : LineSays) (current : Option ℕ) → current ≡ Some at → IsTrueSaid file prints at said → processor_after said current ≡ Some at
 still file prints at Nothing current own tells = own
 still file prints at (Announces processor number) current own tells = absurd tells
 still file prints at (Value value place) current own tells = absurd tells
-still file prints at (Turns processor) current own tells = tells
+still file prints at (Turns turn) current own tells = tells
 still file prints at (Shows processor shows) current own tells = own
 still file prints at (Begins shows) current own tells = absurd tells
 still file prints at (FixedRanges enabled alone place) current own tells = absurd tells
@@ -171,8 +171,8 @@ still file prints at Warns current own tells = own
 still file prints at (Long place) current own tells = absurd tells
 
 -- no processor is named, or this one
-own_by : (named : Option ℕ) (at current : ℕ) → unwrap_or named at ≡ at → current ≡ at → unwrap_or named current ≡ at
-own_by None at current own now = now
+own_by : (named : Option ℕ) (at : ℕ) (current : Option ℕ) → unwrap_or named at ≡ at → current ≡ Some at → named_processor named current ≡ at
+own_by None at current own now = ap (λ c. named_processor None c) now
 own_by (Some processor) at current own now = own
 
 -- ---- the facts of a line, of the files of so many processors
@@ -208,12 +208,12 @@ module _ (files : ℕ → RegisterFile) (count : ℕ) (prints : Prints) where
   shows_true k processor table (shown ∷ shows) less own tells =
       all_join (IsSound files count prints) (shown_facts processor table shown) (shows_facts processor table shows) (shown_true k processor table shown less own tells.0) (shows_true k processor table shows less own tells.1)
 
-  pub said_true : (k : ℕ) (context : Context) (said : LineSays) → k < count → (files k).width ≡ (files 0).width → context.processor ≡ k → IsTrueSaid (files k) prints k said → AllByRecursion (IsSound files count prints) (said_facts context said)
+  pub said_true : (k : ℕ) (context : Context) (said : LineSays) → k < count → (files k).width ≡ (files 0).width → context.processor ≡ Some k → IsTrueSaid (files k) prints k said → AllByRecursion (IsSound files count prints) (said_facts context said)
   said_true k context Nothing less width own tells = tt
   said_true k context (Announces processor number) less width own tells = absurd tells
   said_true k context (Value value place) less width own tells = absurd tells
-  said_true k context (Turns processor) less width own tells = tt
-  said_true k context (Shows processor shows) less width own tells = shows_true k (unwrap_or processor context.processor) context.table shows less (own_by processor k context.processor tells.0 own) tells.1
+  said_true k context (Turns turn) less width own tells = tt
+  said_true k context (Shows processor shows) less width own tells = shows_true k (named_processor processor context.processor) context.table shows less (own_by processor k context.processor tells.0 own) tells.1
   said_true k context (Begins shows) less width own tells = absurd tells
   said_true k context (FixedRanges enabled alone place) less width own tells = absurd tells
   said_true k context (VariableRanges enabled place) less width own tells = absurd tells
@@ -275,18 +275,18 @@ module _ (format : Format) where
 
 -- lines that tell of one processor
 module _ (files : ℕ → RegisterFile) (count : ℕ) (prints : Prints) (k : ℕ) (less : k < count) (width : (files k).width ≡ (files 0).width) (format : Format) where
-  next_processor : (context : Context) (number : ℕ) (line : List ℕ) → context.format ≡ Some format → context.processor ≡ k → IsTrueSaid (files k) prints k (said_of format number line) → (context_behind context number line).processor ≡ k
+  next_processor : (context : Context) (number : ℕ) (line : List ℕ) → context.format ≡ Some format → context.processor ≡ Some k → IsTrueSaid (files k) prints k (said_of format number line) → (context_behind context number line).processor ≡ Some k
   next_processor context number line is own tells = rw is (still (files k) prints k (said_of format number line) context.processor own tells)
 
   abbrev pub AreTrue : List (List ℕ) → Type 0
   AreTrue lines = (line : List ℕ) → IsAmong line lines → (number : ℕ) → IsTrueSaid (files k) prints k (said_of format number line)
 
-  pub line_true : (line : List ℕ) (context : Context) (number : ℕ) → context.format ≡ Some format → context.processor ≡ k → IsTrueSaid (files k) prints k (said_of format number line)
+  pub line_true : (line : List ℕ) (context : Context) (number : ℕ) → context.format ≡ Some format → context.processor ≡ Some k → IsTrueSaid (files k) prints k (said_of format number line)
       → AllByRecursion (IsSound files count prints) (facts_of_line context number line)
   line_true line context number is own tells =
       subst (AllByRecursion (IsSound files count prints)) (sym (of_line format context number line is)) (tt, said_true files count prints k context (said_of format number line) less width own tells)
 
-  pub lines_true : (lines : List (List ℕ)) (context : Context) (number : ℕ) → context.format ≡ Some format → context.processor ≡ k → AreTrue lines → AllByRecursion (IsSound files count prints) (facts_from context number lines)
+  pub lines_true : (lines : List (List ℕ)) (context : Context) (number : ℕ) → context.format ≡ Some format → context.processor ≡ Some k → AreTrue lines → AllByRecursion (IsSound files count prints) (facts_from context number lines)
   lines_true [] context number is own tells = tt
   lines_true (line ∷ lines) context number is own tells =
       let here = tells line (inl refl) number in
@@ -294,25 +294,25 @@ module _ (files : ℕ → RegisterFile) (count : ℕ) (prints : Prints) (k : ℕ
       (lines_true lines (context_behind context number line) (number + 1) (next_format format context number line is) (next_processor context number line is own here) (λ other among. tells other (inr among)))
 
   -- the processor that lines are of stays
-  pub still_of : (lines : List (List ℕ)) (context : Context) (number : ℕ) → context.format ≡ Some format → context.processor ≡ k → AreTrue lines → (context_after_lines context number lines).processor ≡ k
+  pub still_of : (lines : List (List ℕ)) (context : Context) (number : ℕ) → context.format ≡ Some format → context.processor ≡ Some k → AreTrue lines → (context_after_lines context number lines).processor ≡ Some k
   still_of [] context number is own tells = own
   still_of (line ∷ lines) context number is own tells =
       still_of lines (context_behind context number line) (number + 1) (next_format format context number line is) (next_processor context number line is own (tells line (inl refl) number)) (λ other among. tells other (inr among))
 
-  own_has : (context : Context) (said : LineSays) (key : Key) (bits : ℕ) → context.processor ≡ k → IsTrueSaid (files k) prints k said → IsKey key → ShowsKey key bits said → HasOwn k key bits (said_facts context said)
+  own_has : (context : Context) (said : LineSays) (key : Key) (bits : ℕ) → context.processor ≡ Some k → IsTrueSaid (files k) prints k said → IsKey key → ShowsKey key bits said → HasOwn k key bits (said_facts context said)
   own_has context said key bits own tells is shows =
       let register : is_register shows.shown.number ≡ true = rw shows.number (is_register_key key is) in
       let named : unwrap_or shows.processor k ≡ k = (subst (IsTrueSaid (files k) prints k) shows.said_is tells).0 in
       record {
-        reading = record { processor = unwrap_or shows.processor context.processor; table = context.table; number = shows.shown.number; bits = shows.shown.bits; value = shows.shown.value; place = shows.shown.place };
-        among = rw shows.said_is (shown_among (unwrap_or shows.processor context.processor) context.table shows.shows shows.shown register shows.among);
+        reading = record { processor = named_processor shows.processor context.processor; table = context.table; number = shows.shown.number; bits = shows.shown.bits; value = shows.shown.value; place = shows.shown.place };
+        among = rw shows.said_is (shown_among (named_processor shows.processor context.processor) context.table shows.shows shows.shown register shows.among);
         own = own_by shows.processor k context.processor named own;
         number = shows.number;
         bits = shows.bits;
       }
 
   -- a register that a line shows is among the facts, of this processor
-  pub lines_have_own : (lines : List (List ℕ)) (context : Context) (number : ℕ) (key : Key) (bits : ℕ) (line : List ℕ) → context.format ≡ Some format → context.processor ≡ k → AreTrue lines → IsKey key → IsAmong line lines
+  pub lines_have_own : (lines : List (List ℕ)) (context : Context) (number : ℕ) (key : Key) (bits : ℕ) (line : List ℕ) → context.format ≡ Some format → context.processor ≡ Some k → AreTrue lines → IsKey key → IsAmong line lines
       → ((at : ℕ) → ShowsKey key bits (said_of format at line)) → HasOwn k key bits (facts_from context number lines)
   lines_have_own [] context number key bits line is own tells is_key among shows = absurd among
   lines_have_own (first ∷ lines) context number key bits line is own tells is_key (inl same) shows =

@@ -14,8 +14,7 @@ use Rattle.mt_import.specs.Kernel.{is_warning_line}
 use Rattle.mt_import.specs.Readings.{Fact, is_fault, is_line, is_register_value, is_warning, is_width, said_facts, starts}
 use Rattle.mt_import.specs.Shown.{chosen, context_behind, facts_from, facts_of_line, format_of, is_auto, said_in, shown}
 use Rattle.mt_import.specs.Supplied.{Supplied}
-use Rattle.mt_import.specs.Values.{width_by}
-use Rattle.mt_import.specs.Outcome.{Seen, Outcome, count_line, dump_outcome, ended, is_empty, known_of, missing_of, notes_of, nothing_seen, processors, refusal, remarks, seen_after, seen_with, slot_shown, unless, values_of, warning_text}
+use Rattle.mt_import.specs.Outcome.{Seen, Summary, Outcome, count_line, dump_outcome, ended, ended_by, findings_of, is_empty, nothing_seen, refusal, remarks, seen_after, seen_with, summary_of, unless, warning_text}
 use Rattle.mt_import.specs.Import.{log_outcome}
 use Rattle.mt_import_laws.specs.Origins.{IsAmong, context_after_lines, seen_of}
 use Rattle.mt_import_laws.specs.Warnings.{HasWarning, IsWithin, SaysNothing}
@@ -81,28 +80,24 @@ remarks_told auto tally warned = record {
 refusal_told : (tally : Tally) (missing : List ℕ) → tally.warned ≡ true → IsWithin warning (refusal tally missing).reasons
 refusal_told tally missing warned = record { before = count_line tally; others = missing; whole_is = ap (λ b. count_line tally ++ (warning_text b ++ missing)) warned }
 
-dump_told_too : (refused : Outcome) (values : ℕ → ℕ → Option ℕ) (count : ℕ) (notes reasons : List ℕ) (width capabilities : Option ℕ) → IsWithin warning refused.reasons → IsWithin warning reasons
-    → IsWithin warning (dump_outcome refused values count notes reasons width capabilities).reasons
-dump_told_too refused values count notes reasons (Some width) (Some capabilities) one two = two
-dump_told_too refused values count notes reasons (Some width) None one two = one
-dump_told_too refused values count notes reasons None capabilities one two = one
+dump_told_too : (refused : Outcome) (told : Summary) (width capabilities : Option ℕ) → IsWithin warning refused.reasons → IsWithin warning (remarks told.auto told.tally)
+    → IsWithin warning (dump_outcome refused told width capabilities).reasons
+dump_told_too refused told (Some width) (Some capabilities) one two = two
+dump_told_too refused told (Some width) None one two = one
+dump_told_too refused told None capabilities one two = one
 
 if_told : (test : Bool) (told refused : Outcome) → IsWithin warning told.reasons → IsWithin warning refused.reasons → IsWithin warning (if test then told else refused).reasons
 if_told true told refused one two = one
 if_told false told refused one two = two
 
+summary_told : (told : Summary) → told.tally.warned ≡ true → IsWithin warning (ended_by told).reasons
+summary_told told warned =
+    let refusal_is = refusal_told told.tally told.missing warned in
+    if_told (is_empty told.missing) (dump_outcome (refusal told.tally told.missing) told told.width (told.values 0 0xfe)) (refusal told.tally told.missing)
+    (dump_told_too (refusal told.tally told.missing) told told.width (told.values 0 0xfe) refusal_is (remarks_told told.auto told.tally warned)) refusal_is
+
 ended_told : (auto : Bool) (supplied : Supplied) (seen : Seen) → seen.tally.warned ≡ true → IsWithin warning (ended auto supplied seen).reasons
-ended_told auto supplied seen warned =
-    let slots = slot_shown seen.readings in
-    let count = processors seen.readings in
-    let known = known_of seen in
-    let missing = missing_of supplied slots count known in
-    let values = values_of supplied slots known in
-    let notes = notes_of supplied slots count known in
-    let width = width_by supplied slots known.width in
-    let refused = refusal_told seen.tally missing warned in
-    if_told (is_empty missing) (dump_outcome (refusal seen.tally missing) values count notes (remarks auto seen.tally) width (values 0 0xfe)) (refusal seen.tally missing)
-    (dump_told_too (refusal seen.tally missing) values count notes (remarks auto seen.tally) width (values 0 0xfe) refused (remarks_told auto seen.tally warned)) refused
+ended_told auto supplied seen warned = summary_told (summary_of auto supplied (findings_of seen) seen.tally) warned
 
 pub warning_told : (choice : Choice) (supplied : Supplied) (text : List ℕ) → HasWarning choice text → (log_outcome choice supplied text).status ≢ BadText → IsWithin (warning_text true) (log_outcome choice supplied text).reasons
 warning_told choice supplied text has fine = by (fault_of choice supplied text) fine

@@ -13,14 +13,15 @@ use Rattle.mt_regs.specs.RegisterFile.{IsRegisterFile, RegisterFile, has_fixed, 
 use Rattle.mt_regs.specs.Registers.{fixed_numbers}
 use Rattle.mt_text.specs.declared.place.Place.{Place}
 use Rattle.mt_import.specs.declared.fault.Rival.{Rival}
-use Rattle.mt_import.specs.declared.fault.Rival.TheVariants.{Line, Word, CapabilityLine, CapabilityWord, RegisterLine}
+use Rattle.mt_import.specs.declared.fault.Rival.TheVariants.{Line, Word, CapabilityLine, CapabilityWord}
+use Rattle.mt_import.specs.declared.shape.LastPair.{LastPair}
 use Rattle.mt_import.specs.declared.shape.Reading.{Reading}
 use Rattle.mt_import.specs.declared.shape.Slot.{Slot}
 use Rattle.mt_import.specs.Readings.{Fact, is_fault, is_line, is_register_value, is_warning, is_width}
 use Rattle.mt_import.specs.Slot.{all_bits, blank_slot, clashes, is_whole, slot_with}
 use Rattle.mt_import.specs.Supplied.{Supplied, bits_differ, differs, supplied_value}
 use Rattle.mt_import.specs.Values.{is_pair_number}
-use Rattle.mt_import.specs.Outcome.{Seen, capability_rival, count_rival, counted, counts_fewer, enabled_pair, last_shown, capabilities_shown, fact_fault, facts_fault, fix_shown, fixed_rival, lacks_fix, last_fixed_line, processors, ranged_rival, reading_fault, rival, seen_after, seen_with, shows_fixed, shows_no_fix, slot_shown, width_fault}
+use Rattle.mt_import.specs.Outcome.{Seen, capability_rival, count_of, count_rival, counted, counts_fewer, last_shown, least_count, capabilities_shown, fact_fault, facts_fault, fix_shown, fixed_rival, lacks_fix, last_fixed_line, processors, ranged_rival, reading_fault, rival, seen_after, seen_with, shows_fixed, shows_no_fix, slot_shown, uncounted_rival, width_fault}
 use Rattle.mt_import_laws.specs.Origins.{IsAmong}
 use Rattle.mt_import_laws.specs.Printed.{Agrees, Key, number_at, value_in}
 use Rattle.mt_import_laws.proofs.Keys.{IsKey, same_key, value_at_key}
@@ -303,18 +304,18 @@ module _ (files : ℕ → RegisterFile) (count : ℕ) (prints : Prints) (alike :
 
   -- ---- VCNT counts each pair that a reading shows as enabled
 
-  enabled_few : (reading : Reading) → IsPart files count prints reading → enabled_pair reading ≤ low_byte shared
+  enabled_few : (reading : Reading) → IsPart files count prints reading → least_count reading ≤ low_byte shared
   enabled_few reading part =
       let file = files reading.processor in
       rw (part.number, part.value) (subst (λ c. enabled file (number_at part.key) (bit_and (value_in file part.key) reading.bits) ≤ low_byte c) (alike.capabilities reading.processor part.processor)
       (enabled_at file part.key reading.bits (alike.is_file reading.processor part.processor) part.is_key))
 
-  last_few : (readings : List Reading) → AreParts files count prints readings → (last_shown readings).count ≤ low_byte shared
+  last_few : (readings : List Reading) → AreParts files count prints readings → count_of (last_shown readings) ≤ low_byte shared
   last_few [] all = omega arith
-  last_few (reading ∷ before) all = by (nat_lt (last_shown before).count (enabled_pair reading)) (enabled_few reading all.0) (last_few before all.1)
+  last_few (reading ∷ before) all = by (nat_lt (count_of (last_shown before)) (least_count reading)) (enabled_few reading all.0) (last_few before all.1)
     where
-      by : (test : Bool) → enabled_pair reading ≤ low_byte shared → (last_shown before).count ≤ low_byte shared
-          → (if test then record { count = enabled_pair reading; line = reading.place.line } else last_shown before).count ≤ low_byte shared
+      by : (test : Bool) → least_count reading ≤ low_byte shared → count_of (last_shown before) ≤ low_byte shared
+          → count_of (if test then Some (record { count = least_count reading; line = reading.place.line }) else last_shown before) ≤ low_byte shared
       by true new old = new
       by false new old = old
 
@@ -419,12 +420,12 @@ module _ (files : ℕ → RegisterFile) (count : ℕ) (prints : Prints) (alike :
         let few = enabled_few reading part in
         let word : bits_differ (supplied_value supplied reading.number) reading.bits reading.value ≡ false =
         rw (part.number, part.value) (same_word reading.processor key reading.bits (supplied_value supplied (number_at key)) part.processor part.is_key refl) in
-        let word_too : counts_fewer (supplied_value supplied 0xfe) (enabled_pair reading) ≡ false = word_counts (supplied_value supplied 0xfe) (enabled_pair reading) refl few in
+        let word_too : counts_fewer (supplied_value supplied 0xfe) (least_count reading) ≡ false = word_counts (supplied_value supplied 0xfe) (least_count reading) refl few in
         let line : clashes (slot_shown before reading.processor reading.number) reading ≡ false =
         rw part.number (no_clash (slot_shown before reading.processor (number_at key)) reading (value_in (files reading.processor) key) (known files count prints before reading.processor key all part.is_key) part.value) in
-        by_tests (bits_differ (supplied_value supplied reading.number) reading.bits reading.value) (counts_fewer (supplied_value supplied 0xfe) (enabled_pair reading))
+        by_tests (bits_differ (supplied_value supplied reading.number) reading.bits reading.value) (counts_fewer (supplied_value supplied 0xfe) (least_count reading))
         (clashes (slot_shown before reading.processor reading.number) reading) (slot_shown before reading.processor reading.number).line (count_rival (capabilities_shown before) (last_shown before) reading) word word_too line
-        (by_counts (counts_fewer (counted (capabilities_shown before)) (enabled_pair reading)) (capabilities_shown before).line (reading.number == 0xfe) (slot_counts (capabilities_shown before) (enabled_pair reading) (capabilities_known before all) few) refl)
+        (by_counts (counts_fewer (counted (capabilities_shown before)) (least_count reading)) (capabilities_shown before).line (reading.number == 0xfe) (slot_counts (capabilities_shown before) (least_count reading) (capabilities_known before all) few) refl)
       where
         by_tests : (word fewer clash : Bool) (at : ℕ) (others : Option Rival) → word ≡ false → fewer ≡ false → clash ≡ false → others ≡ None → (if word then Some Word else if fewer then Some CapabilityWord else if clash then Some (Line at) else others) ≡ None
         by_tests word fewer clash at others one two three none = rw (one, two, three) none
@@ -433,12 +434,17 @@ module _ (files : ℕ → RegisterFile) (count : ℕ) (prints : Prints) (alike :
         capability same =
             let value = shared_by reading part (eqb-true reading.number 0xfe same) in
             let next = one_more (capabilities_shown before) reading shared (capabilities_known before all) part.small value in
-            by_two (clashes (capabilities_shown before) reading) (counts_fewer (counted (slot_with (capabilities_shown before) reading)) (last_shown before).count) (capabilities_shown before).line (last_shown before).line
+            by_two (clashes (capabilities_shown before) reading) (capabilities_shown before).line (uncounted_rival (counted (slot_with (capabilities_shown before) reading)) (last_shown before))
             (no_clash (capabilities_shown before) reading shared (capabilities_known before all) value)
-            (slot_counts (slot_with (capabilities_shown before) reading) (last_shown before).count next (last_few before all))
+            (no_uncounted (counted (slot_with (capabilities_shown before) reading)) (last_shown before)
+            (slot_counts (slot_with (capabilities_shown before) reading) (count_of (last_shown before)) next (last_few before all)))
           where
-            by_two : (clash fewer : Bool) (a b : ℕ) → clash ≡ false → fewer ≡ false → (if clash then Some (Line a) else if fewer then Some (RegisterLine b) else None) ≡ None
-            by_two clash fewer a b one two = rw (one, two) refl
+            by_two : (clash : Bool) (line : ℕ) (others : Option Rival) → clash ≡ false → others ≡ None → (if clash then Some (Line line) else others) ≡ None
+            by_two clash line others one two = rw (one, two) refl
+
+            no_uncounted : (counted_by : Option ℕ) (last : Option LastPair) → counts_fewer counted_by (count_of last) ≡ false → uncounted_rival counted_by last ≡ None
+            no_uncounted counted_by None few = refl
+            no_uncounted counted_by (Some last) few = rw few refl
 
         by_counts : (fewer : Bool) (at : ℕ) (n : Bool) → fewer ≡ false → (reading.number == 0xfe) ≡ n → (if fewer then Some (CapabilityLine at) else if n then capability_rival (capabilities_shown before) (last_shown before) reading else None) ≡ None
         by_counts fewer at true none same = rw none (capability same)

@@ -12,6 +12,7 @@ use Rattle.mt_import.specs.declared.format.Choice.TheVariants.{Only}
 use Rattle.mt_import.specs.declared.format.Format.TheVariants.{X86info}
 use Rattle.mt_import.specs.declared.reading.Context.{Context}
 use Rattle.mt_import.specs.declared.reading.LineSays.TheVariants.{Turns}
+use Rattle.mt_import.specs.declared.reading.Turn.TheVariants.{To}
 use Rattle.mt_import.specs.Readings.{Fact, is_line, is_width, starts}
 use Rattle.mt_import.specs.Shown.{context_behind, facts_from, facts_of_line, said_of}
 use Rattle.mt_import.specs.Slot.{all_bits}
@@ -30,7 +31,7 @@ use Rattle.mt_import_laws.proofs.X86infoTable.{capability_line, each_key, table_
 
 -- ---- `CPU #1:`
 
-turns : (k number : ℕ) → k < 16 → said_of X86info number (cpu_line k) ≡ Turns k
+turns : (k number : ℕ) → k < 16 → said_of X86info number (cpu_line k) ≡ Turns (To k)
 unfolding digits
 turns zero number less = refl
 turns (suc zero) number less = refl
@@ -137,7 +138,7 @@ module _ (prints : ℕ → Print) (files : ℕ → RegisterFile) (count : ℕ) (
     turned_format : turned.format ≡ Some X86info
     turned_format = next_format X86info context number (cpu_line k) is
 
-    turned_to : turned.processor ≡ k
+    turned_to : turned.processor ≡ Some k
     turned_to = rw (is, turns k number (below k less)) refl
 
     cpu_facts : facts_of_line context number (cpu_line k) ≡ is_line number (Some X86info) true ∷ []

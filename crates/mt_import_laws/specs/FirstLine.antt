@@ -8,6 +8,7 @@ use Rattle.mt_text.specs.Words.{text_of}
 use Rattle.mt_import.specs.declared.format.Format.{Format}
 use Rattle.mt_import.specs.declared.reading.LineSays.{LineSays}
 use Rattle.mt_import.specs.declared.reading.LineSays.TheVariants.{Nothing, Turns}
+use Rattle.mt_import.specs.declared.reading.Turn.TheVariants.{To}
 use Rattle.mt_import.specs.Outcome.{Outcome}
 use Rattle.mt_import.specs.Pieces.{is_text}
 use Rattle.mt_import.specs.Shown.{format_told, said_in, said_of}
@@ -15,7 +16,7 @@ use Rattle.mt_import.specs.Shown.{format_told, said_in, said_of}
 -- What a line says without a format and within one: the same, or there only that it turns to processor 0.
 pub data SaysAlike (without within : LineSays) : Type 0 where
   says_same : within ≡ without → SaysAlike without within
-  only_turns : without ≡ Nothing → within ≡ Turns 0 → SaysAlike without within
+  only_turns : without ≡ Nothing → within ≡ Turns (To 0) → SaysAlike without within
 
 pub record TellsNone (format : Format) (number : ℕ) (line : List ℕ) : Type 0 where
   pub none : format_told number line ≡ None

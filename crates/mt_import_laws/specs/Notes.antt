@@ -4,7 +4,7 @@ use Rattle.std.specs.Prelude.{ℕ, ◌≡◌, ◌<◌, codes, decimal, List, [],
 use Rattle.std.specs.List.{AllByRecursion, concat}
 use Rattle.mt_import.specs.Supplied.{Supplied}
 use Rattle.mt_import.specs.Values.{firm_value, firm_width, width_by}
-use Rattle.mt_import.specs.Outcome.{Seen, known_of, needed, note_by, processors, slot_shown, values_of, width_note}
+use Rattle.mt_import.specs.Outcome.{Seen, findings_of, needed, note_by, processors, slot_shown, values_of, width_note}
 use Rattle.mt_import_laws.specs.Origins.{IsAmong}
 
 -- ` 0 2`
@@ -23,7 +23,7 @@ pub record IsNoted (notes : List ℕ) (k number value : ℕ) : Type 0 where
 -- An assumption alone gives processor k's register this value.
 pub record IsAssumedAlone (supplied : Supplied) (seen : Seen) (k number value : ℕ) : Type 0 where
   pub unfirm : firm_value supplied (slot_shown seen.readings k) number ≡ None
-  pub value_is : values_of supplied (slot_shown seen.readings) (known_of seen) k number ≡ Some value
+  pub value_is : values_of supplied (findings_of seen) k number ≡ Some value
 
 -- An assumption alone gives this width.
 pub record IsAssumedWidth (supplied : Supplied) (seen : Seen) (width : ℕ) : Type 0 where

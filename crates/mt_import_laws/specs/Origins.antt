@@ -1,6 +1,6 @@
 -- Where the values of a dump come from, and lines that contradict each other, in terms of what the lines of a log show (own).
 --     readings_of choice text      what the lines of a log show of registers
---     Origin supplied readings known k number value      the lines, the word or the assumption that gives a register of processor k this value
+--     Origin supplied seen k number value      the lines, the word or the assumption that gives a register of processor k this value
 use Rattle.std.specs.Prelude.{ℕ, ◌≡◌, ◌≢◌, ◌<◌, ◌⊎◌, ◌+◌, ◌==◌, Bool, true, false, List, [], ◌∷◌, ◌++◌, length, if◌then◌else◌, Some, None, slice_get}
 use Rattle.std.specs.Int.{bit_at}
 use Rattle.mt_ports.specs.Causes.{one_more}
@@ -18,8 +18,8 @@ use Rattle.mt_import.specs.Readings.{Fact, is_register_value, is_width, starts}
 use Rattle.mt_import.specs.Shown.{chosen, context_behind, facts_of_line, format_of, said_in, shown}
 use Rattle.mt_import.specs.Supplied.{Supplied, supplied_value}
 use Rattle.mt_import.specs.Slot.{whole_value}
-use Rattle.mt_import.specs.Values.{Known, assumed_of, assumed_value, is_pair_number, assumed_width, mask_of, width_by}
-use Rattle.mt_import.specs.Outcome.{Seen, Outcome, capabilities_shown, counted, counts_fewer, dump_in, enabled_pair, known_by, known_of, needed, notes_of, nothing_seen, processors, seen_after, slot_shown, values_of}
+use Rattle.mt_import.specs.Values.{assumed_of, assumed_value, is_pair_number, assumed_width, mask_of, width_by}
+use Rattle.mt_import.specs.Outcome.{Seen, Outcome, capabilities_shown, counted, counts_fewer, dump_in, least_count, findings_of, known_by, needed, notes_of, nothing_seen, processors, seen_after, slot_shown, values_of}
 
 abbrev pub IsAmong : {A : Type 0} → A → List A → Type 0
 IsAmong x [] = ⊥
@@ -54,7 +54,7 @@ is_heading (Begins shows) = true
 is_heading Nothing = false
 is_heading (Announces processor number) = false
 is_heading (Value value place) = false
-is_heading (Turns processor) = false
+is_heading (Turns turn) = false
 is_heading (Shows processor shows) = false
 is_heading (FixedRanges enabled alone place) = false
 is_heading (VariableRanges enabled place) = false
@@ -133,20 +133,21 @@ abbrev pub IsUntold : Supplied → List Reading → ℕ → ℕ → Type 0
 IsUntold supplied readings processor number = IsUnshown readings processor number × (supplied_value supplied number ≡ None)
 
 -- its value is that of an assumption that a word allows
-abbrev pub IsAssumed : Supplied → List Reading → Known → ℕ → ℕ → ℕ → Type 0
-IsAssumed supplied readings known processor number value = assumed_value (assumed_of processor supplied.assumed) (slot_shown readings processor) known number ≡ Some value
+abbrev pub IsAssumed : Supplied → Seen → ℕ → ℕ → ℕ → Type 0
+IsAssumed supplied seen processor number value =
+    assumed_value (assumed_of processor supplied.assumed) (slot_shown seen.readings processor) (known_by supplied (findings_of seen)) number ≡ Some value
 
 -- Lines come before a word, and a word before a pair that is off and an assumption.
-pub data Origin (supplied : Supplied) (readings : List Reading) (known : Known) (processor number value : ℕ) : Type 0 where
-  by_lines : IsShown readings processor number value → Origin supplied readings known processor number value
-  by_word : IsUnshown readings processor number → supplied_value supplied number ≡ Some value → Origin supplied readings known processor number value
-  by_disabled : IsUntold supplied readings processor number → IsDisabled readings processor number value → Origin supplied readings known processor number value
-  by_assumption : IsUntold supplied readings processor number → IsAssumed supplied readings known processor number value → Origin supplied readings known processor number value
+pub data Origin (supplied : Supplied) (seen : Seen) (processor number value : ℕ) : Type 0 where
+  by_lines : IsShown seen.readings processor number value → Origin supplied seen processor number value
+  by_word : IsUnshown seen.readings processor number → supplied_value supplied number ≡ Some value → Origin supplied seen processor number value
+  by_disabled : IsUntold supplied seen.readings processor number → IsDisabled seen.readings processor number value → Origin supplied seen processor number value
+  by_assumption : IsUntold supplied seen.readings processor number → IsAssumed supplied seen processor number value → Origin supplied seen processor number value
 
 -- VCNT, as lines show it and as a word supplies it, counts the pair that a reading shows as enabled.
 pub record CountsPair (supplied : Supplied) (readings : List Reading) (a : Reading) : Type 0 where
-  pub shown : counts_fewer (counted (capabilities_shown readings)) (enabled_pair a) ≡ false
-  pub given : counts_fewer (supplied_value supplied 0xfe) (enabled_pair a) ≡ false
+  pub shown : counts_fewer (counted (capabilities_shown readings)) (least_count a) ≡ false
+  pub given : counts_fewer (supplied_value supplied 0xfe) (least_count a) ≡ false
 
 -- ---- lines on fixed ranges
 
@@ -156,7 +157,7 @@ SaysFixed (FixedRanges enabled alone place) on = enabled ≡ on
 SaysFixed Nothing on = ⊥
 SaysFixed (Announces processor number) on = ⊥
 SaysFixed (Value value place) on = ⊥
-SaysFixed (Turns processor) on = ⊥
+SaysFixed (Turns turn) on = ⊥
 SaysFixed (Shows processor shows) on = ⊥
 SaysFixed (Begins shows) on = ⊥
 SaysFixed (VariableRanges enabled place) on = ⊥
@@ -186,7 +187,7 @@ pub data WidthOrigin (choice : Choice) (supplied : Supplied) (text : List ℕ) (
 
 -- the dump of this width and capability register
 abbrev pub dump_by : Supplied → Seen → ℕ → ℕ → Dump
-dump_by supplied seen width capabilities = dump_in (values_of supplied (slot_shown seen.readings) (known_of seen)) (processors seen.readings) width capabilities
+dump_by supplied seen width capabilities = dump_in (values_of supplied (findings_of seen)) (processors seen.readings) width capabilities
 
 -- The section of processor k has a line with this value of the register.
 pub record IsInSection (dump : Dump) (k number value : ℕ) : Type 0 where
@@ -203,13 +204,13 @@ pub record HasOrigins (supplied : Supplied) (seen : Seen) (told : Outcome) : Typ
   pub width : ℕ
   pub capabilities : ℕ
   pub width_is : width_by supplied (slot_shown seen.readings) seen.width ≡ Some width
-  pub capabilities_is : values_of supplied (slot_shown seen.readings) (known_of seen) 0 0xfe ≡ Some capabilities
-  pub notes_are : told.notes ≡ notes_of supplied (slot_shown seen.readings) (processors seen.readings) (known_of seen)
+  pub capabilities_is : values_of supplied (findings_of seen) 0 0xfe ≡ Some capabilities
+  pub notes_are : told.notes ≡ notes_of supplied (findings_of seen)
   pub dump_is : told.dump ≡ canon (dump_by supplied seen width capabilities)
   pub sections : length (dump_by supplied seen width capabilities).files ≡ processors seen.readings
   pub in_section : (k number value : ℕ) → k < processors seen.readings → IsAmong number (needed (Some capabilities))
-      → values_of supplied (slot_shown seen.readings) (known_of seen) (owner k number) number ≡ Some value
+      → values_of supplied (findings_of seen) (owner k number) number ≡ Some value
       → IsInSection (dump_by supplied seen width capabilities) k number value
   pub each : (k number : ℕ) → k < processors seen.readings → IsAmong number (needed (Some capabilities))
-      → (value : ℕ) × (values_of supplied (slot_shown seen.readings) (known_of seen) k number ≡ Some value)
-      × Origin supplied seen.readings (known_by supplied (slot_shown seen.readings) (known_of seen)) k number value
+      → (value : ℕ) × (values_of supplied (findings_of seen) k number ≡ Some value)
+      × Origin supplied seen k number value

@@ -21,6 +21,7 @@ use Rattle.mt_import.specs.declared.format.Choice.TheVariants.{Auto, Only}
 use Rattle.mt_import.specs.declared.format.Format.{Format}
 use Rattle.mt_import.specs.declared.format.Format.TheVariants.{Rdmsr, X86info, Inteltool, Coreboot, Edk2, Linux, Xen}
 use Rattle.mt_import.specs.declared.reading.LineSays.TheVariants.{Nothing, Shows, Turns, Warns, Width}
+use Rattle.mt_import.specs.declared.reading.Turn.TheVariants.{To}
 use Rattle.mt_import.specs.declared.reading.LineSays.{LineSays}
 use Rattle.mt_import.specs.declared.shape.Shown.{Shown}
 use Rattle.mt_import.specs.Import.{log_outcome}
@@ -73,7 +74,7 @@ pub data SaysNoMore (format : Format) (file : RegisterFile) (said : LineSays) : 
   no_match : said ≡ Nothing → SaysNoMore format file said
   only_width : (place : Place) → said ≡ Width file.width place → SaysNoMore format file said
   only_warns : said ≡ Warns → SaysNoMore format file said
-  only_turns : said ≡ Turns 0 → SaysNoMore format file said
+  only_turns : said ≡ Turns (To 0) → SaysNoMore format file said
   only_shows : (processor : Option ℕ) (shows : List (Option Shown)) → said ≡ Shows processor shows → unwrap_or processor 0 ≡ 0 → AllByRecursion (IsNoMore format file) shows → SaysNoMore format file said
 
 -- a line that says no more, whatever its number

@@ -1,11 +1,10 @@
 use Rattle.std.proofs.Common.{Ok, refl, ◌∙◌, ap, subst}
 use Rattle.std.proofs.lemmas.Result.{err_from_is_err_and}
 use Rattle.mt_dump.proofs.Counted.{comes_nearer, counts_line, counts_more, failed_on, stands_after, stands_on, still_on}
-use Rattle.mt_import.specs.Outcome.{ended_with, nothing_seen}
-use Rattle.mt_import.specs.Reader.{HasTaken, known_in, slots_of}
+use Rattle.mt_import.specs.Outcome.{ended_by, nothing_seen}
+use Rattle.mt_import.specs.Reader.{HasTaken, summary_in}
 use Rattle.mt_import.specs.Readings.{starts}
 use Rattle.mt_import.proofs.Fed.{at_first, ends, goes_on, offends}
-use Rattle.mt_import.proofs.Same.{fit_end, sound_end}
 use Rattle.mt_import.proofs.reader.read_lines.Goals as goal
 
 pub lines-init : goal.lines-init
@@ -77,7 +76,7 @@ lines-preserved g c =
 pub returns-clause-answer : goal.returns-clause-answer
 returns-clause-answer g c =
     let lines = rw (c.in_ok-line.was ∙ ap Ok c.in_default.is) at c.line.follows.holds-at-none in
-    λ bytes is. c.finish.ensures.told ∙ ap (λ a. ended_with a c.args.supplied.now (slots_of c.lines.reader) c.lines.reader.processors (known_in c.lines.reader) c.lines.reader.tally) c.is_auto.ensures ∙ ends (g.S.Source.left c.args.source.now) (g.S.Source.left c.lines.source) (g.S.Source.left c.line.new.source) (g.S.Source.given c.args.source.now) (g.S.Source.given c.lines.source) (g.S.Source.given c.line.new.source)
+    λ bytes is. c.finish.ensures.told ∙ ap (λ a. ended_by (summary_in a c.args.supplied.now c.lines.reader)) c.is_auto.ensures ∙ ends (g.S.Source.left c.args.source.now) (g.S.Source.left c.lines.source) (g.S.Source.left c.line.new.source) (g.S.Source.given c.args.source.now) (g.S.Source.given c.lines.source) (g.S.Source.given c.line.new.source)
     c.lines.feed c.line.follows.lender-at-none c.args.choice c.args.supplied.now c.lines.reader c.lines.invariant.reading
     lines bytes is
 
@@ -89,9 +88,3 @@ returns-clause-counted g c = (counts_line c.lines.invariant.reading.fed c.line.f
 
 pub returns-clause-stands : goal.returns-clause-stands
 returns-clause-stands g c = λ other. stands_after c.in_ok-line.was c.lines.invariant.stood c.line.ensures.stands
-
-pub finish-requires-clause-pairs : goal.finish-requires-clause-pairs
-finish-requires-clause-pairs g c = sound_end c.args.supplied.now c.lines.reader c.lines.invariant.reading.seen c.lines.invariant.reading.held c.is_supplied.ensures
-
-pub finish-requires-clause-fit : goal.finish-requires-clause-fit
-finish-requires-clause-fit g c = fit_end c.lines.reader c.lines.invariant.reading.seen c.lines.invariant.reading.held

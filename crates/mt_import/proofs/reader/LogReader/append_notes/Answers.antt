@@ -1,8 +1,8 @@
 use Rattle.std.proofs.Common.{arith, map, take}
 use Rattle.mt_regs.specs.Registers.{number_of, writable}
 use Rattle.mt_import.proofs.Parts.{grows, notes_more, some_at}
-use Rattle.mt_import.specs.Outcome.{firm_of, note_line, note_lines, noted, noted_of}
-use Rattle.mt_import.specs.Reader.{slots_of, values_in}
+use Rattle.mt_import.specs.Outcome.{note_line, note_lines, noted, noted_of}
+use Rattle.mt_import.specs.Reader.{firm_in, values_in}
 use Rattle.mt_import.proofs.reader.LogReader.append_notes.Goals as goal
 
 pub unreachable-requires : goal.unreachable-requires
@@ -10,7 +10,7 @@ unreachable-requires c = some_at (writable c.args.file.now) c.registers.i (omega
 
 pub registers-preserved : goal.registers-preserved
 registers-preserved c =
-    let firm = firm_of c.args.supplied.now (slots_of c.args.self.now) in
+    let firm = firm_in c.args.supplied.now c.args.self.now in
     let values = values_in c.args.supplied.now c.args.self.now in
     let count = c.args.self.now.processors in
     record {

@@ -2,8 +2,8 @@ use Rattle.std.proofs.Common.{[], arith, map, take}
 use Rattle.std.specs.Prelude.{if◌then◌else◌}
 use Rattle.mt_regs.specs.Registers.{number_of, writable}
 use Rattle.mt_import.proofs.Parts.{grows, missing_more, some_at}
-use Rattle.mt_import.specs.Outcome.{hint_of, is_missing, missing_line, missing_lines}
-use Rattle.mt_import.specs.Reader.{known_in, slots_of, values_in}
+use Rattle.mt_import.specs.Outcome.{is_missing, missing_line, missing_lines}
+use Rattle.mt_import.specs.Reader.{hint_in, values_in}
 use Rattle.mt_import.proofs.reader.LogReader.append_registers.Goals as goal
 
 pub unreachable-requires : goal.unreachable-requires
@@ -11,7 +11,7 @@ unreachable-requires c = some_at (writable c.args.file.now) c.registers.i (omega
 
 pub registers-preserved : goal.registers-preserved
 registers-preserved c =
-    let hints = hint_of c.args.supplied.now (slots_of c.args.self.now) (known_in c.args.self.now) in
+    let hints = hint_in c.args.supplied.now c.args.self.now in
     let values = values_in c.args.supplied.now c.args.self.now in
     let count = c.args.self.now.processors in
     record {

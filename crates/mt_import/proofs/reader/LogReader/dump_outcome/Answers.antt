@@ -1,17 +1,13 @@
 use Rattle.std.proofs.Common.{◌∙◌, ap, sym}
 use Rattle.mt_dump.specs.Canon.{canon}
-use Rattle.mt_import.specs.Outcome.{notes_of, refusal, remarks}
-use Rattle.mt_import.specs.Reader.{known_in, slots_of, values_in}
+use Rattle.mt_import.specs.Outcome.{refusal, remarks}
+use Rattle.mt_import.specs.Reader.{slots_of, summary_in, values_in}
 use Rattle.mt_import.specs.Values.{width_by}
 use Rattle.mt_import.proofs.Ends.{told_whole}
 use Rattle.mt_import.proofs.reader.LogReader.dump_outcome.Goals as goal
 
-pub dump-requires-clause-pairs : goal.dump-requires-clause-pairs
-dump-requires-clause-pairs c = c.requires.pairs c.in-Some-value.capabilities (sym c.value.ensures ∙ c.in-Some-value.is)
-
 pub returns-clause-told : goal.returns-clause-told
 returns-clause-told c =
-    told_whole (refusal c.args.self.now.tally c.args.missing.now) (values_in c.args.supplied.now c.args.self.now) c.args.self.now.processors c.in-Some.width c.in-Some-value.capabilities
-    (notes_of c.args.supplied.now (slots_of c.args.self.now) c.args.self.now.processors (known_in c.args.self.now)) (remarks c.args.is_auto c.args.self.now.tally) _ _ _
+    told_whole (refusal c.args.self.now.tally c.args.missing.now) (summary_in c.args.is_auto c.args.supplied.now c.args.self.now) c.in-Some.width c.in-Some-capabilities.capabilities _ _ _
     (width_by c.args.supplied.now (slots_of c.args.self.now) c.args.self.now.width) (values_in c.args.supplied.now c.args.self.now 0 0xfe)
-    c.notes.ensures (c.canonical_text.ensures ∙ ap canon c.dump.ensures) (c.remarks.ensures ∙ ap (remarks c.args.is_auto) c.tally-tally.ensures) (sym c.width.ensures.width ∙ c.in-Some.is) (sym c.value.ensures ∙ c.in-Some-value.is)
+    c.notes.ensures (c.canonical_text.ensures ∙ ap canon c.dump.ensures) (c.remarks.ensures ∙ ap (remarks c.args.is_auto) c.tally-tally.ensures) (sym c.width.ensures.width ∙ c.in-Some.is) (sym c.capabilities.ensures.value ∙ c.in-Some-capabilities.is)

@@ -6,4 +6,4 @@ use Rattle.mt_import.proofs.reader.LogReader.files.Goals as goal
 pub push-requires : goal.push-requires
 push-requires c =
     let size = ap length c.files.invariant ∙ length_files (values_in c.args.supplied.now c.args.self.now) c.args.width c.args.capabilities c.files.k in
-    (omega arith, omega (arith, size, c.files-test.true, c.count-k-end.ensures, c.requires.few))
+    (omega arith, omega (arith, size, c.files-test.true, c.count-k-end.ensures.few))
