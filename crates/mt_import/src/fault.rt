@@ -20,7 +20,7 @@ pub enum Rival {
 pub enum ImportFault {
     /// The line has more than 4,096 bytes.
     LongLine(Place),
-    /// The register is of a processor past the sixteenth, or of one whose number can't be read.
+    /// The register is of a processor past the sixteenth, or of one whose number can't be read or isn't known.
     BadProcessor(Place),
     /// The capability register has more than 32 pairs.
     TooManyPairs(Place),

@@ -820,8 +820,8 @@ fn read_lines<S: Source>(
     Ok(reader.finish(choice.is_auto(), supplied))
 }
 
-/// What a log comes to, line by line out of one buffer. Behind a fault the rest is read too, so that
-/// a failed read and too many bytes come before it.
+/// What a log comes to, line by line out of one buffer. Behind a fault the rest is read too, since a failed read and
+/// too many bytes take precedence over it.
 pub fn read_log<S: Source>(
     choice: Choice,
     supplied: &Supplied,

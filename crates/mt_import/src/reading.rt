@@ -48,7 +48,7 @@ pub enum LineSays {
     Turns(Turn),
     /// Registers of this processor, or else of the one that the lines are of.
     Shows(Option<u32>, Shows),
-    /// A kernel's table begins, and shows this.
+    /// A table of a kernel or of coreboot begins, and shows this.
     Begins(Shows),
     /// Whether fixed ranges are enabled, and whether the line shows FE whatever E is.
     FixedRanges(bool, bool, Place),
@@ -67,11 +67,11 @@ pub enum LineSays {
 pub struct Context {
     /// The format, if it is known.
     pub format: Option<Format>,
-    /// The register whose value the line just before announces.
+    /// The register whose value the next line may have.
     pub announced: Option<Announced>,
     /// The processor that the lines are of, if it is known.
     pub processor: Option<u32>,
-    /// How many kernel's tables have begun.
+    /// How many tables of a kernel or of coreboot have begun.
     pub table: u64,
     /// The last line on fixed ranges.
     pub fixed: Option<FixedLine>,

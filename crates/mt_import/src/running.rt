@@ -98,7 +98,8 @@ pub fn import<S: Source, K: Sink>(words: &[String], source: &mut S, sink: &mut K
     }
 }
 
-/// The same over two sinks. One takes the dump. The other, as standard error, takes the reasons, and takes them first.
+/// Does what `import` does over two sinks. One takes the dump. The other, as standard error, takes the reasons, and
+/// takes them first.
 pub fn import_apart<S: Source, K: Sink, E: Sink>(
     words: &[String],
     source: &mut S,

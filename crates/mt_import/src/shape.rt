@@ -5,7 +5,7 @@ use mt_text::Place;
 #[derive(Clone, Copy)]
 pub struct Reading {
     pub processor: u32,
-    /// How many kernel's tables have begun before.
+    /// How many tables of a kernel or of coreboot have begun before.
     pub table: u64,
     pub number: u32,
     pub bits: u64,

@@ -22,7 +22,7 @@ const MOST_WORDS: usize = 84;
 /// What may be assumed where neither a line nor a word says it. docs/IMPORT.md has each in words.
 #[derive(Clone, Copy)]
 pub struct Assumed {
-    /// The PAT has its value of power-up.
+    /// The PAT has its value of power-up, and in a log of Xen the one that Xen sets.
     pub pat: bool,
     /// A pair that no line shows is 0.
     pub pairs: bool,
@@ -30,7 +30,7 @@ pub struct Assumed {
     pub masks: bool,
     /// The width is that of the widest mask.
     pub width: bool,
-    /// A kernel's table shows each pair, and its processor has write-combining.
+    /// `0FE` has FIX, WC and VCNT: by the line `MTRR map`, or else by the last pair that is shown.
     pub capabilities: bool,
 }
 

@@ -19,9 +19,9 @@ ghost use Rattle.mt_import_laws.specs.Returns.{DifferInReturns};
 ghost use Rattle.mt_import_laws.specs.Spare.{ComeToSameWithout, HasSpareLine};
 ghost use Rattle.mt_import_laws.specs.Warnings.{HasWarning, IsWithin};
 
-/// For all logs and words: if a dump comes of them, it has a section for each processor, with the processor's values. Lines of one
-/// table show each value of the processor. Or else a word supplies it. Or else lines show its pair as disabled, and it is 0. Or else
-/// it is a named assumption's.
+/// For all logs and words: if a dump comes of them, it has a section for each processor, with the processor's values
+/// and 0FEH of processor 0. Lines of one table show each value of the processor. Or else a word supplies it. Or else
+/// lines show its pair as disabled, and it is 0. Or else it is a named assumption's.
 pub fn values_have_origins()
     ensures { (choice : Choice) (supplied : Supplied) (text : List ℕ) → (log_outcome choice supplied text).status ≡ Done
         → HasOrigins supplied (seen_of choice text) (log_outcome choice supplied text) }
@@ -39,7 +39,8 @@ pub fn assumed_values_are_noted()
     ensures { (supplied : Supplied) (seen : Seen) (told : Outcome) (origins : HasOrigins supplied seen told) → AreNoted supplied seen origins.capabilities told.notes }
 {}
 
-/// A kernel's warning that processors differ is told on standard error, wherever it stands, unless the log has a fault.
+/// A kernel's warning that processors differ, on a line that says nothing else, is printed on standard error, unless
+/// the log has a fault.
 pub fn warnings_are_told()
     ensures { (choice : Choice) (supplied : Supplied) (text : List ℕ) → HasWarning choice text → (log_outcome choice supplied text).status ≢ BadText
         → IsWithin (warning_text true) (log_outcome choice supplied text).reasons }
@@ -86,7 +87,7 @@ pub fn fixed_ranges_without_fix_are_faults()
         → shows_fixed a ≡ true → shows_no_fix b ≡ true → (log_outcome choice supplied text).status ≡ BadText }
 {}
 
-/// So is such a line beside a word that supplies the capability register without FIX.
+/// A line that shows that a fixed-range register isn't 0, beside a word that supplies 0FEH without FIX, is a fault.
 pub fn a_word_without_fix_is_a_fault()
     ensures { (choice : Choice) (supplied : Supplied) (text : List ℕ) (a : Reading) (word : ℕ) → IsAmong a (readings_of choice text)
         → shows_fixed a ≡ true → supplied_value supplied 0xfe ≡ Some word → is_bit_set word 8 ≡ false → (log_outcome choice supplied text).status ≡ BadText }
@@ -116,7 +117,8 @@ pub fn lines_that_match_nothing_may_be_left_out()
         → ComeToSameWithout (is_auto choice) (1 + length has.before) (log_outcome choice supplied longer) (log_outcome choice supplied shorter) }
 {}
 
-/// A CR at the end of lines changes nothing, in any format: the texts and the status stay.
+/// One CR more at the end of lines changes nothing, in any format: the texts and the status stay. Except: a line of
+/// 4,096 bytes, and one that ends with a CR.
 pub fn returns_change_nothing()
     ensures { (choice : Choice) (supplied : Supplied) (a b : List ℕ) → DifferInReturns a b → log_outcome choice supplied a ≡ log_outcome choice supplied b }
 {}

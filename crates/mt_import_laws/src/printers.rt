@@ -73,8 +73,8 @@ pub fn what_xen_prints_reads_back()
     ensures { (file : RegisterFile) (supplied : Supplied) → SuitsXen file supplied → TableReadsInOrder Xen (xen_lines file) supplied file }
 {}
 
-/// What Linux prints of a register file reads back in the same ways, if words supply the same, and IA32_MTRR_DEF_TYPE also if neither
-/// E is set nor fixed ranges are called enabled.
+/// What Linux prints of a register file reads back as what Xen prints does, if words supply the same. They also supply
+/// IA32_MTRR_DEF_TYPE if neither E is set nor fixed ranges are called enabled.
 pub fn what_linux_prints_reads_back()
     ensures { (log : Log) (file : RegisterFile) (supplied : Supplied) → SuitsLinux log file supplied → TableReadsInOrder Linux (linux_lines log file) supplied file }
 {}
