@@ -55,8 +55,8 @@ fn is_in_order(phase: Phase, step: ProcedureStep, event: Option<Event>, due: Opt
 }
 
 impl Move {
-    /// Whether the manual's procedure has the step due. A step that is no event of the machine is due at any time, except in an
-    /// update a change of CD, and a flush of the TLB by the other way than the one that is due.
+    /// Whether the manual's procedure has the step due. The first flush of the caches is always due, INVD never. A step that is no event
+    /// of the machine is due at any time, except in an update a change of CD, and a flush of the TLB by the other way than the due one.
     pub fn is_due(&self) -> bool
         ensures { IsTrue result ↔ IsDue self.now }
     {
