@@ -60,7 +60,7 @@ keeps_value None table value place seen = (refl, refl)
 keeps_value (Some announced) table value place seen = keeps_shown announced.processor table (shown_as announced.number value place) seen
 
 keeps_unless : (clash : Option ℕ) (place : Place) (facts : List Fact) → Keeps facts → Keeps (unless_clash clash place facts)
-keeps_unless None place facts keeps = keeps
+keeps_unless None place facts keeps seen = keeps seen
 keeps_unless (Some line) place facts keeps seen = (refl, refl)
 
 keeps_fixed : (context : Context) (enabled alone : Bool) (place : Place) → Keeps (fixed_facts context enabled alone place)
