@@ -1,6 +1,5 @@
 -- A script without a line that brings a processor up wants no memory behind the first line of its transcript.
-use Rattle.std.proofs.Common.{◌≡◌, ◌∙◌, ap, refl, sym, ℕ, ◌+◌, Bool, true, false, List, [], ◌∷◌, Option, None, Some, Result, Ok, Err, inl, inr}
-use Rattle.std.specs.Prelude.{◌⊎◌}
+use Rattle.std.proofs.Common.{◌≡◌, ◌∙◌, ap, refl, sym, ℕ, ◌+◌, Bool, true, false, List, [], ◌∷◌, Option, None, Some, Result, Ok, Err}
 use Rattle.std.specs.List.{All}
 use Rattle.std.proofs.lemmas.List.Elements.{All-head, All-tail}
 use Rattle.mt_text.specs.Text.{lines_of}
@@ -15,6 +14,7 @@ use Rattle.mt_script.specs.Head.{HeadStep, goes_on, head_step, offends, shows}
 use Rattle.mt_script.specs.Newcomers.{IsWithoutNewcomers, brings_up}
 use Rattle.mt_script.specs.declared.command.Command.{Command}
 use Rattle.mt_script.specs.declared.command.Command.TheVariants as command
+use Rattle.mt_script.specs.declared.command.Newcomer.{Newcomer}
 use Rattle.mt_script.specs.declared.fault.ScriptFault.{ScriptFault}
 use Rattle.mt_script.proofs.Coming.{newcomer_begins}
 use Rattle.mt_replay.specs.Newcomers.{early, early_text, is_newcomer, newcomer_by, newcomers_from, newcomers_in, newcomers_of_dump}
@@ -22,9 +22,8 @@ use Rattle.mt_replay.specs.ReplayState.{ReplayState, first_state, state_after}
 use Rattle.mt_replay.specs.Transcript.{in_head, transcript}
 use Rattle.mt_replay.proofs.Newcomers.{early_of_text, head_brings, newcomers_after}
 
-newcomer_is : (c : Command) → is_newcomer c ≡ true → (c ≡ command.Up) ⊎ (c ≡ command.Join)
-newcomer_is command.Up is = inl refl
-newcomer_is command.Join is = inr refl
+newcomer_is : (c : Command) → is_newcomer c ≡ true → (n : Newcomer) × (c ≡ command.Newcomer n)
+newcomer_is (command.Newcomer n) is = (n, refl)
 newcomer_is other is = cc is
 
 abbrev Quiet : List (List ℕ) → Type 0
@@ -36,7 +35,10 @@ none_behind number (line ∷ lines) s quiet = by (command_of s.now number line) 
   where
     own : (c : Command) → command_of s.now number line ≡ Ok c → (b : Bool) → is_newcomer c ≡ b → b ≡ false
     own c is false test = refl
-    own c is true test = let e = sym (All-head (λ line. brings_up line ≡ false) line lines quiet) ∙ newcomer_begins s.now number line c is (newcomer_is c test) in cc e
+    own c is true test =
+        let (n, comes) = newcomer_is c test in
+        let e = sym (All-head (λ line. brings_up line ≡ false) line lines quiet) ∙ newcomer_begins s.now number line n (is ∙ ap (λ c. Ok c) comes) in
+        cc e
 
     by : (answer : Result Command ScriptFault) → command_of s.now number line ≡ answer → ((next : ReplayState) → newcomers_in (number + 1) lines next ≡ false) → newcomer_by s (newcomers_in (number + 1) lines) answer ≡ false
     by (Err fault) is later = refl
