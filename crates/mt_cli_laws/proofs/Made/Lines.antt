@@ -1,5 +1,5 @@
 -- The lines of a text for measurements behind its dump: each is a command that may stand there.
-use Rattle.std.proofs.Common.{◌≡◌, ◌∙◌, ap, sym, refl, arith, ℕ, ◌+◌, ◌%◌, ◌^◌, ◌≤◌, ◌<◌, ◌==◌, nat_lt, true, false, List, [], ◌∷◌, ◌++◌, codes, decimal, length, length-append, append_assoc, Ok}
+use Rattle.std.proofs.Common.{◌≡◌, ◌∙◌, ap, sym, refl, arith, ℕ, ◌+◌, ◌%◌, ◌^◌, ◌≤◌, ◌<◌, ◌==◌, nat_lt, Bool, true, false, List, [], ◌∷◌, ◌++◌, codes, decimal, length, length-append, append_assoc, Ok}
 use Rattle.std.specs.List.{list_all}
 use Rattle.std.proofs.lemmas.Bool.{and_parts}
 use Rattle.std.proofs.lemmas.Bool.Decides.{nat_tests}
@@ -9,6 +9,7 @@ use Rattle.mt_output.specs.Lines.{line}
 use Rattle.mt_script.specs.Commands.{command_of, outside}
 use Rattle.mt_script.specs.declared.command.Command.{Command}
 use Rattle.mt_script.specs.declared.command.Command.TheVariants as command
+use Rattle.mt_script.specs.declared.command.Ask.TheVariants as ask
 use Rattle.mt_answers.specs.Generator.{hexadecimal}
 use Rattle.mt_cli_laws.proofs.Made.Digits.{IsProcessor, IsWord, hexadecimal_read, hexadecimal_word, processor}
 use Rattle.mt_cli_laws.proofs.Made.Dump.{ready}
@@ -69,9 +70,9 @@ module _ (cpu address : ℕ) (low : cpu < 16) (even : (address % 8 == 0) ≡ tru
   a : IsWord (hexadecimal address)
   a = hexadecimal_word address small
 
-  pub load_reads : IsCommand (load_body cpu address) (command.Load cpu address)
+  pub load_reads : IsCommand (load_body cpu address) (command.Ask cpu (ask.Load address))
   load_reads =
-      by_words (load_body cpu address) ((0, codes "load") ∷ (5, decimal cpu) ∷ (5 + length (decimal cpu) + 1, hexadecimal address) ∷ []) (command.Load cpu address)
+      by_words (load_body cpu address) ((0, codes "load") ∷ (5, decimal cpu) ∷ (5 + length (decimal cpu) + 1, hexadecimal address) ∷ []) (command.Ask cpu (ask.Load address))
       (all_plain (decimal cpu) (32 ∷ hexadecimal address) p.word.plain a.plain)
       (omega (arith, length-append (decimal cpu) (32 ∷ hexadecimal address), p.word.few, a.few))
       (ap (λ ws. let word : ℕ × List ℕ = (0, codes "load") in word ∷ ws)
@@ -79,11 +80,11 @@ module _ (cpu address : ℕ) (low : cpu < 16) (even : (address % 8 == 0) ≡ tru
       ∙ ap (λ ws. let word : ℕ × List ℕ = (5, decimal cpu) in word ∷ ws) (word_last (5 + length (decimal cpu) + 1) (hexadecimal address) a.some a.all)))
       (λ number. rw (p.read, p.below, hexadecimal_read address small, even, near) refl)
 
-  pub store_reads : (value : ℕ) → value < 2 ^ 64 → IsCommand (store_body cpu address value) (command.Store cpu address value)
+  pub store_reads : (value : ℕ) → value < 2 ^ 64 → IsCommand (store_body cpu address value) (command.Ask cpu (ask.Store address value))
   store_reads value fits =
       let v : IsWord (hexadecimal value) = hexadecimal_word value fits in
       let q : ℕ = 6 + length (decimal cpu) + 1 in
-      by_words (store_body cpu address value) ((0, codes "store") ∷ (6, decimal cpu) ∷ (q, hexadecimal address) ∷ (q + length (hexadecimal address) + 1, hexadecimal value) ∷ []) (command.Store cpu address value)
+      by_words (store_body cpu address value) ((0, codes "store") ∷ (6, decimal cpu) ∷ (q, hexadecimal address) ∷ (q + length (hexadecimal address) + 1, hexadecimal value) ∷ []) (command.Ask cpu (ask.Store address value))
       (all_plain (decimal cpu) (32 ∷ (hexadecimal address ++ 32 ∷ hexadecimal value)) p.word.plain (all_plain (hexadecimal address) (32 ∷ hexadecimal value) a.plain v.plain))
       (omega (arith, length-append (decimal cpu) (32 ∷ (hexadecimal address ++ 32 ∷ hexadecimal value)), length-append (hexadecimal address) (32 ∷ hexadecimal value), p.word.few, a.few, v.few))
       (ap (λ ws. let word : ℕ × List ℕ = (0, codes "store") in word ∷ ws)
@@ -112,6 +113,10 @@ map_is_line cpu address tail =
     ∙ append_assoc d (32 ∷ []) (h ++ 32 ∷ (h ++ e))
     ∙ sym (append_assoc d (32 ∷ (h ++ 32 ∷ (h ++ 32 ∷ tail))) (10 ∷ [])
     ∙ ap (λ l. d ++ 32 ∷ l) (append_assoc h (32 ∷ (h ++ 32 ∷ tail)) (10 ∷ []) ∙ ap (λ l. h ++ 32 ∷ l) (append_assoc h (32 ∷ tail) (10 ∷ [])))))
+
+-- a page that is mapped to itself
+abbrev pub mapped : ℕ → ℕ → Bool → Command
+mapped cpu address global = command.Ask cpu (ask.Map (record { address = address; physical = address; index = 0; global = global }))
 
 abbrev pub local_line : ℕ → ℕ → List ℕ
 local_line cpu address = codes "map " ++ decimal cpu ++ codes " " ++ hexadecimal address ++ codes " " ++ hexadecimal address ++ codes " 0\n"
@@ -163,14 +168,14 @@ module _ (cpu address : ℕ) (low : cpu < 16) (page : (address % 4096 == 0) ≡ 
         short,
       )
 
-  pub local_reads : IsCommand (map_body cpu address (codes "0")) (command.Map cpu address address 0 false)
+  pub local_reads : IsCommand (map_body cpu address (codes "0")) (mapped cpu address false)
   local_reads =
-      by_words (map_body cpu address (codes "0")) _ (command.Map cpu address address 0 false) (map_plain (codes "0") refl) (map_short (codes "0") (omega arith)) (map_words (codes "0"))
+      by_words (map_body cpu address (codes "0")) _ (mapped cpu address false) (map_plain (codes "0") refl) (map_short (codes "0") (omega arith)) (map_words (codes "0"))
       (λ number. rw (pr.read, pr.below, hexadecimal_read address small, page, near, within) refl)
 
-  pub global_reads : IsCommand (map_body cpu address (codes "0 global")) (command.Map cpu address address 0 true)
+  pub global_reads : IsCommand (map_body cpu address (codes "0 global")) (mapped cpu address true)
   global_reads =
-      by_words (map_body cpu address (codes "0 global")) _ (command.Map cpu address address 0 true) (map_plain (codes "0 global") refl) (map_short (codes "0 global") (omega arith)) (map_words (codes "0 global"))
+      by_words (map_body cpu address (codes "0 global")) _ (mapped cpu address true) (map_plain (codes "0 global") refl) (map_short (codes "0 global") (omega arith)) (map_words (codes "0 global"))
       (λ number. rw (pr.read, pr.below, hexadecimal_read address small, page, near, within) refl)
 
 abbrev pub pge_body : ℕ → List ℕ
@@ -179,10 +184,10 @@ pge_body cpu = codes "pge " ++ (decimal cpu ++ 32 ∷ codes "on")
 pub pge_is_line : (cpu : ℕ) → codes "pge " ++ decimal cpu ++ codes " on\n" ≡ line (pge_body cpu)
 pge_is_line cpu = ap (λ l. codes "pge " ++ l) (sym (append_assoc (decimal cpu) (32 ∷ codes "on") (10 ∷ [])))
 
-pub pge_reads : (cpu : ℕ) → cpu < 16 → IsCommand (pge_body cpu) (command.Pge cpu true)
+pub pge_reads : (cpu : ℕ) → cpu < 16 → IsCommand (pge_body cpu) (command.Ask cpu (ask.Pge true))
 pge_reads cpu low =
     let p : IsProcessor cpu = processor cpu low in
-    by_words (pge_body cpu) ((0, codes "pge") ∷ (4, decimal cpu) ∷ (4 + length (decimal cpu) + 1, codes "on") ∷ []) (command.Pge cpu true)
+    by_words (pge_body cpu) ((0, codes "pge") ∷ (4, decimal cpu) ∷ (4 + length (decimal cpu) + 1, codes "on") ∷ []) (command.Ask cpu (ask.Pge true))
     (all_plain (decimal cpu) (32 ∷ codes "on") p.word.plain refl)
     (omega (arith, length-append (decimal cpu) (32 ∷ codes "on"), p.word.few))
     (ap (λ ws. let word : ℕ × List ℕ = (0, codes "pge") in word ∷ ws) (word_first 4 (decimal cpu) (codes "on") p.word.some p.word.all))

@@ -14,12 +14,13 @@ use Rattle.mt_script.specs.Head.{step_of_answer}
 use Rattle.mt_script.specs.Script.{offence_after, offence_in, script_offence}
 use Rattle.mt_script.specs.declared.command.Command.{Command}
 use Rattle.mt_script.specs.declared.command.Command.TheVariants as command
+use Rattle.mt_script.specs.declared.command.Ask.TheVariants as ask
 use Rattle.mt_replay.specs.Statuses.{ShowsDump}
 use Rattle.mt_replay.specs.Transcript.{transcript}
 use Rattle.mt_replay.proofs.Refusals.Outcomes.{accepted_unless_refused, done_where_no_offence}
 use Rattle.mt_answers.specs.Generator.{access_line, accesses, after_accesses, behind_access, drawn, head_text, make_text, map_line, maps, pge_line, processor_lines, processors, round_text, round_value, rounds, stepped}
 use Rattle.mt_cli_laws.proofs.Made.Dump.{made_accepted, made_dump, made_shown, ready}
-use Rattle.mt_cli_laws.proofs.Made.Lines.{IsCommand, global_is_line, global_reads, load_body, load_is_line, load_reads, local_is_line, local_reads, map_body, pge_body, pge_is_line, pge_reads, store_body, store_is_line, store_reads}
+use Rattle.mt_cli_laws.proofs.Made.Lines.{IsCommand, global_is_line, global_reads, load_body, load_is_line, load_reads, local_is_line, local_reads, map_body, mapped, pge_body, pge_is_line, pge_reads, store_body, store_is_line, store_reads}
 
 -- ---- texts of commands
 
@@ -58,8 +59,8 @@ access_good x =
     let small : address < 2 ^ 64 = omega arith in
     let fits : value < 2 ^ 64 = omega arith in
     elim (cases_Bool (nat_lt (drawn (stepped (stepped x)) 4) 2)) [
-      | inl load ↦ rw load (subst IsGood (sym (load_is_line cpu address)) (line_good (load_body cpu address) (command.Load cpu address) (load_reads cpu address low even near small) refl))
-      | inr store ↦ rw store (subst IsGood (sym (store_is_line cpu address value)) (line_good (store_body cpu address value) (command.Store cpu address value) (store_reads cpu address low even near small value fits) refl))
+      | inl load ↦ rw load (subst IsGood (sym (load_is_line cpu address)) (line_good (load_body cpu address) (command.Ask cpu (ask.Load address)) (load_reads cpu address low even near small) refl))
+      | inr store ↦ rw store (subst IsGood (sym (store_is_line cpu address value)) (line_good (store_body cpu address value) (command.Ask cpu (ask.Store address value)) (store_reads cpu address low even near small value fits) refl))
     ]
 
 accesses_good : (count x : ℕ) → IsGood (accesses count x)
@@ -103,8 +104,8 @@ map_good cpu page low within =
     let there : nat_lt address (2 ^ 36) ≡ true = grind (arith, nat_tests, within) in
     let small : address < 2 ^ 64 = omega (arith, within) in
     elim (cases_Bool (page % 2 == 0)) [
-      | inl even ↦ rw even (subst IsGood (sym (global_is_line cpu address)) (line_good (map_body cpu address (codes "0 global")) (command.Map cpu address address 0 true) (global_reads cpu address low whole near there small) refl))
-      | inr odd ↦ rw odd (subst IsGood (sym (local_is_line cpu address)) (line_good (map_body cpu address (codes "0")) (command.Map cpu address address 0 false) (local_reads cpu address low whole near there small) refl))
+      | inl even ↦ rw even (subst IsGood (sym (global_is_line cpu address)) (line_good (map_body cpu address (codes "0 global")) (mapped cpu address true) (global_reads cpu address low whole near there small) refl))
+      | inr odd ↦ rw odd (subst IsGood (sym (local_is_line cpu address)) (line_good (map_body cpu address (codes "0")) (mapped cpu address false) (local_reads cpu address low whole near there small) refl))
     ]
 
 maps_good : (count cpu page : ℕ) → cpu < 16 → page + count ≤ 64 → IsGood (maps count cpu page)
@@ -115,7 +116,7 @@ maps_good (suc more) cpu page low within =
 
 pge_good : (cpu : ℕ) → cpu < 16 → IsGood (pge_line cpu)
 pge_good cpu low = elim (cases_Bool (cpu % 2 == 0)) [
-  | inl even ↦ rw even (subst IsGood (sym (pge_is_line cpu)) (line_good (pge_body cpu) (command.Pge cpu true) (pge_reads cpu low) refl))
+  | inl even ↦ rw even (subst IsGood (sym (pge_is_line cpu)) (line_good (pge_body cpu) (command.Ask cpu (ask.Pge true)) (pge_reads cpu low) refl))
   | inr odd ↦ rw odd none_good
 ]
 
