@@ -13,7 +13,7 @@ use mt_gates::{AllBut, InOrder, Meets, OneFirst};
 use mt_kinds::MemType;
 use mt_machine::{Done, Op};
 use mt_ports::{Gate, OpenGate};
-use mt_private::{Job, Part, PrivateFault, JobAnswers, run_private, shared_page};
+use mt_private::{Job, JobAnswers, Part, PrivateFault, run_private, shared_page};
 use mt_regs::{Fault, Reason};
 use std::alloc::Global;
 use std::sync::Wait;
