@@ -16,6 +16,10 @@ flat_of es = flat_run palette es flat_start
 abbrev pub pending_line : ℕ → PendingLine
 pending_line number = record { number = number; written = λ word. None }
 
+-- a store that a cache takes
+abbrev pub one_store : List MachineEvent
+one_store = store 0 0x1008 9 ∷ []
+
 -- stores to four lines of write-combining memory
 abbrev pub four_lines : List MachineEvent
 four_lines = store 0 0x3000 1 ∷ store 0 0x3040 2 ∷ store 0 0x3080 3 ∷ store 0 0x30c0 4 ∷ []

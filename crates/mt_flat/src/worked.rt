@@ -12,7 +12,7 @@ ghost use Rattle.mt_flat.specs.Courses.{CanTurn, ComesUp, course, CoursesHideCac
 ghost use Rattle.mt_flat.specs.Flat.{empty_all, flat_start, set_value, with_pending};
 ghost use Rattle.mt_flat.specs.Seen.{AnswersAreFlat, AreFew, CachesAreNeverSeen, EventsKeepFlat, flat_after, flat_run, flat_takes, HeldIsFlat, IsFlatAnswer, IsFlatOf, IsHeldFlat, NoBuffersIsFlat, PendingStaysFew, RunsKeepFlat, UpdatedIsFlat};
 ghost use Rattle.mt_flat.specs.ComingAndGoing.{AdmittedIsFlat, GoneKeepsFlat, NewcomersKeepFlat};
-ghost use Rattle.mt_flat.specs.WorkedRuns.{beside, both_combine, called_whole, cancelled_turns, combiner, flat_of, four_lines, pending_line, two_values};
+ghost use Rattle.mt_flat.specs.WorkedRuns.{beside, both_combine, called_whole, cancelled_turns, combiner, flat_of, four_lines, one_store, pending_line, two_values};
 
 /// A system with a dirty line and a buffer, and the flat machine beside it. What fails in one part.
 pub fn worked_flat_of()
@@ -58,9 +58,9 @@ pub fn worked_coming_turns()
 
 /// A store and a load in a sound state with a line and a buffer.
 pub fn worked_flat_laws()
-    ensures run { RunsKeepFlat → IsFlatOf (run (alone whole) (store 0 0x1008 9 ∷ [])).system (flat_run (alone whole) (store 0 0x1008 9 ∷ []) (beside (alone whole).system)) }
-    ensures answer { CachesAreNeverSeen → IsFlatAnswer (run (alone whole) (store 0 0x1008 9 ∷ [])) (flat_run (alone whole) (store 0 0x1008 9 ∷ []) (beside (alone whole).system)) 0 0x1008 (9, WB) }
-    ensures few { PendingStaysFew → AreFew ((flat_run (alone whole) (store 0 0x1008 9 ∷ []) (beside (alone whole).system)).pending 0) }
+    ensures run { RunsKeepFlat → IsFlatOf (run (alone whole) one_store).system (flat_run (alone whole) one_store (beside (alone whole).system)) }
+    ensures answer { CachesAreNeverSeen → IsFlatAnswer (run (alone whole) one_store) (flat_run (alone whole) one_store (beside (alone whole).system)) 0 0x1008 (9, WB) }
+    ensures few { PendingStaysFew → AreFew ((flat_run (alone whole) one_store (beside (alone whole).system)).pending 0) }
     ensures no_buffers { NoBuffersIsFlat → IsFlatOf palette.system (record (beside palette.system) { pending = λ k. [] }) }
 {}
 

@@ -1,5 +1,5 @@
 -- Steps of worked instances: a section of `begin` without lines, its end, a pass and a release; and what an update keeps.
-use Rattle.std.specs.Prelude.{ℕ, List, [], ◌∷◌, ◌==◌, if◌then◌else◌, replicate, None}
+use Rattle.std.specs.Prelude.{ℕ, false, List, [], ◌∷◌, ◌==◌, if◌then◌else◌, replicate, None}
 use Rattle.mt_regs.specs.RegisterFile.{RegisterFile, blank_file}
 use Rattle.mt_machine.specs.System.{Processor, start_processor}
 use Rattle.mt_machine.specs.Machine.{Machine}
@@ -18,6 +18,19 @@ use Rattle.mt_replay_laws.specs.WorkedStates.{busy, painted, resting, state_of}
 
 abbrev pub step_of : Command → ReplayState → ScriptStep
 step_of c s = record { number = 1; command = c; before = s }
+
+abbrev pub stores : ℕ → ℕ → ℕ → Command
+stores k address value = command.Ask k (ask.Store address value)
+
+-- stores of two processors, of which the first maps its page anew between
+abbrev pub stores_around_a_mapping : List Command
+stores_around_a_mapping =
+    stores 0 0x6000 1
+    ∷ command.Ask 0 (ask.Map (record { address = 0x6000; physical = 0x100000; index = 0; global = false }))
+    ∷ stores 0 0x6010 1
+    ∷ command.Ask 0 (ask.Load 0x1008)
+    ∷ stores 1 0x1000 2
+    ∷ []
 
 abbrev pub begins : ScriptStep
 begins = step_of (command.Section Begin) (resting Commands)

@@ -24,7 +24,7 @@ ghost use Rattle.mt_replay_laws.specs.Settling.{AreHeld, AreWithoutCall, EndsIdl
 ghost use Rattle.mt_replay.specs.Statuses.{BeginsWith, EndsWith, ShowsDump, ShowsNoDump};
 ghost use Rattle.mt_replay.specs.Texts.{full_line, no_line, up_line};
 ghost use Rattle.mt_replay_laws.specs.WorkedStates.{after_end, after_join, after_rest, at_end, busy, crowd, crowd_in_update, late_after_end, late_at_end, nines, over, painted, painted_by, resting, risen, small_dump, stored, two_processors, unlike_eras, with_first};
-ghost use Rattle.mt_replay_laws.specs.WorkedSteps.{IsKept, begins, calls, first_store, is_late, passes, passes_over_a_buffer, releases, second_is_seven, seven_stored, step_of, updated_processor, worked_file};
+ghost use Rattle.mt_replay_laws.specs.WorkedSteps.{IsKept, begins, calls, first_store, is_late, passes, passes_over_a_buffer, releases, second_is_seven, seven_stored, step_of, stores_around_a_mapping, updated_processor, worked_file};
 
 /// What an update keeps, and steps of which none calls.
 pub fn worked_refusals()
@@ -105,8 +105,7 @@ pub fn worked_each_state()
 
 /// The words that commands store, and words that aren't held.
 pub fn worked_words()
-    ensures in_turn { stored_by_all painted (asks.Ask 0 (ask.Store 0x6000 1) ∷ asks.Ask 0 (ask.Map (record { address = 0x6000; physical = 0x100000; index = 0; global = false })) ∷ asks.Ask 0 (ask.Store 0x6010 1) ∷ asks.Ask 0 (ask.Load 0x1008) ∷ asks.Ask 1 (ask.Store 0x1000 2) ∷ []) ≡
-        0x100010 ∷ 0x100000 ∷ [] }
+    ensures in_turn { stored_by_all painted stores_around_a_mapping ≡ 0x100010 ∷ 0x100000 ∷ [] }
     ensures stored { stored_in (first_store ∷ step_of (asks.Ask 0 (ask.Load 0x1008)) painted ∷ step_of (asks.Ask 0 (ask.Store 0x6000 1)) painted ∷ []) ≡ 0x100000 ∷ [] }
     ensures emptied_since { AreHeld (λ address. 0) (painted_by (store 0 0x3008 7 ∷ [])) (asks.Ask 0 ask.Fence ∷ []) → ⊥ }
     ensures other_word_stored { AreHeld (λ address. 0) (painted_by (store 0 0x3000 7 ∷ [])) (asks.Ask 0 (ask.Store 0x1008 1) ∷ asks.Ask 0 ask.Fence ∷ []) → ⊥ }

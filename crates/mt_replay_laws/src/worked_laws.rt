@@ -45,7 +45,7 @@ ghost use Rattle.mt_replay.specs.Texts.{absent_line, called_line, full_line, no_
 ghost use Rattle.mt_replay.specs.Transcript.{told_offence, transcript};
 ghost use Rattle.mt_replay_laws.specs.WorkedScript.{IsReleaseOfUpdate, KeptFrom, bad_script, is_idle, join_at, join_script, joins_at, section_at, section_script, step_at, steps_at};
 ghost use Rattle.mt_replay_laws.specs.WorkedStates.{after_join, busy, crowd, crowd_in_update, just_dumped, later_refused, resting, small_dump};
-ghost use Rattle.mt_replay_laws.specs.WorkedSteps.{step_of};
+ghost use Rattle.mt_replay_laws.specs.WorkedSteps.{step_of, stores};
 
 /// The headline's laws on updates, at the worked script's complete update, its first release and its refused update.
 pub fn worked_laws_of_updates()
@@ -112,7 +112,7 @@ pub fn worked_laws_of_calls()
     ensures under_way { CallsUnderWayChangeNothing → EndsIdle (busy stage.InUpdate) under_way_line }
     ensures called { AcceptedCallsAreUnderWay → (command_text (resting stage.InBegin) (asks.Section End) ≡ called_line)
         × (machine_after (resting stage.InBegin) (asks.Section End) ≡ next (resting stage.InBegin).machine (Calls (bare_file 0x800))) }
-    ensures absent { AbsentProcessorsDoNothing → (command_text (crowd 1) (asks.Ask 1 (ask.Store 0x1000 7)) ≡ absent_line) × (machine_after (crowd 1) (asks.Ask 1 (ask.Store 0x1000 7)) ≡ (crowd 1).machine) }
+    ensures absent { AbsentProcessorsDoNothing → (command_text (crowd 1) (stores 1 0x1000 7) ≡ absent_line) × (machine_after (crowd 1) (stores 1 0x1000 7) ≡ (crowd 1).machine) }
 {}
 
 /// The laws of states after an update, at the worked script's complete update and first release, and after a join.
