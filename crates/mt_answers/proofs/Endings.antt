@@ -59,11 +59,11 @@ never_answers dump command old new result answers = by answers
     by (no_memory is same) = but NoMemory is (λ e. cc e, λ e. cc e, λ e. cc e)
 
 -- such a status is of a command that fits ranges into pairs
-Fits : DumpCommand → Status → Type 0
-Fits command status = (status ≡ TooFew → MayChoose command) × (status ≡ Disabled → MayChoose command)
+MayEndSo : DumpCommand → Status → Type 0
+MayEndSo command status = (status ≡ TooFew → MayChoose command) × (status ≡ Disabled → MayChoose command)
 
-file_fits : (file : RegisterFile) (command : DumpCommand) (text : List ℕ) (status : Status) → FileAnswer file command text status → Fits command status
-unfolding Fits
+file_fits : (file : RegisterFile) (command : DumpCommand) (text : List ℕ) (status : Status) → FileAnswer file command text status → MayEndSo command status
+unfolding MayEndSo
 file_fits file command text status (typed runs are) = (λ e. absurd (cc e), λ e. absurd (cc e))
 file_fits file command text status (paged address index) = (λ e. absurd (cc e), λ e. absurd (cc e))
 file_fits file command text status (tidied spare chunk new is) = (λ e. tt, λ e. tt)
@@ -73,8 +73,8 @@ file_fits file command text status (grained log spare chunk new is) = (λ e. tt,
 file_fits file command text status (gran_too_few log spare chunk needs has is) = (λ e. tt, λ e. tt)
 file_fits file command text status (gran_disabled log spare chunk off) = (λ e. tt, λ e. tt)
 
-answer_fits : (dump : Shows) (command : DumpCommand) (text : List ℕ) (status : Status) → Answer dump command text status → Fits command status
-unfolding Fits
+answer_fits : (dump : Shows) (command : DumpCommand) (text : List ℕ) (status : Status) → Answer dump command text status → MayEndSo command status
+unfolding MayEndSo
 answer_fits dump command text status (refused other k fault tests first) = (λ e. absurd (cc e), λ e. absurd (cc e))
 answer_fits dump command text status (accepted good) = (λ e. absurd (cc e), λ e. absurd (cc e))
 answer_fits dump command text status shown = (λ e. absurd (cc e), λ e. absurd (cc e))
@@ -82,9 +82,9 @@ answer_fits dump command text status (about_file other t s good answer) = file_f
 
 pub answers_fit : (dump : Shows) (command : DumpCommand) (old new : Option (List ℕ)) (result : Status) → Answers (Answer dump command) old new result
     → (result ≡ TooFew → MayChoose command) × (result ≡ Disabled → MayChoose command)
-unfolding Fits
+unfolding MayEndSo
 answers_fit dump command old new result (writes text status answer (inl (is, takes))) =
-    let fits : Fits command status = answer_fits dump command text status answer in
+    let fits : MayEndSo command status = answer_fits dump command text status answer in
     (λ e. fits.0 (sym is ∙ e), λ e. fits.1 (sym is ∙ e))
 answers_fit dump command old new result (writes text status answer (inr (is, cut))) = (
   λ e. let same : WriteFault ≡ TooFew = sym is ∙ e in absurd (cc same),

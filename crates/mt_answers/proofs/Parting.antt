@@ -4,14 +4,14 @@ use Rattle.std.specs.List.{All, AllByRecursion}
 use Rattle.std.proofs.lemmas.List.Elements.{All-from_recursion}
 use Rattle.mt_types.specs.declared.run.Run.{Run}
 use Rattle.mt_gran.specs.Granules.{TypedPages}
-use Rattle.mt_gran.specs.Parts.{ArePartsOf, IsPart}
+use Rattle.mt_gran.specs.Parts.{ArePartsOf, IsLostRun}
 use Rattle.mt_answers.specs.Lines.{IsLine, too_few_line}
 
 -- each part has a line
 pub parts_have_lines : (m : TypedPages) (g : ℕ) (parts : List Run) → m.count ≤ 2 ^ 40 → ArePartsOf m g parts → All IsLine parts
 parts_have_lines m g parts few are = All-from_recursion IsLine parts (each parts are.each)
   where
-    each : (parts : List Run) → AllByRecursion (IsPart m g) parts → AllByRecursion IsLine parts
+    each : (parts : List Run) → AllByRecursion (IsLostRun m g) parts → AllByRecursion IsLine parts
     each [] all = tt
     each (r ∷ rs) all = let part = all.0 in ((part.some, omega (arith, part.within, few)), each rs all.1)
 

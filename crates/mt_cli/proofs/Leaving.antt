@@ -30,7 +30,7 @@ use Rattle.mt_answers.specs.CommandLine.{command_of, left_of, reads_input}
 use Rattle.mt_answers.specs.declared.command.Command.{Command}
 use Rattle.mt_answers.specs.Answer.{Answer}
 use Rattle.mt_cli.specs.Output.{Output, usage, bad_text, answered, replayed, printed, summed, measured, requested}
-use Rattle.mt_cli.specs.Tool.{Answered, CutShort, Finished, Leaves, Reads, FailedRead, Overran, Starved, Untouched, took}
+use Rattle.mt_cli.specs.Tool.{Answered, CutShort, Finished, ToolLeaves, Reads, FailedRead, Overran, Starved, Untouched, took}
 use Rattle.mt_output.specs.Written.{Writes}
 use Rattle.mt_answers.specs.Written.{Answers, AnswersInput, Makes, writes, no_memory, bad_input, good_input, no_input}
 
@@ -57,7 +57,7 @@ final_of_proc cpus bytes = elim (one_of_three_of_proc cpus bytes) [
 ]
 
 finished_leaves : (words : List (List ℕ)) (bytes : List ℕ) (left : Option (List ℕ)) (before : List ℕ) (after : Option (List ℕ)) (status : Status)
-    → IsFinal status → Finished words (held bytes left) (took before after) status → Leaves words (held bytes left) (took before after) status
+    → IsFinal status → Finished words (held bytes left) (took before after) status → ToolLeaves words (held bytes left) (took before after) status
 unfolding IsFinal
 finished_leaves words bytes left before after status (inl is) done = rw is (subst (λ (s : Status). Finished words (held bytes left) (took before after) s) is done)
 finished_leaves words bytes left before after status (inr (inl is)) done = rw is (subst (λ (s : Status). Finished words (held bytes left) (took before after) s) is done)
@@ -75,7 +75,7 @@ must_read words command says reads not = let e : true ≡ false = sym reads ∙ 
 
 -- a run that has written its whole output
 whole : (words : List (List ℕ)) (bytes text : List ℕ) (status : Status) (left : Option (List ℕ)) (before : List ℕ) (after : Option (List ℕ))
-    → Output words bytes text status → left ≡ Some (left_of (command_of words) bytes) → after ≡ Some (before ++ text) → Leaves words (held bytes left) (took before after) status
+    → Output words bytes text status → left ≡ Some (left_of (command_of words) bytes) → after ≡ Some (before ++ text) → ToolLeaves words (held bytes left) (took before after) status
 whole words bytes text status left before after (usage other) = λ read taken. record { text = _; output = usage other; taken = taken; read = read }
 whole words bytes text status left before after (bad_text command fault says is) = λ read taken.
     record { text = _; output = bad_text command fault says is; taken = taken; read = read }
@@ -95,7 +95,7 @@ whole words bytes text status left before after (requested cpus says) = λ read 
 
 -- a run whose last write is done or has failed
 pub written_leaves : (words : List (List ℕ)) (bytes text : List ℕ) (status result : Status) (left : Option (List ℕ)) (before : List ℕ) (old new : Option (List ℕ))
-    → Output words bytes text status → left ≡ Some (left_of (command_of words) bytes) → old ≡ Some before → Writes text status old new result → Leaves words (held bytes left) (took before new) result
+    → Output words bytes text status → left ≡ Some (left_of (command_of words) bytes) → old ≡ Some before → Writes text status old new result → ToolLeaves words (held bytes left) (took before new) result
 written_leaves words bytes text status result left before old new output read told (inl (is, takes)) =
     rw is (whole words bytes text status left before new output read (appended before text old new told takes))
 written_leaves words bytes text status result left before old new output read told (inr (is, cut)) =
@@ -103,7 +103,7 @@ written_leaves words bytes text status result left before old new output read to
 
 -- a run that has written an answer, a front of one, or nothing
 pub answers_leave : (words : List (List ℕ)) (bytes : List ℕ) (dump : Shows) (command : DumpCommand) (result : Status) (left : Option (List ℕ)) (before : List ℕ) (old new : Option (List ℕ))
-    → command_of words ≡ Some (Serial (Dump command)) → Shown bytes dump → left ≡ Some [] → old ≡ Some before → Answers (Answer dump command) old new result → Leaves words (held bytes left) (took before new) result
+    → command_of words ≡ Some (Serial (Dump command)) → Shown bytes dump → left ≡ Some [] → old ≡ Some before → Answers (Answer dump command) old new result → ToolLeaves words (held bytes left) (took before new) result
 answers_leave words bytes dump command result left before old new says shows read told (writes text status answer wrote) =
     written_leaves words bytes text status result left before old new (answered command dump text status says ((read_exactly bytes dump).1 shows) answer) (left_by words bytes left (Some (Serial (Dump command))) says read) told wrote
 answers_leave words bytes dump command result left before old new says shows read told (no_memory is same) = rw is (inl (same ∙ told))
@@ -119,7 +119,7 @@ too_much words command bytes before after says is = subst (λ (o : Option Comman
 
 -- a command on a dump
 pub input_leaves : (words : List (List ℕ)) (bytes : List ℕ) (command : DumpCommand) (result : Status) (left : Option (List ℕ)) (before : List ℕ) (old new : Option (List ℕ))
-    → command_of words ≡ Some (Serial (Dump command)) → old ≡ Some before → AnswersInput command (held bytes left) (change old new) result → Leaves words (held bytes left) (took before new) result
+    → command_of words ≡ Some (Serial (Dump command)) → old ≡ Some before → AnswersInput command (held bytes left) (change old new) result → ToolLeaves words (held bytes left) (took before new) result
 input_leaves words bytes command result left before old new says told (bad_input fault is read wrote) = written_leaves words bytes _ BadText result left before old new (bad_text command fault says ((read_offence bytes fault).1 is)) (left_by words bytes left (Some (Serial (Dump command))) says read) told wrote
 input_leaves words bytes command result left before old new says told (good_input dump is read answers) = answers_leave words bytes dump command result left before old new says is read told answers
 input_leaves words bytes command result left before old new says told (no_input same (inl failed)) = rw failed (read_failed words (Serial (Dump command)) bytes left before new says (same ∙ told))
@@ -127,7 +127,7 @@ input_leaves words bytes command result left before old new says told (no_input 
 
 -- a text that a number determines
 pub makes_leave : (words : List (List ℕ)) (bytes text : List ℕ) (command : Command) (result : Status) (left : Option (List ℕ)) (before : List ℕ) (old new : Option (List ℕ))
-    → command_of words ≡ Some command → Output words bytes text Done → left ≡ Some (left_of (Some command) bytes) → old ≡ Some before → Makes text old new result → Leaves words (held bytes left) (took before new) result
+    → command_of words ≡ Some command → Output words bytes text Done → left ≡ Some (left_of (Some command) bytes) → old ≡ Some before → Makes text old new result → ToolLeaves words (held bytes left) (took before new) result
 makes_leave words bytes text command result left before old new says output read told (inl wrote) =
     written_leaves words bytes text Done result left before old new output (left_by words bytes left (Some command) says read) told wrote
 makes_leave words bytes text command result left before old new says output read told (inr (is, same)) = rw is (inl (same ∙ told))
@@ -183,7 +183,7 @@ module _ (words : List (List ℕ)) (bytes : List ℕ) (command : Command) (start
     read = run.read left tells.read;
   }
 
-  run_leaves : (before : List ℕ) (new : Option (List ℕ)) (result : Status) → ResultsIn start early (held bytes left) (change (Some before) new) result → Leaves words (held bytes left) (took before new) result
+  run_leaves : (before : List ℕ) (new : Option (List ℕ)) (result : Status) → ResultsIn start early (held bytes left) (change (Some before) new) result → ToolLeaves words (held bytes left) (took before new) result
   run_leaves before new Done tells = all_told before new Done tells
   run_leaves before new Refused tells = all_told before new Refused tells
   run_leaves before new Usage tells = absurd tells
@@ -213,11 +213,11 @@ module _ (words : List (List ℕ)) (bytes : List ℕ) (command : Command) (start
   run_reads old new Disabled tells = absurd tells
 
 pub replays_leave : (words : List (List ℕ)) (bytes : List ℕ) (result : Status) (left : Option (List ℕ)) (before : List ℕ) (new : Option (List ℕ))
-    → command_of words ≡ Some (Threaded Replay) → Replays (held bytes left) (change (Some before) new) result → Leaves words (held bytes left) (took before new) result
+    → command_of words ≡ Some (Threaded Replay) → Replays (held bytes left) (change (Some before) new) result → ToolLeaves words (held bytes left) (took before new) result
 replays_leave words bytes result left before new says tells = run_leaves words bytes (Threaded Replay) replay_told (early_text bytes) (replays words bytes says) left before new result tells
 
 pub proc_leaves : (words : List (List ℕ)) (bytes : List ℕ) (cpus : ℕ) (result : Status) (left : Option (List ℕ)) (before : List ℕ) (new : Option (List ℕ))
-    → command_of words ≡ Some (Threaded (Proc cpus)) → ResultsIn (proc_told cpus) [] (held bytes left) (change (Some before) new) result → Leaves words (held bytes left) (took before new) result
+    → command_of words ≡ Some (Threaded (Proc cpus)) → ResultsIn (proc_told cpus) [] (held bytes left) (change (Some before) new) result → ToolLeaves words (held bytes left) (took before new) result
 proc_leaves words bytes cpus result left before new says tells = run_leaves words bytes (Threaded (Proc cpus)) (proc_told cpus) [] (procs words bytes cpus says) left before new result tells
 
 pub replays_read : (words : List (List ℕ)) (bytes : List ℕ) (result : Status) (left old new : Option (List ℕ)) → command_of words ≡ Some (Threaded Replay) → Replays (held bytes left) (change old new) result → Reads words (held bytes left) result

@@ -24,7 +24,7 @@ use Rattle.mt_cli.specs.Output.{Output, printed, usage}
 use Rattle.mt_cli.specs.Runs.{IsRun, IsToolRun}
 use Rattle.mt_answers.specs.Runs.{IsAnswered, IsSerialRun, IsUsage, answered, no_command}
 use Rattle.mt_answers.specs.Statuses.{MayEnd}
-use Rattle.mt_cli.specs.Tool.{Leaves, OutOfMemory, Reads, took}
+use Rattle.mt_cli.specs.Tool.{ToolLeaves, OutOfMemory, Reads, took}
 use Rattle.mt_answers.specs.Written.{AnswersInput, Makes}
 use Rattle.mt_cli.proofs.Leaving.{input_leaves, input_reads, left_by, makes_leave, makes_read, must_read, proc_leaves, proc_reads, replays_leave, replays_read, written_leaves}
 use Rattle.mt_answers.proofs.Endings.{makes_own, never_own, own_ends}
@@ -43,7 +43,7 @@ unended command other ends not = (λ e. cc e, λ e. cc e)
 
 unread_run : {S K : Type 0} (words : List (List ℕ)) (source : SourceRun S) (sink : SinkRun K) (result : Status)
     → reads_input (command_of words) ≡ false → source.new ≡ source.old
-    → ((bytes before : List ℕ) (left : Option (List ℕ)) → left ≡ Some bytes → sink.taken sink.old ≡ Some before → Leaves words (held bytes left) (took before (sink.taken sink.new)) result)
+    → ((bytes before : List ℕ) (left : Option (List ℕ)) → left ≡ Some bytes → sink.taken sink.old ≡ Some before → ToolLeaves words (held bytes left) (took before (sink.taken sink.new)) result)
     → ((bytes : List ℕ) (left : Option (List ℕ)) → left ≡ Some bytes → Reads words (held bytes left) result)
     → MayEnd (command_of words) result → (result ≡ Usage → command_of words ≡ None) → StatusHasCause WriteFault (sink.faults sink.old) (sink.faults sink.new) result
     → IsRun words source sink result
@@ -119,7 +119,7 @@ makes_ran words text command source sink result says not memory output same make
 
 reading_ran : {S K : Type 0} (words : List (List ℕ)) (command : Command) (source : SourceRun S) (sink : SinkRun K) (result : Status)
     → command_of words ≡ Some command → reads_input (Some command) ≡ true
-    → ((bytes before : List ℕ) → source.left source.old ≡ Some bytes → sink.taken sink.old ≡ Some before → Leaves words (held bytes (source.left source.new)) (took before (sink.taken sink.new)) result)
+    → ((bytes before : List ℕ) → source.left source.old ≡ Some bytes → sink.taken sink.old ≡ Some before → ToolLeaves words (held bytes (source.left source.new)) (took before (sink.taken sink.new)) result)
     → ((bytes : List ℕ) → source.left source.old ≡ Some bytes → Reads words (held bytes (source.left source.new)) result)
     → MayEnd (command_of words) result → result ≢ Usage → (result ≡ NoMemory → MayTakeMemory command)
     → ((bytes : List ℕ) → source.left source.old ≡ Some bytes → result ≡ NoMemory → OutOfMemory (Some command) (held bytes (source.left source.new)) (port sink.taken sink.old sink.new))

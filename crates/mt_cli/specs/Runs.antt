@@ -10,12 +10,12 @@ use Rattle.mt_answers.specs.declared.command.Command.{Command}
 use Rattle.mt_answers.specs.CommandLine.{MayTakeMemory, command_of, reads_input}
 use Rattle.mt_answers.specs.Statuses.{MayEnd}
 use Rattle.mt_output.specs.Ports.{SinkRun, SourceRun, held, port}
-use Rattle.mt_cli.specs.Tool.{Leaves, OutOfMemory, Reads, took}
+use Rattle.mt_cli.specs.Tool.{ToolLeaves, OutOfMemory, Reads, took}
 
 pub record IsRun {S K : Type 0} (words : List (List ℕ)) (source : SourceRun S) (sink : SinkRun K) (status : Status) : Type 0 where
   -- Where the source and the sink tell their bytes, the sink took the output for the words and the bytes, or after a failure a front of it.
   pub leaves : (bytes before : List ℕ) → source.left source.old ≡ Some bytes → sink.taken sink.old ≡ Some before
-      → Leaves words (held bytes (source.left source.new)) (took before (sink.taken sink.new)) status
+      → ToolLeaves words (held bytes (source.left source.new)) (took before (sink.taken sink.new)) status
   -- Where the source tells its bytes, the status is that of the output for them, unless a port fails, memory is refused or the input is
   -- too long; and a source of at most 16,777,216 bytes is not too long.
   pub reads : (bytes : List ℕ) → source.left source.old ≡ Some bytes → Reads words (held bytes (source.left source.new)) status
@@ -26,7 +26,7 @@ pub record IsRun {S K : Type 0} (words : List (List ℕ)) (source : SourceRun S)
   pub unread : reads_input (command_of words) ≡ false → source.new ≡ source.old
   -- The sink then took the output, or a front of it, whether or not the source tells its bytes: it is one for all bytes.
   pub unread_leaves : (bytes before : List ℕ) → reads_input (command_of words) ≡ false → sink.taken sink.old ≡ Some before
-      → Leaves words (held bytes (Some bytes)) (took before (sink.taken sink.new)) status
+      → ToolLeaves words (held bytes (Some bytes)) (took before (sink.taken sink.new)) status
   -- A port that failed did so once, and the status is its fault; at every other status none failed.
   pub read_fault : StatusHasCause ReadFault (source.faults source.old) (source.faults source.new) status
   pub write_fault : StatusHasCause WriteFault (sink.faults sink.old) (sink.faults sink.new) status

@@ -74,12 +74,12 @@ OutOfMemory (Some (Threaded (Proc cpus))) source sink = ProcOutOfMemory cpus sou
 OutOfMemory other source sink = ⊤
 
 -- what each status says of the bytes that the source held and has left, and of those that the sink took before and after
-abbrev pub Leaves : List (List ℕ) → Held → Took → Status → Type 0
-Leaves words source sink ReadFault = FailedRead (command_of words) source sink
-Leaves words source sink WriteFault = CutShort words source.bytes sink
-Leaves words source sink NoMemory = Starved words source.bytes sink
-Leaves words source sink TooLong = Overran (command_of words) words source.bytes sink
-Leaves words source sink status = Finished words source sink status
+abbrev pub ToolLeaves : List (List ℕ) → Held → Took → Status → Type 0
+ToolLeaves words source sink ReadFault = FailedRead (command_of words) source sink
+ToolLeaves words source sink WriteFault = CutShort words source.bytes sink
+ToolLeaves words source sink NoMemory = Starved words source.bytes sink
+ToolLeaves words source sink TooLong = Overran (command_of words) words source.bytes sink
+ToolLeaves words source sink status = Finished words source sink status
 
 -- The status is that of the output for all bytes that the source held. Nothing of them is left, or all where the command reads nothing.
 pub record Answered (words : List (List ℕ)) (source : Held) (status : Status) : Type 0 where

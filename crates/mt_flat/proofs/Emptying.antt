@@ -15,7 +15,7 @@ use Rattle.mt_laws.proofs.Words.MemoryLaws.{AllAligned}
 use Rattle.mt_laws.proofs.Words.Copies.{settle}
 use Rattle.mt_laws.proofs.Words.LineLaws.{fits, is_placed, look, write_back_same, write_back_other}
 use Rattle.mt_laws.proofs.Words.LineLists.{found_passes}
-use Rattle.mt_laws.proofs.Words.BusLaws.{Stands, Word, Leaves, leaves_word, leaves_then, clean_word, bare_clean, fits_placed, fits_bits, flush_same, leaves_flush, stands_read, stands_invalidate, stands_empty, stands_drain, stands_one, buffers_fit_at}
+use Rattle.mt_laws.proofs.Words.BusLaws.{Stands, Word, LeavesWord, leaves_word, leaves_then, clean_word, bare_clean, fits_placed, fits_bits, flush_same, leaves_flush, stands_read, stands_invalidate, stands_empty, stands_drain, stands_one, buffers_fit_at}
 use Rattle.mt_laws.proofs.Words.AccessLaws.{change_at, changed_at, word_buffers, word_small, oldest_found}
 use Rattle.mt_laws.proofs.Words.StoreLaws.{Has}
 use Rattle.mt_laws.proofs.Words.WordLaws.{buffers_at, emptied_buffers, roomy_few, joined_stands}
@@ -100,7 +100,7 @@ module _ (ws : List Window) (aligned : AllAligned ws) where
           let apart = eqb-false b.number (line_of a) is in
           let other : line_of a ≢ b.number = λ e. apart (sym e) in
           let there : AllAligned (invalidate b.number (bus_read b.number s)).memory.windows = subst AllAligned (sym r.memory.windows) aligned in
-          let l : Leaves a s (empty_buffer s b) = leaves_then a s (invalidate b.number (bus_read b.number s)) (empty_buffer s b) (leaves_flush ws aligned b.number a s other st) (record { word = write_back_other b a (invalidate b.number (bus_read b.number s)).memory there other; same = refl; writes = λ h. h }) in
+          let l : LeavesWord a s (empty_buffer s b) = leaves_then a s (invalidate b.number (bus_read b.number s)) (empty_buffer s b) (leaves_flush ws aligned b.number a s other st) (record { word = write_back_other b a (invalidate b.number (bus_read b.number s)).memory there other; same = refl; writes = λ h. h }) in
           leaves_word true a x s (empty_buffer s b) l w
       one true is =
           let same : line_of a ≡ b.number = sym (eqb-true b.number (line_of a) is) in

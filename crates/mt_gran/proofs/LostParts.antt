@@ -9,7 +9,7 @@ use Rattle.mt_types.specs.declared.run.Run.{Run}
 use Rattle.mt_types.specs.Runs.{run_end}
 use Rattle.mt_gran.specs.Granules.{TypedPages}
 use Rattle.mt_gran.specs.Marks.{AreRunsOf, HaveMark, lost_mark}
-use Rattle.mt_gran.specs.Parts.{ArePartsOf, Ascend, IsInSome, IsPart}
+use Rattle.mt_gran.specs.Parts.{ArePartsOf, Ascend, IsInSome, IsLostRun}
 use Rattle.mt_gran.proofs.RunsOf.{ends_later}
 use Rattle.mt_gran.proofs.Counts.{lost_by, loses_by, mark_of, no_mark, not_marked, same_mark}
 
@@ -38,7 +38,7 @@ module _ (m : TypedPages) (g : ℕ) (types : (page : ℕ) → page < m.count →
       first_of : (a b : Run) (later others : List Run) → a ∷ later ≡ b ∷ others → a ≡ b
       first_of a b later others e = cc
 
-  each : (from : ℕ) (rs : List Run) → AreRunsOf (lost_mark m g) from m.count rs → BeginsAfter from rs → AllByRecursion (IsPart m g) rs
+  each : (from : ℕ) (rs : List Run) → AreRunsOf (lost_mark m g) from m.count rs → BeginsAfter from rs → AllByRecursion (IsLostRun m g) rs
   each from [] are after = tt
   each from (r ∷ rs) are after =
       let later = ends_later (lost_mark m g) (run_end r) m.count rs are.5 in

@@ -8,7 +8,7 @@ use Rattle.mt_types.specs.Runs.{HasPage, run_end}
 use Rattle.mt_gran.specs.Granules.{TypedPages, loses}
 
 -- a longest run of pages that lose one type
-pub record IsPart (m : TypedPages) (g : ℕ) (r : Run) : Type 0 where
+pub record IsLostRun (m : TypedPages) (g : ℕ) (r : Run) : Type 0 where
   pub type : MemType
   pub kind : r.kind ≡ Kind type
   pub some : 0 < r.count
@@ -29,6 +29,6 @@ IsInSome page (r ∷ rs) = HasPage r page ⊎ IsInSome page rs
 
 -- all longest runs of pages that lose one type, in ascending order
 pub record ArePartsOf (m : TypedPages) (g : ℕ) (parts : List Run) : Type 0 where
-  pub each : AllByRecursion (IsPart m g) parts
+  pub each : AllByRecursion (IsLostRun m g) parts
   pub in_order : Ascend 0 parts
   pub all : (page : ℕ) → page < m.count → (t : MemType) → loses m g t page ≡ true → IsInSome page parts

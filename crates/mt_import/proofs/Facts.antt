@@ -7,7 +7,7 @@ use Rattle.mt_import.specs.declared.shape.Shown.{Shown}
 use Rattle.mt_import.specs.Readings.{Fact, shown_facts, shows_facts}
 use Rattle.mt_import.specs.Supplied.{Supplied}
 use Rattle.mt_import.specs.Outcome.{Seen, fact_fault, facts_fault, or_fault, seen_after, seen_with}
-use Rattle.mt_import.specs.Reader.{HasTaken, State}
+use Rattle.mt_import.specs.Reader.{HasTakenFacts, State}
 
 pub seen_append : (seen : Seen) (facts others : List Fact) → seen_after seen (facts ++ others) ≡ seen_after (seen_after seen facts) others
 seen_append seen [] others = refl
@@ -39,7 +39,7 @@ shows_more processor table i xs x at = rw add-one (by i xs at)
 
 -- A reader has taken the first of what a line shows, behind what it had taken, and found no fault.
 pub record HasTakenFirst (state : State) (supplied : Supplied) (seen : Seen) (processor table i : ℕ) (shows : List (Option Shown)) : Type 0 where
-  pub held : HasTaken state (seen_after seen (shows_facts processor table (take i shows)))
+  pub held : HasTakenFacts state (seen_after seen (shows_facts processor table (take i shows)))
   pub none : facts_fault supplied seen (shows_facts processor table (take i shows)) ≡ None
 
 module _ (supplied : Supplied) (seen : Seen) (processor table i : ℕ) (shows : List (Option Shown)) (shown : Option Shown) (at : slice_get shows i ≡ Some shown) where
@@ -53,10 +53,10 @@ module _ (supplied : Supplied) (seen : Seen) (processor table i : ℕ) (shows : 
   fault_more none = ap (facts_fault supplied seen) more ∙ fault_append supplied seen first (shown_facts processor table shown) ∙ ap (λ o. or_fault o (facts_fault supplied (seen_after seen first) (shown_facts processor table shown))) none
 
   pub takes_next : (old new : State) → HasTakenFirst old supplied seen processor table i shows
-      → HasTaken new (seen_after (seen_after seen first) (shown_facts processor table shown)) → facts_fault supplied (seen_after seen first) (shown_facts processor table shown) ≡ None
+      → HasTakenFacts new (seen_after (seen_after seen first) (shown_facts processor table shown)) → facts_fault supplied (seen_after seen first) (shown_facts processor table shown) ≡ None
       → HasTakenFirst new supplied seen processor table (i + 1) shows
   takes_next old new taken held none = record {
-    held = subst (HasTaken new) (sym (ap (seen_after seen) more ∙ seen_append seen first (shown_facts processor table shown))) held;
+    held = subst (HasTakenFacts new) (sym (ap (seen_after seen) more ∙ seen_append seen first (shown_facts processor table shown))) held;
     none = fault_more taken.none ∙ none;
   }
 

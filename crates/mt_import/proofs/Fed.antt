@@ -20,7 +20,7 @@ use Rattle.mt_import.specs.Shown.{chosen, context_behind, facts_from, facts_of_l
 use Rattle.mt_import.specs.Supplied.{Supplied}
 use Rattle.mt_import.specs.Outcome.{Seen, Outcome, ended_by, facts_fault, nothing_seen, facts_outcome, seen_after, unless}
 use Rattle.mt_import.specs.Import.{log_outcome}
-use Rattle.mt_import.specs.Reader.{HasTaken, State, summary_in}
+use Rattle.mt_import.specs.Reader.{HasTakenFacts, State, summary_in}
 use Rattle.mt_import.proofs.Facts.{fault_append, seen_append}
 use Rattle.mt_import.proofs.Same.{same_end}
 
@@ -34,10 +34,10 @@ pub record LeadsOn (choice : Choice) (supplied : Supplied) (bytes : List ℕ) (l
 pub record IsReading (choice : Choice) (supplied : Supplied) (left_first left : Option (List ℕ)) (given_first given : ℕ) (feed : Feeding) (reader : State) : Type 0 where
   pub fed : IsFed left_first left given_first given feed
   pub seen : Seen
-  pub held : HasTaken reader seen
+  pub held : HasTakenFacts reader seen
   pub told : (bytes : List ℕ) → left_first ≡ Some bytes → LeadsOn choice supplied bytes left feed reader.context seen
 
-pub at_first : (choice : Choice) (supplied : Supplied) (left : Option (List ℕ)) (given : ℕ) (feed : Feeding) (reader : State) → feed ≡ at_start → HasTaken reader (nothing_seen (format_of choice))
+pub at_first : (choice : Choice) (supplied : Supplied) (left : Option (List ℕ)) (given : ℕ) (feed : Feeding) (reader : State) → feed ≡ at_start → HasTakenFacts reader (nothing_seen (format_of choice))
     → reader.context ≡ starts (format_of choice) → IsReading choice supplied left left given given feed reader
 at_first choice supplied left given feed reader start held context = record {
   fed = fed_at_first left given feed start;
@@ -149,7 +149,7 @@ module _ (left_first left after : Option (List ℕ)) (given_first given given_af
             ∙ sym (goes_past (is_auto choice) supplied reading.seen facts (facts_from behind (line.number + 1) lent.others) none) ∙ leads bytes told;
       }
 
-  pub goes_on : (reader_new : State) → HasTaken reader_new (seen_after reading.seen facts) → facts_fault supplied reading.seen facts ≡ None → reader_new.context ≡ behind → IsReading choice supplied left_first after given_first given_after new reader_new
+  pub goes_on : (reader_new : State) → HasTakenFacts reader_new (seen_after reading.seen facts) → facts_fault supplied reading.seen facts ≡ None → reader_new.context ≡ behind → IsReading choice supplied left_first after given_first given_after new reader_new
   goes_on reader_new held none context =
       record {
         fed = fed_on reading.fed new after given_after line lines;

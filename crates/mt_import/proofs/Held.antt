@@ -19,7 +19,7 @@ use Rattle.mt_text.specs.declared.place.Place.{Place}
 use Rattle.mt_import.specs.Readings.{is_line, is_register_value, is_warning, is_width}
 use Rattle.mt_import.specs.Outcome.{Seen, capabilities_after, fixed_line_after, last_after, nothing_seen, processors, seen_with, slot_shown, tally_warned, tally_with}
 use Rattle.mt_import.specs.Slot.{blank_slot, slot_with}
-use Rattle.mt_import.specs.Reader.{HasTaken, IsFit, IsReader, State, held_at, slot_of}
+use Rattle.mt_import.specs.Reader.{HasTakenFacts, IsFit, IsReader, State, held_at, slot_of}
 
 none_at : (n i : ℕ) → slice_index_or (replicate n blank_slot) i blank_slot ≡ blank_slot
 none_at zero i = refl
@@ -31,7 +31,7 @@ at_start processor None = refl
 at_start processor (Some slot) = none_at 4112 (257 * processor + slot)
 
 pub taken_new : (context : Context) (format : Option Format)
-    → HasTaken (record { context = context; slots = replicate 4112 blank_slot; capabilities = blank_slot; last = None; line_of_fixed = None; processors = 1; width = None; line_of_width = 0; tally = record { format = format; lines = 0; matches = 0; warned = false } }) (nothing_seen format)
+    → HasTakenFacts (record { context = context; slots = replicate 4112 blank_slot; capabilities = blank_slot; last = None; line_of_fixed = None; processors = 1; width = None; line_of_width = 0; tally = record { format = format; lines = 0; matches = 0; warned = false } }) (nothing_seen format)
 taken_new context format = record {
   slots_are = λ processor number. at_start processor (slot_of number);
   capabilities_is = refl;
@@ -155,7 +155,7 @@ module _ (state : State) (reading : Reading) (slot : ℕ) (next : Slot) (is : Is
         pairs = λ k. fits sound k (reading.processor == k) (reading.number == 0xfe) refl refl;
       }
 
-  module _ (seen : Seen) (holds : HasTaken state seen) where
+  module _ (seen : Seen) (holds : HasTakenFacts state seen) where
     here : held_at slots reading.processor (slot_of reading.number) ≡ slot_with (slot_shown seen.readings reading.processor reading.number) reading
     here = own ∙ ap (λ s. slot_with s reading) (holds.slots_are reading.processor reading.number)
 
@@ -173,7 +173,7 @@ module _ (state : State) (reading : Reading) (slot : ℕ) (next : Slot) (is : Is
     shown k number false number_test apart same =
         let e : (reading.processor == k && reading.number == number) ≡ false = rw apart refl in rw apart (other k number e (slot_of number) refl ∙ holds.slots_are k number)
 
-    pub taken_more : HasTaken (record { context = state.context; slots = slots; capabilities = capabilities_after reading state.capabilities; last = last_after reading state.last; line_of_fixed = fixed_line_after reading state.line_of_fixed; processors = max (reading.processor + 1) state.processors; width = state.width; line_of_width = state.line_of_width; tally = state.tally })
+    pub taken_more : HasTakenFacts (record { context = state.context; slots = slots; capabilities = capabilities_after reading state.capabilities; last = last_after reading state.last; line_of_fixed = fixed_line_after reading state.line_of_fixed; processors = max (reading.processor + 1) state.processors; width = state.width; line_of_width = state.line_of_width; tally = state.tally })
         (seen_with seen (is_register_value reading))
     taken_more = record {
       slots_are = λ k number. shown k number (reading.processor == k) (reading.number == number) refl refl;
@@ -189,8 +189,8 @@ module _ (state : State) (reading : Reading) (slot : ℕ) (next : Slot) (is : Is
 pub reader_width : (held : List Slot) (count width : ℕ) (before : Option ℕ) → IsReader held count before → IsFit width → IsReader held count (Some width)
 reader_width held count width before is fit = record { size = is.size; some = is.some; few = is.few; fit = fit; pairs = is.pairs }
 
-pub taken_width : (state : State) (seen : Seen) (width : ℕ) (place : Place) → HasTaken state seen
-    → HasTaken (record { context = state.context; slots = state.slots; capabilities = state.capabilities; last = state.last; line_of_fixed = state.line_of_fixed; processors = state.processors; width = Some width; line_of_width = place.line; tally = state.tally }) (seen_with seen (is_width width place))
+pub taken_width : (state : State) (seen : Seen) (width : ℕ) (place : Place) → HasTakenFacts state seen
+    → HasTakenFacts (record { context = state.context; slots = state.slots; capabilities = state.capabilities; last = state.last; line_of_fixed = state.line_of_fixed; processors = state.processors; width = Some width; line_of_width = place.line; tally = state.tally }) (seen_with seen (is_width width place))
 taken_width state seen width place holds = record {
   slots_are = holds.slots_are;
   capabilities_is = holds.capabilities_is;
@@ -203,8 +203,8 @@ taken_width state seen width place holds = record {
 }
 
 -- a line was counted
-pub taken_line : (state : State) (seen : Seen) (number : ℕ) (format : Option Format) (matched : Bool) → HasTaken state seen
-    → HasTaken (record { context = state.context; slots = state.slots; capabilities = state.capabilities; last = state.last; line_of_fixed = state.line_of_fixed; processors = state.processors; width = state.width; line_of_width = state.line_of_width; tally = tally_with state.tally number format matched }) (seen_with seen (is_line number format matched))
+pub taken_line : (state : State) (seen : Seen) (number : ℕ) (format : Option Format) (matched : Bool) → HasTakenFacts state seen
+    → HasTakenFacts (record { context = state.context; slots = state.slots; capabilities = state.capabilities; last = state.last; line_of_fixed = state.line_of_fixed; processors = state.processors; width = state.width; line_of_width = state.line_of_width; tally = tally_with state.tally number format matched }) (seen_with seen (is_line number format matched))
 taken_line state seen number format matched holds = record {
   slots_are = holds.slots_are;
   capabilities_is = holds.capabilities_is;
@@ -217,8 +217,8 @@ taken_line state seen number format matched holds = record {
 }
 
 -- the kernel warned
-pub taken_warning : (state : State) (seen : Seen) → HasTaken state seen
-    → HasTaken (record { context = state.context; slots = state.slots; capabilities = state.capabilities; last = state.last; line_of_fixed = state.line_of_fixed; processors = state.processors; width = state.width; line_of_width = state.line_of_width; tally = tally_warned state.tally }) (seen_with seen is_warning)
+pub taken_warning : (state : State) (seen : Seen) → HasTakenFacts state seen
+    → HasTakenFacts (record { context = state.context; slots = state.slots; capabilities = state.capabilities; last = state.last; line_of_fixed = state.line_of_fixed; processors = state.processors; width = state.width; line_of_width = state.line_of_width; tally = tally_warned state.tally }) (seen_with seen is_warning)
 taken_warning state seen holds = record {
   slots_are = holds.slots_are;
   capabilities_is = holds.capabilities_is;
@@ -231,8 +231,8 @@ taken_warning state seen holds = record {
 }
 
 -- what a reader keeps doesn't speak of its context
-pub taken_in : (state : State) (seen : Seen) (context : Context) → HasTaken state seen
-    → HasTaken (record { context = context; slots = state.slots; capabilities = state.capabilities; last = state.last; line_of_fixed = state.line_of_fixed; processors = state.processors; width = state.width; line_of_width = state.line_of_width; tally = state.tally }) seen
+pub taken_in : (state : State) (seen : Seen) (context : Context) → HasTakenFacts state seen
+    → HasTakenFacts (record { context = context; slots = state.slots; capabilities = state.capabilities; last = state.last; line_of_fixed = state.line_of_fixed; processors = state.processors; width = state.width; line_of_width = state.line_of_width; tally = state.tally }) seen
 taken_in state seen context holds = record {
   slots_are = holds.slots_are;
   capabilities_is = holds.capabilities_is;

@@ -10,7 +10,7 @@ use Rattle.mt_import.specs.declared.supplied.Assumed.{Assumed}
 use Rattle.mt_import.specs.Supplied.{IsSupplied, Supplied, all_assumed, supplied_value}
 use Rattle.mt_import.specs.Values.{Known, assumed_capabilities, assumed_of, assumed_pair, assumed_value, assumed_zero, base_of, disabled_value, firm_value, firm_width, has_pairs, is_unshown, mask_of, masks_in, only_if, or_supplied, pair_count, shown_pairs, shows_only_fix, shows_pairs, widest, width_by}
 use Rattle.mt_import.specs.Outcome.{Findings, Seen, Slots, Summary, Outcome, dump_outcome, ended, ended_by, file_of, files_of, findings_of, first_pairs, firm_of, fixed_of, hint_of, is_empty, is_missing, known_by, missing_lines, missing_of, missing_width, needed, note_line, note_lines, noted, noted_of, notes_of, processors, refusal, slot_shown, summary_of, value_or_zero, values_of, width_note}
-use Rattle.mt_import.specs.Reader.{HasTaken, IsReader, State, findings_in, slots_of, summary_in, values_in}
+use Rattle.mt_import.specs.Reader.{HasTakenFacts, IsReader, State, findings_in, slots_of, summary_in, values_in}
 
 -- ---- the same slots of one processor
 
@@ -154,7 +154,7 @@ module _ (supplied : Supplied) (v w : Slots) (same : (k n : ℕ) → v k n ≡ w
   same_ended auto tally = same_summary (summary_of auto supplied one tally) (summary_of auto supplied two tally) same_value same_notes_of refl refl refl same_missing_of same_width
 
 -- what the reader and the words tell is what the facts show
-pub same_end : (auto : Bool) (supplied : Supplied) (state : State) (seen : Seen) → HasTaken state seen → ended_by (summary_in auto supplied state) ≡ ended auto supplied seen
+pub same_end : (auto : Bool) (supplied : Supplied) (state : State) (seen : Seen) → HasTakenFacts state seen → ended_by (summary_in auto supplied state) ≡ ended auto supplied seen
 same_end auto supplied state seen held =
     ap (λ n. ended_by (summary_of auto supplied (record { slots = slots_of state; count = n; shown = (findings_in state).shown }) state.tally)) held.processors_is
     ∙ ap (λ w. ended_by (summary_of auto supplied (record { slots = slots_of state; count = processors seen.readings; shown = record { width = w; format = state.tally.format } }) state.tally)) held.width_is

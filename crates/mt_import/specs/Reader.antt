@@ -67,7 +67,7 @@ pub record IsReader (slots : List Slot) (processors : ℕ) (width : Option ℕ) 
   pub pairs : (processor : ℕ) → low_byte (held_at slots processor (slot_of 0xfe)).value ≤ 32
 
 -- A reader has taken these facts.
-pub record HasTaken (state : State) (seen : Seen) : Type 0 where
+pub record HasTakenFacts (state : State) (seen : Seen) : Type 0 where
   pub slots_are : (processor number : ℕ) → slots_of state processor number ≡ slot_shown seen.readings processor number
   pub capabilities_is : state.capabilities ≡ capabilities_shown seen.readings
   pub last_is : state.last ≡ last_shown seen.readings

@@ -12,7 +12,7 @@ ghost use Rattle.mt_import.specs.Slot.{slot_with};
 ghost use Rattle.mt_import.specs.Outcome.{Seen, capabilities_after, capability_rival, contradiction, count_of, count_rival, counted, counts_fewer, facts_fault, fix_shown, fixed_line_after, fixed_rival, fixless_rival, is_fit_width, lacks_fix, last_after, least_count, nothing_seen, one_if, or_fault, or_rival, pairs_fault, ranged_rival, reading_fault, rival, seen_after, seen_with, shows_fixed, shows_no_fix, slot_shown, tally_warned, tally_with, uncounted_rival, width_fault, width_rival};
 ghost use Rattle.mt_import.specs.Supplied.{bits_differ, differs};
 ghost use Rattle.mt_import.specs.Import.{IsWritten, dump_text, log_outcome};
-ghost use Rattle.mt_import.specs.Reader.{HasTaken, IsFit, IsReader, IsShort, held_at, slot_of, slots_of};
+ghost use Rattle.mt_import.specs.Reader.{HasTakenFacts, IsFit, IsReader, IsShort, held_at, slot_of, slots_of};
 
 use crate::format::{chosen, said_in};
 use crate::pieces::{count_on, shown_as};
@@ -366,7 +366,7 @@ fn unlike(flag: bool, on: bool) -> bool
 impl LogReader {
     /// A reader that has taken no line of a log, whose format may be known.
     pub fn new(format: Option<Format>) -> LogReader
-        ensures taken { HasTaken result (nothing_seen format) }
+        ensures taken { HasTakenFacts result (nothing_seen format) }
         ensures context { result.context ≡ starts format }
     {
         let blank = Slot::blank();
@@ -440,7 +440,7 @@ impl LogReader {
     // What else gives other bits than a reading, or doesn't agree with it on VCNT.
     fn rival(&self, supplied: &Supplied, reading: &Reading) -> Option<Rival>
         requires { reading.now.processor < 16 }
-        ensures { (seen : Seen) → HasTaken self.now seen → result ≡ rival supplied.now seen.readings reading.now }
+        ensures { (seen : Seen) → HasTakenFacts self.now seen → result ≡ rival supplied.now seen.readings reading.now }
     {
         if bits_differ(supplied.value(reading.number), reading.bits, reading.value) {
             return Some(Rival::Word);
@@ -458,7 +458,7 @@ impl LogReader {
 
     // What else shows that a dump has no fixed ranges, or that it has them.
     fn fixed_rival(&self, word: Option<u64>, reading: &Reading) -> Option<Rival>
-        ensures { (seen : Seen) → HasTaken self.now seen → result ≡ fixed_rival word seen.readings reading.now }
+        ensures { (seen : Seen) → HasTakenFacts self.now seen → result ≡ fixed_rival word seen.readings reading.now }
     {
         if shows_fixed(reading) {
             fixless_rival(word, &self.capabilities)
@@ -473,7 +473,7 @@ impl LogReader {
     fn pairs_after(&self, reading: &Reading) -> u64
         requires { reading.now.processor < 16 }
         ensures held { result ≡ low_byte (bit_or (slots_of self.now reading.now.processor 0xfe).value reading.now.value) }
-        ensures shown { (seen : Seen) → HasTaken self.now seen → result ≡ low_byte (bit_or (slot_shown seen.readings reading.now.processor 0xfe).value reading.now.value) }
+        ensures shown { (seen : Seen) → HasTakenFacts self.now seen → result ≡ low_byte (bit_or (slot_shown seen.readings reading.now.processor 0xfe).value reading.now.value) }
     {
         (self.slot(reading.processor, CAPABILITIES).value | reading.value) % 256
     }
@@ -483,7 +483,7 @@ impl LogReader {
         requires { reading.now.processor < 16 }
         ensures sound { result ≡ None → reading.now.number ≡ 0xfe → low_byte (bit_or (slots_of self.now reading.now.processor 0xfe).value reading.now.value) ≤ 32 }
         ensures short { IfSome result IsShort }
-        ensures fault { (seen : Seen) → HasTaken self.now seen → result ≡ pairs_fault seen.readings reading.now }
+        ensures fault { (seen : Seen) → HasTakenFacts self.now seen → result ≡ pairs_fault seen.readings reading.now }
     {
         if reading.number == CAPABILITIES && self.pairs_after(reading) > MAX_PAIRS as u64 {
             Some(ImportFault::TooManyPairs(reading.place))
@@ -497,7 +497,7 @@ impl LogReader {
         ensures sound { result ≡ None → (reading.now.processor < 16)
             × (reading.now.number ≡ 0xfe → low_byte (bit_or (slots_of self.now reading.now.processor 0xfe).value reading.now.value) ≤ 32) }
         ensures short { IfSome result IsShort }
-        ensures fault { (seen : Seen) → HasTaken self.now seen → result ≡ reading_fault supplied.now seen.readings reading.now }
+        ensures fault { (seen : Seen) → HasTakenFacts self.now seen → result ≡ reading_fault supplied.now seen.readings reading.now }
     {
         if reading.processor >= MOST_PROCESSORS {
             return Some(ImportFault::BadProcessor(reading.place));
@@ -515,7 +515,7 @@ impl LogReader {
         requires processor { reading.now.processor < 16 }
         requires register { slot_of reading.now.number ≡ None → ⊥ }
         requires pairs { reading.now.number ≡ 0xfe → low_byte (bit_or (slots_of self.old reading.now.processor 0xfe).value reading.now.value) ≤ 32 }
-        ensures taken { (seen : Seen) → HasTaken self.old seen → HasTaken self.new (seen_with seen (is_register_value reading.now)) }
+        ensures taken { (seen : Seen) → HasTakenFacts self.old seen → HasTakenFacts self.new (seen_with seen (is_register_value reading.now)) }
         ensures context { self.new.context ≡ self.old.context }
     {
         let Some(slot) = slot_of(reading.number) else {
@@ -532,8 +532,8 @@ impl LogReader {
     // Takes a reading. At `Err` the reader is unchanged.
     fn take_reading(&mut self, supplied: &Supplied, reading: &Reading) -> Result<(), ImportFault>
         requires register { slot_of reading.now.number ≡ None → ⊥ }
-        ensures taken { (seen : Seen) → HasTaken self.old seen → MatchResult result
-            (λ _. HasTaken self.new (seen_with seen (is_register_value reading.now)) × (reading_fault supplied.now seen.readings reading.now ≡ None))
+        ensures taken { (seen : Seen) → HasTakenFacts self.old seen → MatchResult result
+            (λ _. HasTakenFacts self.new (seen_with seen (is_register_value reading.now)) × (reading_fault supplied.now seen.readings reading.now ≡ None))
             (λ fault. reading_fault supplied.now seen.readings reading.now ≡ Some fault) }
         ensures context { self.new.context ≡ self.old.context }
         ensures short { IfErr result IsShort }
@@ -555,8 +555,8 @@ impl LogReader {
         table: u64,
         shown: Shown,
     ) -> Result<(), ImportFault>
-        ensures taken { (seen : Seen) → HasTaken self.old seen → MatchResult result
-            (λ _. HasTaken self.new (seen_after seen (reading_facts processor table shown)) × (facts_fault supplied.now seen (reading_facts processor table shown) ≡ None))
+        ensures taken { (seen : Seen) → HasTakenFacts self.old seen → MatchResult result
+            (λ _. HasTakenFacts self.new (seen_after seen (reading_facts processor table shown)) × (facts_fault supplied.now seen (reading_facts processor table shown) ≡ None))
             (λ fault. facts_fault supplied.now seen (reading_facts processor table shown) ≡ Some fault) }
         ensures context { self.new.context ≡ self.old.context }
         ensures short { IfErr result IsShort }
@@ -582,8 +582,8 @@ impl LogReader {
         table: u64,
         shown: Option<Shown>,
     ) -> Result<(), ImportFault>
-        ensures taken { (seen : Seen) → HasTaken self.old seen → MatchResult result
-            (λ _. HasTaken self.new (seen_after seen (shown_facts processor table shown)) × (facts_fault supplied.now seen (shown_facts processor table shown) ≡ None))
+        ensures taken { (seen : Seen) → HasTakenFacts self.old seen → MatchResult result
+            (λ _. HasTakenFacts self.new (seen_after seen (shown_facts processor table shown)) × (facts_fault supplied.now seen (shown_facts processor table shown) ≡ None))
             (λ fault. facts_fault supplied.now seen (shown_facts processor table shown) ≡ Some fault) }
         ensures context { self.new.context ≡ self.old.context }
         ensures short { IfErr result IsShort }
@@ -602,8 +602,8 @@ impl LogReader {
         table: u64,
         shows: &Shows,
     ) -> Result<(), ImportFault>
-        ensures taken { (seen : Seen) → HasTaken self.old seen → MatchResult result
-            (λ _. HasTaken self.new (seen_after seen (shows_facts processor table shows.now)) × (facts_fault supplied.now seen (shows_facts processor table shows.now) ≡ None))
+        ensures taken { (seen : Seen) → HasTakenFacts self.old seen → MatchResult result
+            (λ _. HasTakenFacts self.new (seen_after seen (shows_facts processor table shows.now)) × (facts_fault supplied.now seen (shows_facts processor table shows.now) ≡ None))
             (λ fault. facts_fault supplied.now seen (shows_facts processor table shows.now) ≡ Some fault) }
         ensures context { self.new.context ≡ self.old.context }
         ensures short { IfErr result IsShort }
@@ -623,8 +623,8 @@ impl LogReader {
         width: u64,
         place: Place,
     ) -> Result<(), ImportFault>
-        ensures taken { (seen : Seen) → HasTaken self.old seen → MatchResult result
-            (λ _. HasTaken self.new (seen_with seen (is_width width place)) × (width_fault supplied.now seen width place ≡ None))
+        ensures taken { (seen : Seen) → HasTakenFacts self.old seen → MatchResult result
+            (λ _. HasTakenFacts self.new (seen_with seen (is_width width place)) × (width_fault supplied.now seen width place ≡ None))
             (λ fault. width_fault supplied.now seen width place ≡ Some fault) }
         ensures context { self.new.context ≡ self.old.context }
         ensures short { IfErr result IsShort }
@@ -649,8 +649,8 @@ impl LogReader {
         value: u64,
         place: Place,
     ) -> Result<(), ImportFault>
-        ensures taken { (seen : Seen) → HasTaken self.old seen → let facts = value_facts self.old.context.announced self.old.context.table value place in MatchResult result
-            (λ _. HasTaken self.new (seen_after seen facts) × (facts_fault supplied.now seen facts ≡ None))
+        ensures taken { (seen : Seen) → HasTakenFacts self.old seen → let facts = value_facts self.old.context.announced self.old.context.table value place in MatchResult result
+            (λ _. HasTakenFacts self.new (seen_after seen facts) × (facts_fault supplied.now seen facts ≡ None))
             (λ fault. facts_fault supplied.now seen facts ≡ Some fault) }
         ensures context { self.new.context ≡ self.old.context }
         ensures short { IfErr result IsShort }
@@ -673,8 +673,8 @@ impl LogReader {
         is_alone: bool,
         place: Place,
     ) -> Result<(), ImportFault>
-        ensures taken { (seen : Seen) → HasTaken self.old seen → let facts = fixed_facts self.old.context is_enabled is_alone place in MatchResult result
-            (λ _. HasTaken self.new (seen_after seen facts) × (facts_fault supplied.now seen facts ≡ None))
+        ensures taken { (seen : Seen) → HasTakenFacts self.old seen → let facts = fixed_facts self.old.context is_enabled is_alone place in MatchResult result
+            (λ _. HasTakenFacts self.new (seen_after seen facts) × (facts_fault supplied.now seen facts ≡ None))
             (λ fault. facts_fault supplied.now seen facts ≡ Some fault) }
         ensures context { self.new.context ≡ self.old.context }
         ensures short { IfErr result IsShort }
@@ -694,8 +694,8 @@ impl LogReader {
 
     // Takes what a line says.
     fn take_said(&mut self, supplied: &Supplied, said: &LineSays) -> Result<(), ImportFault>
-        ensures taken { (seen : Seen) → HasTaken self.old seen → MatchResult result
-            (λ _. HasTaken self.new (seen_after seen (said_facts self.old.context said.now)) × (facts_fault supplied.now seen (said_facts self.old.context said.now) ≡ None))
+        ensures taken { (seen : Seen) → HasTakenFacts self.old seen → MatchResult result
+            (λ _. HasTakenFacts self.new (seen_after seen (said_facts self.old.context said.now)) × (facts_fault supplied.now seen (said_facts self.old.context said.now) ≡ None))
             (λ fault. facts_fault supplied.now seen (said_facts self.old.context said.now) ≡ Some fault) }
         ensures context { self.new.context ≡ self.old.context }
         ensures short { IfErr result IsShort }
@@ -727,7 +727,7 @@ impl LogReader {
 
     // Counts a line.
     fn count_line(&mut self, number: u64, format: Option<Format>, matches: bool)
-        ensures taken { (seen : Seen) → HasTaken self.old seen → HasTaken self.new (seen_with seen (is_line number format matches)) }
+        ensures taken { (seen : Seen) → HasTakenFacts self.old seen → HasTakenFacts self.new (seen_with seen (is_line number format matches)) }
         ensures context { self.new.context ≡ self.old.context }
     {
         self.tally = Tally {
@@ -746,7 +746,7 @@ impl LogReader {
 
     // What the lines that were taken lead to.
     fn lead_to(&mut self, context: Context)
-        ensures taken { (seen : Seen) → HasTaken self.old seen → HasTaken self.new seen }
+        ensures taken { (seen : Seen) → HasTakenFacts self.old seen → HasTakenFacts self.new seen }
         ensures context { self.new.context ≡ context }
     {
         self.context = context;
@@ -760,8 +760,8 @@ impl LogReader {
         format: Option<Format>,
         said: &LineSays,
     ) -> Result<(), ImportFault>
-        ensures taken { (seen : Seen) → HasTaken self.old seen → let facts = line_facts number format self.old.context said.now in MatchResult result
-            (λ _. HasTaken self.new (seen_after seen facts) × (facts_fault supplied.now seen facts ≡ None))
+        ensures taken { (seen : Seen) → HasTakenFacts self.old seen → let facts = line_facts number format self.old.context said.now in MatchResult result
+            (λ _. HasTakenFacts self.new (seen_after seen facts) × (facts_fault supplied.now seen facts ≡ None))
             (λ fault. facts_fault supplied.now seen facts ≡ Some fault) }
         ensures context { self.new.context ≡ self.old.context }
         ensures short { IfErr result IsShort }
@@ -772,9 +772,9 @@ impl LogReader {
 
     /// Takes one line.
     pub fn take(&mut self, supplied: &Supplied, line: &Line<'_>) -> Result<(), ImportFault>
-        ensures taken { (seen : Seen) → HasTaken self.old seen →
+        ensures taken { (seen : Seen) → HasTakenFacts self.old seen →
             let facts = facts_of_line self.old.context line.now.number line.now.bytes.now in MatchResult result
-            (λ _. HasTaken self.new (seen_after seen facts) × (facts_fault supplied.now seen facts ≡ None))
+            (λ _. HasTakenFacts self.new (seen_after seen facts) × (facts_fault supplied.now seen facts ≡ None))
             (λ fault. facts_fault supplied.now seen facts ≡ Some fault) }
         ensures short { IfErr result IsShort }
         ensures context { IfOk result (λ _. self.new.context ≡ context_behind self.old.context line.now.number line.now.bytes.now) }

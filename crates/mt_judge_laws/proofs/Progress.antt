@@ -26,7 +26,7 @@ use Rattle.mt_judge.specs.declared.step.ListPlace.{ListPlace}
 use Rattle.mt_judge.specs.declared.step.ProcedureStep.{ProcedureStep}
 use Rattle.mt_judge.specs.declared.step.ProcedureStep.TheVariants as list
 use Rattle.mt_judge.specs.Dues.{AreListsFinished}
-use Rattle.mt_judge.specs.Runs.{Case, GoesOn, IsEnded, State, arrived_at, is_fit, is_open, list_of, may_go, place_of, step_at, system_of}
+use Rattle.mt_judge.specs.Runs.{Case, SomeGoesOn, IsEnded, State, arrived_at, is_fit, is_open, list_of, may_go, place_of, step_at, system_of}
 use Rattle.mt_judge_laws.specs.Manual.{IsInstruction, at_rest, first_flush, machine_of, manual_list, since_flush}
 use Rattle.mt_judge_laws.proofs.Holding.{order_of}
 use Rattle.mt_judge_laws.proofs.Counting.{again, arrived}
@@ -164,7 +164,7 @@ module _ (c : Case) (first : State) (start : IsStart (at_rest c first)) (few : l
 
   -- so a processor goes on that hasn't released, if the barriers at which it may stand are open
   on : (k : ℕ) (x : Stage) → At (stages_of s.processors) k x → (x.0 ≡ Running → nat_lt 0 x.1 ≡ false) → (x.0 ≡ Arrived → length first.processors ≤ arrived_at s.arrived 0) → (x.0 ≡ Arrived2 → length first.processors ≤ arrived_at s.arrived 1)
-      → GoesOn c s
+      → SomeGoesOn c s
   on k x at late one two =
       let found = processor_at s.processors k x at in
       let p = found.0 in
@@ -198,7 +198,7 @@ module _ (c : Case) (first : State) (start : IsStart (at_rest c first)) (few : l
       omega (arith, is, full, long)
 
   -- once each processor has released, each has ended or goes on
-  one_ended : list_all (is_ahead (order_of c)) (stages_of s.processors) ≡ true → (k : ℕ) → k < length s.processors → (step_at c s k ≡ None) ⊎ GoesOn c s
+  one_ended : list_all (is_ahead (order_of c)) (stages_of s.processors) ≡ true → (k : ℕ) → k < length s.processors → (step_at c s k ≡ None) ⊎ SomeGoesOn c s
   one_ended all k within =
       let p = get_or s.processors k (start_processor c.goal) in
       let at : slice_get s.processors k ≡ Some p = slice_get-get_or s.processors k (start_processor c.goal) within in
@@ -207,7 +207,7 @@ module _ (c : Case) (first : State) (start : IsStart (at_rest c first)) (few : l
       let place_is : place_of s k ≡ q.0.place = get_or_from_slice_get s.places k q.0.place (record { step = 0; part = 0 }) q.0.here in
       ⊎_elim
       (λ (left : drop q.0.place.step (list_of c k) ≡ []). inl (ap (λ (x : ListPlace). slice_get (list_of c k) x.step) place_is ∙ none_left (list_of c k) q.0.place.step left))
-      (λ (opens : Open s.arrived (drop q.0.place.step (list_of c k))). let g : GoesOn c s = (k, may k p q.0.place at q.0.here opens) in inr g)
+      (λ (opens : Open s.arrived (drop q.0.place.step (list_of c k))). let g : SomeGoesOn c s = (k, may k p q.0.place at q.0.here opens) in inr g)
       (released_left (length first.processors) (length (writable c.goal)) q.0.behind p.self_snoop s.arrived (drop q.0.place.step (list_of c k)) q.0.place.part p.phase (nat_lt 0 p.era)
       (passes_at (is_ahead (order_of c)) (stages_of s.processors) k (stage_of p) all here) (st.holds.guarded.in_step k (stage_of p) here) q.1)
 
@@ -221,23 +221,23 @@ module _ (c : Case) (first : State) (start : IsStart (at_rest c first)) (few : l
       one true is = ended k (ltb-true k n is)
       one false is = let above = ltb-false k n is in let same : k ≡ n = omega (arith, above, within) in ap (step_at c s) same ∙ last
 
-  all_ended : list_all (is_ahead (order_of c)) (stages_of s.processors) ≡ true → (n : ℕ) → n ≤ length s.processors → AreEnded n ⊎ GoesOn c s
+  all_ended : list_all (is_ahead (order_of c)) (stages_of s.processors) ≡ true → (n : ℕ) → n ≤ length s.processors → AreEnded n ⊎ SomeGoesOn c s
   all_ended all zero within = inl (λ k none. absurd (omega (arith, none)))
   all_ended all (suc n) within = ⊎_elim
       (λ (ended : AreEnded n). ⊎_elim
       (λ (last : step_at c s n ≡ None). inl (up_to n ended last))
-      (λ (g : GoesOn c s). inr g)
+      (λ (g : SomeGoesOn c s). inr g)
       (one_ended all n (omega (arith, within))))
-      (λ (g : GoesOn c s). inr g)
+      (λ (g : SomeGoesOn c s). inr g)
       (all_ended all n (omega (arith, within)))
 
   abbrev Missing : (Stage → Bool) → Type 0
   Missing q = (i : ℕ) × (x : Stage) × At (stages_of s.processors) i x × (q x ≡ false)
 
-  pub progress : IsEnded c s ⊎ GoesOn c s
+  pub progress : IsEnded c s ⊎ SomeGoesOn c s
   progress = ⊎_elim one_missing (λ (m : Missing (arrived (order_of c))). inr (on_first m)) (all_or_one (arrived (order_of c)) (stages_of s.processors))
     where
-      on_first : Missing (arrived (order_of c)) → GoesOn c s
+      on_first : Missing (arrived (order_of c)) → SomeGoesOn c s
       on_first m =
           let rest = or_right (is_arrived m.1.0) _ m.3 in
           let no_second : is_arrived_again m.1.0 ≡ false = or_right (is_changing m.1.0) _ (or_left _ (nat_lt 0 m.1.1) rest) in
@@ -246,19 +246,19 @@ module _ (c : Case) (first : State) (start : IsStart (at_rest c first)) (few : l
           (λ e. absurd (let yes_first : is_arrived m.1.0 ≡ true = ap is_arrived e in cc))
           (λ e. absurd (let yes_second : is_arrived_again m.1.0 ≡ true = ap is_arrived_again e in cc))
 
-      on_second : list_all (arrived (order_of c)) (stages_of s.processors) ≡ true → Missing (again (order_of c)) → GoesOn c s
+      on_second : list_all (arrived (order_of c)) (stages_of s.processors) ≡ true → Missing (again (order_of c)) → SomeGoesOn c s
       on_second all m =
           let no_second : is_arrived_again m.1.0 ≡ false = or_left (is_arrived_again m.1.0) _ m.3 in
           on m.0 m.1 m.2 (λ e. or_right (is_arrived_again m.1.0) _ m.3) (λ e. all_at_first all)
           (λ e. absurd (let yes_second : is_arrived_again m.1.0 ≡ true = ap is_arrived_again e in cc))
 
-      none_missing : list_all (arrived (order_of c)) (stages_of s.processors) ≡ true → list_all (again (order_of c)) (stages_of s.processors) ≡ true → IsEnded c s ⊎ GoesOn c s
+      none_missing : list_all (arrived (order_of c)) (stages_of s.processors) ≡ true → list_all (again (order_of c)) (stages_of s.processors) ≡ true → IsEnded c s ⊎ SomeGoesOn c s
       none_missing all all' = ⊎_elim
           (λ (released : list_all (is_ahead (order_of c)) (stages_of s.processors) ≡ true). all_ended released (length s.processors) (omega arith))
           (λ (m : Missing (is_ahead (order_of c))). inr (on m.0 m.1 m.2 (λ e. m.3) (λ e. all_at_first all) (λ e. all_at_second all')))
           (all_or_one (is_ahead (order_of c)) (stages_of s.processors))
 
-      one_missing : list_all (arrived (order_of c)) (stages_of s.processors) ≡ true → IsEnded c s ⊎ GoesOn c s
+      one_missing : list_all (arrived (order_of c)) (stages_of s.processors) ≡ true → IsEnded c s ⊎ SomeGoesOn c s
       one_missing all = ⊎_elim (none_missing all) (λ (m : Missing (again (order_of c))). inr (on_second all m)) (all_or_one (again (order_of c)) (stages_of s.processors))
 
   -- no list ends in the midst of the update

@@ -18,7 +18,7 @@ use Rattle.mt_judge.specs.declared.search.Found.TheVariants as ends
 use Rattle.mt_judge.specs.declared.step.ListPlace.{ListPlace}
 use Rattle.mt_judge.specs.Verdicts.{IsRight}
 use Rattle.mt_judge.specs.Dues.{AreStepsDue, IsDue, IsDueAt}
-use Rattle.mt_judge.specs.Runs.{Case, GoesOn, IsEnded, IsRun, State, arrived_at, list_of, may_go, move_of, moved, next_move, run, step_at}
+use Rattle.mt_judge.specs.Runs.{Case, SomeGoesOn, IsEnded, IsRun, State, arrived_at, list_of, may_go, move_of, moved, next_move, run, step_at}
 use Rattle.mt_judge.specs.Searches.{AreAllFine, IsFound, fault_at, has_wrong, is_bad}
 use Rattle.mt_judge.specs.Wrongs.{fault_of}
 use Rattle.mt_judge_laws.specs.Manual.{IsManual, IsRightStart, NothingGoesWrong, RunsAreTheMachines, SearchesFindNothing, at_rest, first_place}
@@ -145,7 +145,7 @@ module _ (senses : Senses) (c : Case) (s : State) (right : IsRightStart c s) (ma
       absurd (let w = (fine h.front h.runs).steps h.last h.wrong.goes in let bad = h.wrong.bad in cc)
   found_is (ends.Stuck path) h = absurd (⊎_elim
       (λ (e : IsEnded c (run c s path.items)). h.unended.2 (e h.unended.0 h.unended.1))
-      (λ (g : GoesOn c (run c s path.items)). let waits = h.waits g.0 in let on = g.1 in cc)
+      (λ (g : SomeGoesOn c (run c s path.items)). let waits = h.waits g.0 in let on = g.1 in cc)
       (fine path.items h.runs).goes)
   found_is ends.Stopped h = inr refl
   found_is ends.Nothing h = inl refl

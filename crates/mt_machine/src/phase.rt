@@ -1,7 +1,7 @@
 /// Where a processor stands in an update. The order is that of the procedure.
 #[derive(Clone, Copy, Debug, PartialEq, Eq)]
 pub enum Phase {
-    /// It is outside an update, or has not taken yet, or has released.
+    /// It is outside an update, or has not taken yet, or has left or released.
     Running,
     /// It took the interrupt: its buffers are empty and its interrupts are off.
     Taken,

@@ -13,7 +13,7 @@ use Rattle.mt_output.specs.Ports.{change, held}
 use Rattle.mt_map.specs.declared.asked.Asked.{Asked}
 use Rattle.mt_map.specs.declared.asked.Asked.TheVariants.{Help, Picture, Version}
 use Rattle.mt_map.specs.Asked.{help_text, version_text}
-use Rattle.mt_map.specs.Map.{MapOf, Maps, Tells, bad_text, mapped, no_memory, printed, told, usage, writes}
+use Rattle.mt_map.specs.Map.{MapOf, Maps, TellsOutput, bad_text, mapped, no_memory, printed, told, usage, writes}
 
 pub told_usage : (asked : Option Asked) (bytes : List ℕ) (left old new : Option (List ℕ)) (result : Status) → asked ≡ None → left ≡ Some bytes → Writes (line (codes "usage")) Usage old new result
     → Maps asked (held bytes left) (change old new) result
@@ -27,7 +27,7 @@ pub told_version : (asked : Option Asked) (bytes : List ℕ) (left old new : Opt
     → Maps asked (held bytes left) (change old new) result
 told_version asked bytes left old new result on is by = told (rw on is) (writes version_text Done (printed version_text (rw on refl)) by)
 
-pub told_dump : (asked : Option Asked) (bytes : List ℕ) (dump : Dump) (left old new : Option (List ℕ)) (result : Status) → asked ≡ Some Picture → left ≡ Some [] → Shown bytes dump → Tells (MapOf dump) old new result
+pub told_dump : (asked : Option Asked) (bytes : List ℕ) (dump : Dump) (left old new : Option (List ℕ)) (result : Status) → asked ≡ Some Picture → left ≡ Some [] → Shown bytes dump → TellsOutput (MapOf dump) old new result
     → Maps asked (held bytes left) (change old new) result
 told_dump asked bytes dump left old new result on is shown (writes text status map by) = told (rw on is) (writes text status (mapped dump text status on shown map) by)
 told_dump asked bytes dump left old new result on is shown (no_memory end same) = told (rw on is) (no_memory end same)

@@ -26,13 +26,13 @@ band_grows f others first end next band at other_at later = record {
 }
 
 -- the edges so far, and any list of edges behind them
-abbrev pub GoesOn : RegisterFile → List RegisterFile → List ℕ → ℕ → Type 0
-GoesOn f others cuts page = (rest : List ℕ) → AreEdges f others page rest → AreEdges f others 0 (cuts ++ rest)
+abbrev pub ExtendsEdges : RegisterFile → List RegisterFile → List ℕ → ℕ → Type 0
+ExtendsEdges f others cuts page = (rest : List ℕ) → AreEdges f others page rest → AreEdges f others 0 (cuts ++ rest)
 
-pub goes_on_next : (f : RegisterFile) (others : List RegisterFile) (before after : List ℕ) (page end : ℕ) → GoesOn f others before page → IsBandOf f others page end → after ≡ before ++ end ∷ []
-    → GoesOn f others after end
+pub goes_on_next : (f : RegisterFile) (others : List RegisterFile) (before after : List ℕ) (page end : ℕ) → ExtendsEdges f others before page → IsBandOf f others page end → after ≡ before ++ end ∷ []
+    → ExtendsEdges f others after end
 goes_on_next f others before after page end goes band is rest are =
     subst (AreEdges f others 0) (sym (ap (λ (cuts : List ℕ). cuts ++ rest) is ∙ append_assoc before (end ∷ []) rest)) (goes (end ∷ rest) (band, are))
 
-pub edges_end : (f : RegisterFile) (others : List RegisterFile) (cuts : List ℕ) (page : ℕ) → GoesOn f others cuts page → page ≡ page_count f → AreEdges f others 0 cuts
+pub edges_end : (f : RegisterFile) (others : List RegisterFile) (cuts : List ℕ) (page : ℕ) → ExtendsEdges f others cuts page → page ≡ page_count f → AreEdges f others 0 cuts
 edges_end f others cuts page goes end = subst (AreEdges f others 0) (append-nil cuts) (goes [] end)

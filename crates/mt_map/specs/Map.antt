@@ -65,13 +65,13 @@ pub data Output (asked : Option Asked) (bytes : List ℕ) : List ℕ → Status 
 -- ---- a run
 
 -- The sink took an output or a front of it, or nothing for want of memory. Which texts and statuses are an output is given.
-pub data Tells (output : List ℕ → Status → Type 0) (old new : Option (List ℕ)) (result : Status) : Type 0 where
-  writes : (text : List ℕ) (status : Status) → output text status → Writes text status old new result → Tells output old new result
-  no_memory : result ≡ NoMemory → new ≡ old → Tells output old new result
+pub data TellsOutput (output : List ℕ → Status → Type 0) (old new : Option (List ℕ)) (result : Status) : Type 0 where
+  writes : (text : List ℕ) (status : Status) → output text status → Writes text status old new result → TellsOutput output old new result
+  no_memory : result ≡ NoMemory → new ≡ old → TellsOutput output old new result
 
 -- The output for all bytes of the source was written, or nothing where the source failed or gave too much.
 pub data Maps (asked : Option Asked) (source : Held) (sink : Port) (result : Status) : Type 0 where
-  told : source.left ≡ Some (left_of asked source.bytes) → Tells (Output asked source.bytes) sink.old sink.new result → Maps asked source sink result
+  told : source.left ≡ Some (left_of asked source.bytes) → TellsOutput (Output asked source.bytes) sink.old sink.new result → Maps asked source sink result
   unread : sink.new ≡ sink.old → (result ≡ ReadFault) ⊎ ((result ≡ TooLong) × (longest_input < length source.bytes)) → Maps asked source sink result
 
 -- the same where the arguments may have found no memory: then nothing is read or written

@@ -6,7 +6,7 @@ ghost use Rattle.mt_regs.specs.Agreement.{first_refusal};
 ghost use Rattle.mt_regs.specs.Faults.{register_fault};
 ghost use Rattle.mt_output.specs.Ports.{held, port};
 ghost use Rattle.mt_map.specs.declared.asked.Asked.TheVariants.{Picture};
-ghost use Rattle.mt_map.specs.Map.{CanBeDrawn, MapOf, Maps, Tells, beside, others, status_of};
+ghost use Rattle.mt_map.specs.Map.{CanBeDrawn, MapOf, Maps, TellsOutput, beside, others, status_of};
 
 use crate::asked::{help_text, version_text};
 use crate::picture::{Legend, picture_of_files, picture_text};
@@ -115,7 +115,7 @@ fn can_be_drawn(d: &Dump) -> bool
 
 /// Writes the picture of a dump, or the line of the fault for which there is none.
 pub fn draw<K: Sink>(alloc: Global, d: &Dump, labels: Labels<'_>, sink: &mut K) -> Status
-    ensures tells { Tells (MapOf d.now) (K.taken sink.old) (K.taken sink.new) result }
+    ensures tells { TellsOutput (MapOf d.now) (K.taken sink.old) (K.taken sink.new) result }
     ensures cause { StatusHasCause Status.WriteFault (K.faults sink.old) (K.faults sink.new) result }
 {
     d.is_dump(); // a fact for the proof

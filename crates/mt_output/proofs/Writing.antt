@@ -2,16 +2,16 @@
 use Rattle.std.proofs.Common.{◌≡◌, ℕ, List, [], ◌++◌, Option, Result, Ok, Err, refl, sym, ap, ◌∙◌, subst, append_assoc, append-nil}
 use Rattle.std.proofs.KnownBytes.{Appends-nil, Appends-trans}
 use Rattle.mt_ports.specs.Puts.{AppendsFront}
-use Rattle.mt_output.specs.Writing.{Adds, Passes}
+use Rattle.mt_output.specs.Writing.{Adds, PassesOn}
 use Rattle.mt_output.specs.Ports.{change}
 
 -- nothing was written
-pub passes_nothing : (waiting : List ℕ) (known : Option (List ℕ)) → Passes waiting [] waiting known known
+pub passes_nothing : (waiting : List ℕ) (known : Option (List ℕ)) → PassesOn waiting [] waiting known known
 passes_nothing waiting known = record { front = []; cut = append-nil waiting; taken = Appends-nil known }
 
 -- two texts are one
 pub passes_both : (waiting first middle second left : List ℕ) (a b c : Option (List ℕ))
-    → Passes waiting first middle a b → Passes middle second left b c → Passes waiting (first ++ second) left a c
+    → PassesOn waiting first middle a b → PassesOn middle second left b c → PassesOn waiting (first ++ second) left a c
 passes_both waiting first middle second left a b c p q = record {
   front = p.front ++ q.front;
   cut = sym (append_assoc waiting first second) ∙ ap (λ (l : List ℕ). l ++ second) p.cut ∙ append_assoc p.front middle second
@@ -30,12 +30,12 @@ fails_longer waiting first second a b failed =
     subst (AppendsFront a b) (append_assoc waiting first second) (front_of_longer (waiting ++ first) second a b failed)
 
 -- what was passed is a front of what waited and the text, whatever is written then
-pub passes_front : (waiting text left rest : List ℕ) (a b : Option (List ℕ)) → Passes waiting text left a b → AppendsFront a b (waiting ++ text ++ rest)
+pub passes_front : (waiting text left rest : List ℕ) (a b : Option (List ℕ)) → PassesOn waiting text left a b → AppendsFront a b (waiting ++ text ++ rest)
 passes_front waiting text left rest a b p = front_of_longer (waiting ++ text) rest a b (p.front, left, p.cut, p.taken)
 
 -- a text was passed, and then another failed
 pub fails_after : (waiting first middle second rest : List ℕ) (a b c : Option (List ℕ))
-    → Passes waiting first middle a b → AppendsFront b c (middle ++ second) → AppendsFront a c (waiting ++ first ++ second ++ rest)
+    → PassesOn waiting first middle a b → AppendsFront b c (middle ++ second) → AppendsFront a c (waiting ++ first ++ second ++ rest)
 fails_after waiting first middle second rest a b c p (front, back, cut, taken) =
     front_of_longer (waiting ++ first ++ second) rest a c (
       p.front ++ front,
@@ -46,7 +46,7 @@ fails_after waiting first middle second rest a b c p (front, back, cut, taken) =
 
 -- a text was passed, and then another was added or failed
 pub adds_after : {T E : Type 0} (waiting first middle second left : List ℕ) (a b c : Option (List ℕ)) (result : Result T E)
-    → Passes waiting first middle a b → Adds second (change middle left) (change b c) result → Adds (first ++ second) (change waiting left) (change a c) result
+    → PassesOn waiting first middle a b → Adds second (change middle left) (change b c) result → Adds (first ++ second) (change waiting left) (change a c) result
 adds_after waiting first middle second left a b c (Ok done) p q = passes_both waiting first middle second left a b c p q
 adds_after waiting first middle second left a b c (Err error) p q =
     subst (AppendsFront a c) (append-nil (waiting ++ first ++ second) ∙ append_assoc waiting first second) (fails_after waiting first middle second [] a b c p q)
@@ -57,7 +57,7 @@ adds_after waiting first middle second left a b c (Err error) p q =
 pub record HasPassed (whole rest waiting left : List ℕ) (before after : Option (List ℕ)) : Type 0 where
   pub text : List ℕ
   pub cut : whole ≡ text ++ rest
-  pub passed : Passes waiting text left before after
+  pub passed : PassesOn waiting text left before after
 
 pub none_passed : (whole waiting : List ℕ) (known : Option (List ℕ)) → HasPassed whole whole waiting waiting known known
 none_passed whole waiting known = record { text = []; cut = refl; passed = passes_nothing waiting known }
@@ -67,7 +67,7 @@ module _ (whole rest part later waiting middle : List ℕ) (a b c : Option (List
   further : whole ≡ (has.text ++ part) ++ later
   further = has.cut ∙ ap (λ (l : List ℕ). has.text ++ l) next ∙ sym (append_assoc has.text part later)
 
-  pub part_passed : (left : List ℕ) → Passes middle part left b c → HasPassed whole later waiting left a c
+  pub part_passed : (left : List ℕ) → PassesOn middle part left b c → HasPassed whole later waiting left a c
   part_passed left passed = record { text = has.text ++ part; cut = further; passed = passes_both waiting has.text middle part left a b c has.passed passed }
 
   pub part_failed : AppendsFront b c (middle ++ part) → AppendsFront a c (waiting ++ whole)
@@ -76,5 +76,5 @@ module _ (whole rest part later waiting middle : List ℕ) (a b c : Option (List
       ap (λ (l : List ℕ). l ++ later) (append_assoc waiting has.text part) ∙ append_assoc waiting (has.text ++ part) later ∙ ap (λ (l : List ℕ). waiting ++ l) (sym further) in
       subst (AppendsFront a c) joined (fails_after waiting has.text middle part later a b c has.passed failed)
 
-pub all_passed : (whole rest waiting left : List ℕ) (a b : Option (List ℕ)) → rest ≡ [] → HasPassed whole rest waiting left a b → Passes waiting whole left a b
-all_passed whole rest waiting left a b none has = subst (λ (l : List ℕ). Passes waiting l left a b) (sym (has.cut ∙ ap (λ (l : List ℕ). has.text ++ l) none ∙ append-nil has.text)) has.passed
+pub all_passed : (whole rest waiting left : List ℕ) (a b : Option (List ℕ)) → rest ≡ [] → HasPassed whole rest waiting left a b → PassesOn waiting whole left a b
+all_passed whole rest waiting left a b none has = subst (λ (l : List ℕ). PassesOn waiting l left a b) (sym (has.cut ∙ ap (λ (l : List ℕ). has.text ++ l) none ∙ append-nil has.text)) has.passed

@@ -29,7 +29,7 @@ use Rattle.mt_plain.specs.Did as did
 use Rattle.mt_plain.specs.Due.{IsTold, due_event, go_of, has_flags, phase_number, phase_of, phase_place, phases, whole_flush}
 use Rattle.mt_plain.proofs.Turns.{event_is}
 use Rattle.mt_regs.specs.Registers.{writable}
-use Rattle.mt_plain_laws.specs.Rendezvous.{AreAllowed, BeginsTelling, Books, CallsOff, EachIsTold, Gives, IsAllowed, Move, MovesAreLed, NoneRunsInBooks, Rendezvous, RendezvousIsLed, Tells, all_moved, begun, booked, byte_of, first_words, go_number, moved_to, processor_words, update_words, words_of}
+use Rattle.mt_plain_laws.specs.Rendezvous.{AreAllowed, BeginsTelling, Books, CallsOff, EachIsTold, Gives, IsAllowed, Move, MovesAreLed, NoneRunsInBooks, Rendezvous, RendezvousIsLed, BooksTell, all_moved, begun, booked, byte_of, first_words, go_number, moved_to, processor_words, update_words, words_of}
 use Rattle.mt_plain_laws.proofs.Counted.{booked_is}
 use Rattle.mt_plain_laws.proofs.Flushed.{Along, due_behind, follows, grow, machine, set_here}
 use Rattle.mt_plain_laws.proofs.Seen.{Seen, ahead, all_seen, era_after, seen, seen_after, seen_at, seen_of, told_of, words_seen}
@@ -207,7 +207,7 @@ module _ (first b : Machine) (start : IsStart first) where
     pub order : Order
     pub machine : Machine
     pub along : Along first b machine
-    pub tells : Tells w order machine
+    pub tells : BooksTell w order machine
 
   turn : (s : System) (o : Order) (k : ℕ) (step : PlainStep) (p : Processor) → Along first b (machine s (Some o)) → is_over o s.processors ≡ false → slice_get s.processors k ≡ Some p
       → (kept (update_words o s.processors) (processor_words o p) step).status ≡ 0 → Follows (booked (words_of o s.processors) k step (processor_words o p))
@@ -289,12 +289,12 @@ module _ (first b : Machine) (start : IsStart first) where
       (sym (ap (λ (x : Option PlainProcessor). option_map_or (booked (words_of o m.system.processors) k step) x (words_of o m.system.processors)) (words_of_at o m.system.processors m.system.processors k found.0 found.1)))
       (steps m o k step found.0 a order found.1 done (is_over o m.system.processors) refl)
 
-  pub moves_on : (m : Machine) (o : Order) (w : Rendezvous) (move : Move) → Along first b m → Tells w o m → IsAllowed w move → Follows (moved_to w move)
+  pub moves_on : (m : Machine) (o : Order) (w : Rendezvous) (move : Move) → Along first b m → BooksTell w o m → IsAllowed w move → Follows (moved_to w move)
   moves_on m o w move a t allowed =
       subst (λ (v : Rendezvous). Follows (moved_to v move)) (sym t.words)
       (at_words m o move a t.order t.undecided (subst (λ (v : Rendezvous). IsAllowed v move) t.words allowed))
 
-  pub all_led : (moves : List Move) (m : Machine) (o : Order) (w : Rendezvous) → Along first b m → Tells w o m → AreAllowed w moves → Follows (all_moved w moves)
+  pub all_led : (moves : List Move) (m : Machine) (o : Order) (w : Rendezvous) → Along first b m → BooksTell w o m → AreAllowed w moves → Follows (all_moved w moves)
   all_led [] m o w a t allowed = record { order = o; machine = m; along = a; tells = t }
   all_led (move ∷ moves) m o w a t allowed =
       let f = moves_on m o w move a t allowed.0 in

@@ -88,7 +88,7 @@ abbrev pub words_of : Order → List Processor → Rendezvous
 words_of o ps = record { update = update_words o ps; processors = map (processor_words o) ps }
 
 -- the books are the machine's, whose update is under way, or was decided and is over
-pub record Tells (w : Rendezvous) (o : Order) (m : Machine) : Type 0 where
+pub record BooksTell (w : Rendezvous) (o : Order) (m : Machine) : Type 0 where
   pub words : w ≡ words_of o m.system.processors
   pub order : m.order ≡ remaining_order o m.system.processors
   pub undecided : o.go ≡ Pending → m.order ≡ Some o
@@ -108,18 +108,18 @@ pub record IsFollowed (w : Rendezvous) (m : Machine) : Type 0 where
   pub order : Order
   pub machine : Machine
   pub led : Led m machine
-  pub tells : Tells w order machine
+  pub tells : BooksTell w order machine
 
 -- ---- the laws
 
 abbrev pub BeginsTelling : Type 0
 BeginsTelling =
     (s : Machine) (goal : RegisterFile) → IsQuiet s → IsEnabled s (Calls goal) → 0 < length s.system.processors
-    → Tells (begun s.system.processors) (order_of_call s goal) (next s (Calls goal))
+    → BooksTell (begun s.system.processors) (order_of_call s goal) (next s (Calls goal))
 
 abbrev pub MovesAreLed : Type 0
 MovesAreLed =
-    (s m : Machine) (o : Order) (w : Rendezvous) (move : Move) → IsStart s → Reached s m → Tells w o m → IsAllowed w move
+    (s m : Machine) (o : Order) (w : Rendezvous) (move : Move) → IsStart s → Reached s m → BooksTell w o m → IsAllowed w move
     → IsFollowed (moved_to w move) m
 
 -- whatever the order of the processors' steps is, and whenever the go is given or the update is cancelled
@@ -132,12 +132,12 @@ RendezvousIsLed =
 -- what the next step is asked of is told rightly
 abbrev pub EachIsTold : Type 0
 EachIsTold =
-    (s m : Machine) (o : Order) (w : Rendezvous) (k : ℕ) (p : Processor) → IsStart s → Reached s m → Tells w o m → m.order ≡ Some o
+    (s m : Machine) (o : Order) (w : Rendezvous) (k : ℕ) (p : Processor) → IsStart s → Reached s m → BooksTell w o m → m.order ≡ Some o
     → slice_get m.system.processors k ≡ Some p
     → (d : PlainProcessor) × (slice_get w.processors k ≡ Some d) × IsTold w.update d o m.system.processors p
 
 -- while one processor's books say that it changes its registers (phases 3 to 12), no other's say that it runs (phase 0)
 abbrev pub NoneRunsInBooks : Type 0
 NoneRunsInBooks =
-    (s m : Machine) (o : Order) (w : Rendezvous) (i j : ℕ) (d e : PlainProcessor) → IsStart s → Reached s m → Tells w o m
+    (s m : Machine) (o : Order) (w : Rendezvous) (i j : ℕ) (d e : PlainProcessor) → IsStart s → Reached s m → BooksTell w o m
     → slice_get w.processors i ≡ Some d → slice_get w.processors j ≡ Some e → 2 < d.phase → d.phase < 13 → e.phase ≢ 0

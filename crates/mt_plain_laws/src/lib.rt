@@ -3,7 +3,7 @@
 
 ghost use Rattle.std.specs.Prelude.{◌∷◌, [], None, Some};
 ghost use Rattle.mt_plain.specs.WorkedTurns.{called};
-ghost use Rattle.mt_plain_laws.specs.Rendezvous.{AreAllowed, BeginsTelling, Books, EachIsTold, Gives, MovesAreLed, NoneRunsInBooks, RendezvousIsLed, Tells, moved_to};
+ghost use Rattle.mt_plain_laws.specs.Rendezvous.{AreAllowed, BeginsTelling, Books, EachIsTold, Gives, MovesAreLed, NoneRunsInBooks, RendezvousIsLed, BooksTell, moved_to};
 ghost use Rattle.mt_plain_laws.specs.WorkedRendezvous.{first_books, ordered, take, two_moves};
 
 /// The books of an update that begins are those of the machine's call.
@@ -36,9 +36,9 @@ pub fn a_rendezvous_is_led()
 
 /// Books that are a machine's, books that aren't for one thing, moves that are allowed, and moves that aren't.
 pub fn worked_books()
-    ensures tells { Tells first_books called (ordered (Some called)) }
-    ensures other_words { Tells (moved_to first_books Gives) called (ordered (Some called)) → ⊥ }
-    ensures no_order { Tells first_books called (ordered None) → ⊥ }
+    ensures tells { BooksTell first_books called (ordered (Some called)) }
+    ensures other_words { BooksTell (moved_to first_books Gives) called (ordered (Some called)) → ⊥ }
+    ensures no_order { BooksTell first_books called (ordered None) → ⊥ }
     ensures allowed { AreAllowed first_books two_moves }
     ensures go_comes_once { AreAllowed first_books (Gives ∷ Gives ∷ []) → ⊥ }
     ensures arrives_too_early { AreAllowed first_books (Books 0 (record take { number = 2 }) ∷ []) → ⊥ }

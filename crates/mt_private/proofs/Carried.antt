@@ -24,7 +24,7 @@ use Rattle.mt_private.specs.declared.view.YardView.{YardView}
 use Rattle.mt_private.specs.OneByOne.{at_rest}
 use Rattle.mt_private.specs.Residents.{Opens, accessed_by, in_system, own_of, stepped_by, with_first, with_stored}
 use Rattle.mt_private.specs.YardRule.{with_one}
-use Rattle.mt_private.specs.YardPlays.{AccessesYard, ArrivesAgainYard, ArrivesYard, IsCallable, OfOne, OfPass, OfSeat, PassesYard, ReleasesYard, TakesYard, Tells, TurnsUnshown, WorksYard, YardSat, has_added}
+use Rattle.mt_private.specs.YardPlays.{AccessesYard, ArrivesAgainYard, ArrivesYard, IsCallable, OfOne, OfPass, OfSeat, PassesYard, ReleasesYard, TakesYard, TellsYardStep, TurnsUnshown, WorksYard, YardSat, has_added}
 use Rattle.mt_private.specs.YardCalls.{Lodges, Visits, done_by, done_in, stored_by, stored_in}
 use Rattle.mt_rendezvous.specs.declared.view.Added.TheVariants.{Never, Once}
 use Rattle.mt_rendezvous.specs.declared.view.Added.{Added}
@@ -153,20 +153,20 @@ module _ {seat : PassOf YardSat} {own : System} {added : Added} (r : Lodges seat
   pub told_pass : seat.me.0.root ≡ false → (i n : ℕ) (said : Spoken Op) (st : Step Op) (found : ℕ) (new : YardSat) → OfSeat seat.me.0.root i n said (has_added seat.me.0.held) st seat.me found new → OfPass i n said (in_first added) st seat.me found new
   told_pass pass i n said st found new tells = subst (λ (x : Bool × Bool). OfSeat x.0 i n said x.1 st seat.me found new) (λ j. (pass j, has_added (r.holds j))) tells
 
-  pub works_of : seat.me.0.root ≡ false → (slots i a : ℕ) → i ≡ seat.number + 2 → (new : YardSat) → Tells (table_step slots i a 0 none) seat.me a new → WorksYard (table_step slots i a 0 none) seat.me a new
+  pub works_of : seat.me.0.root ≡ false → (slots i a : ℕ) → i ≡ seat.number + 2 → (new : YardSat) → TellsYardStep (table_step slots i a 0 none) seat.me a new → WorksYard (table_step slots i a 0 none) seat.me a new
   works_of pass slots i a own new tells =
       let at : i ≡ suc (suc seat.number) = omega arith in
       subst (λ (w : ℕ). OfPass w a none (in_first added) (table_step slots i a 0 none) seat.me a new) at (told_pass pass i a none (table_step slots i a 0 none) a new tells)
 
-  pub accesses_of : seat.me.0.root ≡ false → (slots i a b : ℕ) (op : Op) → i ≡ seat.number + 2 → (found : ℕ) (new : YardSat) → Tells (table_step slots i a b (some op)) seat.me found new → AccessesYard (table_step slots i a b (some op)) seat.me found new
+  pub accesses_of : seat.me.0.root ≡ false → (slots i a b : ℕ) (op : Op) → i ≡ seat.number + 2 → (found : ℕ) (new : YardSat) → TellsYardStep (table_step slots i a b (some op)) seat.me found new → AccessesYard (table_step slots i a b (some op)) seat.me found new
   accesses_of pass slots i a b op own found new tells =
       let at : i ≡ suc (suc seat.number) = omega arith in
       subst (λ (w : ℕ). OfPass w a (some op) (in_first added) (table_step slots i a b (some op)) seat.me found new) at (told_pass pass i a (some op) (table_step slots i a b (some op)) found new tells)
 
-  pub arrives_again_of : seat.me.0.root ≡ false → (slots found : ℕ) (new : YardSat) → Tells (table_step slots 1 1 0 none) seat.me found new → ArrivesAgainYard (table_step slots 1 1 0 none) seat.me found new
+  pub arrives_again_of : seat.me.0.root ≡ false → (slots found : ℕ) (new : YardSat) → TellsYardStep (table_step slots 1 1 0 none) seat.me found new → ArrivesAgainYard (table_step slots 1 1 0 none) seat.me found new
   arrives_again_of pass slots found new tells = told_pass pass 1 1 none (table_step slots 1 1 0 none) found new tells
 
-  pub releases_of : seat.me.0.root ≡ false → (slots found : ℕ) (new : YardSat) → Tells (table_step slots 1 0 0 none) seat.me found new → ReleasesYard (table_step slots 1 0 0 none) seat.me found new
+  pub releases_of : seat.me.0.root ≡ false → (slots found : ℕ) (new : YardSat) → TellsYardStep (table_step slots 1 0 0 none) seat.me found new → ReleasesYard (table_step slots 1 0 0 none) seat.me found new
   releases_of pass slots found new tells = told_pass pass 1 0 none (table_step slots 1 0 0 none) found new tells
 
   -- a step of the update on its own system
@@ -224,15 +224,15 @@ module _ {seat : PassOf YardSat} {own : System} {added : Added} (r : Lodges seat
 
 -- what a step on the first count told, by what the pass has added
 pub takes_of : {seat : PassOf YardSat} {own : System} (r : Lodges seat own Never) → seat.me.0.root ≡ false → (slots found : ℕ) (new : YardSat)
-    → Tells (table_step slots 0 0 0 none) seat.me found new → TakesYard (table_step slots 0 0 0 none) seat.me found new
+    → TellsYardStep (table_step slots 0 0 0 none) seat.me found new → TakesYard (table_step slots 0 0 0 none) seat.me found new
 takes_of r pass slots found new tells = told_pass r pass 0 0 none (table_step slots 0 0 0 none) found new tells
 
 pub arrives_of : {seat : PassOf YardSat} {own : System} (r : Lodges seat own Never) → seat.me.0.root ≡ false → (slots found : ℕ) (new : YardSat)
-    → Tells (table_step slots 0 1 0 none) seat.me found new → ArrivesYard (table_step slots 0 1 0 none) seat.me found new
+    → TellsYardStep (table_step slots 0 1 0 none) seat.me found new → ArrivesYard (table_step slots 0 1 0 none) seat.me found new
 arrives_of r pass slots found new tells = told_pass r pass 0 1 none (table_step slots 0 1 0 none) found new tells
 
 pub passes_of : {seat : PassOf YardSat} {own : System} (r : Lodges seat own Once) → seat.me.0.root ≡ false → (slots found : ℕ) (new : YardSat)
-    → Tells (table_step slots 0 0 0 none) seat.me found new → PassesYard (table_step slots 0 0 0 none) seat.me found new
+    → TellsYardStep (table_step slots 0 0 0 none) seat.me found new → PassesYard (table_step slots 0 0 0 none) seat.me found new
 passes_of r pass slots found new tells = told_pass r pass 0 0 none (table_step slots 0 0 0 none) found new tells
 
 -- ---- a pass on its way

@@ -37,7 +37,7 @@ use Rattle.mt_private.specs.declared.view.Resident.{Resident}
 use Rattle.mt_private.specs.declared.visiting.Visited.{Visited}
 use Rattle.mt_private.specs.declared.visiting.Visited.TheVariants.{Cancelled, Complete}
 use Rattle.mt_private.specs.Jobs.{AreOpen, FitsJob, IsOpen, answers_in, ops_in}
-use Rattle.mt_private.specs.Left.{AreOwnsOf, Leaves}
+use Rattle.mt_private.specs.Left.{AreOwnsOf, YardEnds}
 use Rattle.mt_private.specs.OneByOne.{AreOneByOne, OneByOne, at_rest, jobs_one_by_one, ran, ran_each}
 use Rattle.mt_private.specs.Own.{own_memory, own_system}
 use Rattle.mt_private.specs.Residents.{FitsYard, held_of, pages_at, pages_left, system_of, yard_machine}
@@ -119,7 +119,7 @@ told_before Complete pass stay w = w.3
 told_before Cancelled pass stay w = w.3
 
 module _ (host : SeatOf YardSat) (jobs : List Job) (owns : List (Option System)) (told : List JobAnswers) (r : Returned host jobs owns told) (size : length jobs ≡ length host.start.cpus) (long : length told ≡ length jobs)
-    (s : System) (leaves : Leaves host.start host.me.0 s) (owned : AreOwnsOf host.start owns s) where
+    (s : System) (leaves : YardEnds host.start host.me.0 s) (owned : AreOwnsOf host.start owns s) where
   abbrev t : Start
   t = host.start
 

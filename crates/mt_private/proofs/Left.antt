@@ -30,9 +30,9 @@ use Rattle.mt_private.specs.OneByOne.{at_rest}
 use Rattle.mt_private.specs.Own.{own_memory, own_system, pages_of, words_on}
 use Rattle.mt_private.specs.Pages.{names}
 use Rattle.mt_private.specs.Residents.{StandsFor, Yard, held_of, pages_at, pages_left, system_of, yard_machine, scene}
-use Rattle.mt_private.specs.YardCalls.{Keeps}
+use Rattle.mt_private.specs.YardCalls.{KeepsOwn}
 use Rattle.mt_private.specs.YardRule.{AreAt, MeetsYard, as_view}
-use Rattle.mt_private.specs.Left.{AreAsGathered, AreBack, AreOwnsOf, AreParts, IsPart, Leaves, less, over, processors_in, with_words_of, word_by_word}
+use Rattle.mt_private.specs.Left.{AreAsGathered, AreBack, AreOwnsOf, AreParts, IsOnePart, YardEnds, less, over, processors_in, with_words_of, word_by_word}
 use Rattle.mt_private.proofs.Copies.{as_many, at_back, at_front, length_on}
 use Rattle.mt_private.proofs.Lists.{got}
 use Rattle.mt_private.proofs.Residents.Paths.{uncalled_reached}
@@ -250,7 +250,7 @@ one_by_own t a b ha hb many too same left =
 
 -- ---- where a yard ends
 
-module _ (t : Start) (all : List Resident) (s : System) (stands : StandsFor t all s) (v : YardView) (same : AreAt all v.held) (owns : List (Option System)) (keeps : Keeps v owns) where
+module _ (t : Start) (all : List Resident) (s : System) (stands : StandsFor t all s) (v : YardView) (same : AreAt all v.held) (owns : List (Option System)) (keeps : KeepsOwn v owns) where
   pub its_own : AreOwnsOf t owns s
   its_own k o at =
       let y = keeps k o at in
@@ -287,7 +287,7 @@ mapped_at (u ∷ vs) zero v at = ap (λ (w : YardView). some (as_view w)) (some-
 mapped_at (u ∷ vs) (suc j) v at = mapped_at vs j v at
 
 module _ (key : Key) (s : State Op YardView) (m : MeetsYard key s) (id : ℕ) (v : YardView) (at : get_elem? s.views id ≡ some v) (root : v.root ≡ true) where
-  pub leaves : Leaves (start_of key) v m.system
+  pub leaves : YardEnds (start_of key) v m.system
   leaves =
       let go : v.go ≡ m.go = ((m.sits id (as_view v) (mapped_at s.views id v at)).root root).1 in
       record {
@@ -324,7 +324,7 @@ processors_more (Some x ∷ xs) o = ap (λ (ps : List Processor). x.processors +
 pub front_parts : (m : Memory) (xs ys : List (Option System)) → AreParts m (xs ++ ys) → AreParts m xs
 front_parts m xs ys h k x at = h k x (at_front xs ys k x at)
 
-pub last_part : (m : Memory) (xs : List (Option System)) (x : Option System) → AreParts m (xs ++ x ∷ []) → IsPart m x
+pub last_part : (m : Memory) (xs : List (Option System)) (x : Option System) → AreParts m (xs ++ x ∷ []) → IsOnePart m x
 last_part m xs x h = h (length xs) x (at_back xs x)
 
 -- the words stay as many

@@ -18,7 +18,7 @@ use Rattle.mt_private.specs.declared.visiting.Visited.{Visited}
 use Rattle.mt_private.specs.declared.visiting.Visited.TheVariants.{Cancelled, Complete}
 use Rattle.mt_private.specs.declared.visitor.Visitor.{Visitor}
 use Rattle.mt_private.specs.Visitors.{CameBack, HasCome, IsFresh, Returned, pass_to, stay_at}
-use Rattle.mt_private.specs.YardCalls.{Keeps, Lodges, Stay, VisitEnds}
+use Rattle.mt_private.specs.YardCalls.{KeepsOwn, Lodges, Stay, VisitEnds}
 use Rattle.mt_private.specs.YardPlays.{YardSat, as_seat}
 use Rattle.mt_private.specs.YardRule.{yard_both}
 use Rattle.mt_private.proofs.Lists.{at_end, got}
@@ -99,7 +99,7 @@ module _ (host : SeatOf YardSat) (jobs : List Job) where
     numbered = its_end.numbered
 
     pub returned_more : (its : TableId) (me : YardSat) (after : List (Option System)) (later : List JobAnswers) → IsRoot (as_seat (record host { its = its; me = me })) → me.0 ≡ yard_both host.me.0 v.pass.seat.me.0 → after ≡ set owns v.pass.number (Some v.core.system)
-        → Keeps me.0 after → later ≡ told ++ v.told ∷ [] → Returned (record host { its = its; me = me }) jobs after later
+        → KeepsOwn me.0 after → later ≡ told ++ v.told ∷ [] → Returned (record host { its = its; me = me }) jobs after later
     returned_more its me after later root view set_is keeps more =
         let at_k : after ≡ set owns (length told) (Some v.core.system) = set_is ∙ ap (λ (n : ℕ). set owns n (Some v.core.system)) numbered in
         record {

@@ -28,9 +28,9 @@ use Rattle.mt_private.specs.declared.visiting.Visited.{Visited}
 use Rattle.mt_private.specs.declared.visiting.YardPass.{YardPass}
 use Rattle.mt_private.specs.declared.visitor.Visitor.{Visitor}
 use Rattle.mt_private.specs.Gathered.{AreGathered, IsGathered, IsRest, pass_of}
-use Rattle.mt_private.specs.Left.{AreBack, Leaves}
+use Rattle.mt_private.specs.Left.{AreBack, YardEnds}
 use Rattle.mt_private.specs.Visitors.{AreWaiting, HasCome, IsFresh, IsNew, Returned}
-use Rattle.mt_private.specs.YardCalls.{AreIn, IsDrained, IsLeft, Keeps, Lodges, LodgesAtMostOnce, Stay, VisitEnds, Visits, done_in}
+use Rattle.mt_private.specs.YardCalls.{AreIn, IsDrained, IsLeft, KeepsOwn, Lodges, LodgesAtMostOnce, Stay, VisitEnds, Visits, done_in}
 use Rattle.mt_private.specs.YardPlays.{Made, YardSat, as_seat, has_added}
 
 -- from what it was gathered
@@ -89,7 +89,7 @@ HoldsAsBefore old new = (held_by new ≡ held_by old) × (new.owns ≡ old.owns)
 
 -- each own system that came back is of a resident that it holds
 abbrev pub KeepsOwns : Host → Type 0
-KeepsOwns host = Keeps (host_view host) host.owns.items
+KeepsOwns host = KeepsOwn (host_view host) host.owns.items
 
 -- every guest has come back
 abbrev pub AllBackIn : Yard → Host → Type 0
@@ -97,7 +97,7 @@ AllBackIn yard host = AreBack yard.count (host_view host) host.owns.items
 
 -- the yard ends with this system
 abbrev pub LeavesIn : Yard → Host → System → Type 0
-LeavesIn yard host s = Leaves (start_at yard) (host_view host) s
+LeavesIn yard host s = YardEnds (start_at yard) (host_view host) s
 
 -- ---- passes and guests
 

@@ -10,7 +10,7 @@ use Rattle.mt_private.specs.declared.view.Resident.{Resident}
 use Rattle.mt_private.specs.declared.view.YardView.{YardView}
 use Rattle.mt_private.specs.Own.{own_system}
 use Rattle.mt_private.specs.Residents.{Yard, pages_at, system_of, scene}
-use Rattle.mt_private.specs.YardCalls.{Keeps}
+use Rattle.mt_private.specs.YardCalls.{KeepsOwn}
 use Rattle.mt_private.specs.YardRule.{AreAt}
 
 -- ---- words of own systems, which are 0 outside their pages
@@ -45,11 +45,11 @@ with_words_of m None = m
 with_words_of m (Some o) = record m { words = word_by_word over o.memory.words m.words }
 
 -- one processor, and as many words
-abbrev pub IsPart : Memory → Option System → Type 0
-IsPart m x = (o : System) × (x ≡ Some o) × (length o.processors ≡ 1) × (length o.memory.words ≡ length m.words)
+abbrev pub IsOnePart : Memory → Option System → Type 0
+IsOnePart m x = (o : System) × (x ≡ Some o) × (length o.processors ≡ 1) × (length o.memory.words ≡ length m.words)
 
 abbrev pub AreParts : Memory → List (Option System) → Type 0
-AreParts m xs = (k : ℕ) (x : Option System) → slice_get xs k ≡ Some x → IsPart m x
+AreParts m xs = (k : ℕ) (x : Option System) → slice_get xs k ≡ Some x → IsOnePart m x
 
 -- ---- the end of a yard
 
@@ -57,10 +57,10 @@ AreParts m xs = (k : ℕ) (x : Option System) → slice_get xs k ≡ Some x → 
 pub record AreBack (count : ℕ) (v : YardView) (owns : List (Option System)) : Type 0 where
   pub size : length owns ≡ count
   pub each : (k : ℕ) → k < count → (o : System) × (slice_get owns k ≡ Some (Some o))
-  pub keeps : Keeps v owns
+  pub keeps : KeepsOwn v owns
 
 -- where a yard ends: residents and what the host said stand for this system, those that the host has are among them, and a pass that it took back was shown the cancel only where it gave it
-pub record Leaves (t : Start) (v : YardView) (s : System) : Type 0 where
+pub record YardEnds (t : Start) (v : YardView) (s : System) : Type 0 where
   pub all : List Resident
   pub first : ℕ
   pub second : ℕ

@@ -20,7 +20,7 @@ use Rattle.mt_rendezvous.specs.declared.view.Added.{Added}
 use Rattle.mt_rendezvous.specs.declared.view.Added.TheVariants.{Never}
 use Rattle.mt_rendezvous.specs.declared.view.Held.{Held}
 use Rattle.mt_rendezvous.specs.declared.view.Start.{Start}
-use Rattle.mt_rendezvous.specs.Station.{Fits, added_of, again_of, broadcast, cpu_of, go_weight, held, in_second, order_of, rise, total}
+use Rattle.mt_rendezvous.specs.Station.{FitsPhase, added_of, again_of, broadcast, cpu_of, go_weight, held, in_second, order_of, rise, total}
 use Rattle.mt_rendezvous.specs.Plays.{CanFollow, after_event}
 use Rattle.mt_private.specs.declared.view.Resident.{Resident}
 use Rattle.mt_private.specs.OneByOne.{at_rest}
@@ -68,8 +68,8 @@ pub record StandsFor (t : Start) (all : List Resident) (s : System) : Type 0 whe
 
 -- how a processor's phase and what its pass has added go together: as at a rendezvous, and before it takes it runs
 abbrev pub FitsYard : Go → Added → Phase → Type 0
-FitsYard go added Running = (added ≡ Never) ⊎ Fits go added Running
-FitsYard go added other = Fits go added other
+FitsYard go added Running = (added ≡ Never) ⊎ FitsPhase go added Running
+FitsYard go added other = FitsPhase go added other
 
 pub record FitsResident (t : Start) (go : Go) (h : Held) : Type 0 where
   pub fits : FitsYard go h.added h.cpu.phase
@@ -111,7 +111,7 @@ abbrev pub move_of : ℕ → Resident → Option MachineEvent → Move
 move_of k w e = record { number = k; becomes = w; event = e }
 
 -- one resident moves so: the machine takes the event, which was enabled, or stays as it is
-pub record Moves (t : Start) (now : Scene) (m : Move) : Type 0 where
+pub record ResidentMoves (t : Start) (now : Scene) (m : Move) : Type 0 where
   pub system : System
   pub enabled : CanFollow (yard_machine t now.go now.system) m.event
   pub becomes : yard_machine t now.go system ≡ after_event (yard_machine t now.go now.system) m.event
@@ -151,8 +151,8 @@ pub record Yard (t : Start) (now : Scene) (first second : ℕ) : Type 0 where
   pub second_count : second ≡ total again_of (map held_of now.all)
 
 -- one resident moves, as above, and the counts are these then
-pub record Follows (t : Start) (now : Scene) (m : Move) (first second : ℕ) : Type 0 where
-  pub moves : Moves t now m
+pub record ResidentFollows (t : Start) (now : Scene) (m : Move) (first second : ℕ) : Type 0 where
+  pub moves : ResidentMoves t now m
   pub first_count : first ≡ total added_of (map held_of (slice_set now.all m.number m.becomes)) + go_weight now.go
   pub second_count : second ≡ total again_of (map held_of (slice_set now.all m.number m.becomes))
 

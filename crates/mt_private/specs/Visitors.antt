@@ -24,11 +24,11 @@ use Rattle.mt_private.specs.declared.visiting.Visited.TheVariants.{Cancelled}
 use Rattle.mt_private.specs.declared.visitor.Visitor.{Visitor}
 use Rattle.mt_private.specs.Gathered.{AreGathered, IsGathered, pass_of}
 use Rattle.mt_private.specs.Jobs.{AreOpen, FitsJob, IsOpen, answers_in}
-use Rattle.mt_private.specs.Left.{AreOwnsOf, Leaves}
+use Rattle.mt_private.specs.Left.{AreOwnsOf, YardEnds}
 use Rattle.mt_private.specs.OneByOne.{jobs_one_by_one}
 use Rattle.mt_private.specs.Own.{own_system}
 use Rattle.mt_private.specs.Residents.{pages_at, system_of}
-use Rattle.mt_private.specs.YardCalls.{AreIn, Keeps, Stay, VisitEnds}
+use Rattle.mt_private.specs.YardCalls.{AreIn, KeepsOwn, Stay, VisitEnds}
 use Rattle.mt_private.specs.YardPlays.{YardSat, as_seat}
 
 -- the own system of processor k, as it was gathered
@@ -92,7 +92,7 @@ pub record CameBack (host : SeatOf YardSat) (job : Job) (k : ℕ) (owns : List (
 pub record Returned (host : SeatOf YardSat) (jobs : List Job) (owns : List (Option System)) (told : List JobAnswers) : Type 0 where
   pub root : IsRoot (as_seat host)
   pub size : length owns ≡ length host.start.cpus
-  pub keeps : Keeps host.me.0 owns
+  pub keeps : KeepsOwn host.me.0 owns
   pub each : (k : ℕ) (job : Job) (r : JobAnswers) → slice_get jobs k ≡ Some job → slice_get told k ≡ Some r → CameBack host job k owns r
 
 -- the whole update can be done in one piece, and then the accesses after it, for whose answers there are places
@@ -113,7 +113,7 @@ pub record CanGoOn (m : Machine) (goal : RegisterFile) (jobs : List Job) (told :
 abbrev pub EndsOneByOne : Type 0
 EndsOneByOne =
     (host : SeatOf YardSat) (jobs : List Job) (owns : List (Option System)) (told : List JobAnswers) (s : System)
-    → Returned host jobs owns told → length jobs ≡ length host.start.cpus → length told ≡ length jobs → Leaves host.start host.me.0 s → AreOwnsOf host.start owns s → host.me.0.go ≡ Given
+    → Returned host jobs owns told → length jobs ≡ length host.start.cpus → length told ≡ length jobs → YardEnds host.start host.me.0 s → AreOwnsOf host.start owns s → host.me.0.go ≡ Given
     → (s ≡ (jobs_one_by_one (system_of host.start) host.start.goal jobs).left.system)
     × (map (answers_in Before) told ≡ (jobs_one_by_one (system_of host.start) host.start.goal jobs).before)
     × (map (answers_in After) told ≡ (jobs_one_by_one (system_of host.start) host.start.goal jobs).after)

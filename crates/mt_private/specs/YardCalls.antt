@@ -60,8 +60,8 @@ abbrev pub LodgesAtMostOnce : PassOf YardSat → System → Type 0
 LodgesAtMostOnce pass own = (added : Added) × Lodges pass own added × (in_second added ≡ false)
 
 -- what a host keeps by its number is of a resident that came back
-abbrev pub Keeps : YardView → List (Option System) → Type 0
-Keeps v owns = (k : ℕ) (o : System) → slice_get owns k ≡ Some (Some o) → (i : ℕ) × (y : Resident) × (get_elem? v.held i ≡ some y) × (y.held.number ≡ k) × (own_of y ≡ o)
+abbrev pub KeepsOwn : YardView → List (Option System) → Type 0
+KeepsOwn v owns = (k : ℕ) (o : System) → slice_get owns k ≡ Some (Some o) → (i : ℕ) × (y : Resident) × (get_elem? v.held i ≡ some y) × (y.held.number ≡ k) × (own_of y ≡ o)
 
 -- each of its processors is in this phase
 abbrev pub AreIn : Phase → System → Type 0

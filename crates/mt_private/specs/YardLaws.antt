@@ -22,8 +22,8 @@ use Rattle.mt_rendezvous.specs.Plays.{CanFollow, after_event, arrive, arrive_aga
 use Rattle.mt_private.specs.declared.view.Resident.{Resident}
 use Rattle.mt_private.specs.declared.view.YardView.{YardView}
 use Rattle.mt_private.specs.OneByOne.{at_rest}
-use Rattle.mt_private.specs.Residents.{Decides, Follows, Opens, Yard, accessed_by, own_of, stepped_by, system_of, with_held, with_stored, scene, move_of}
-use Rattle.mt_private.specs.YardPlays.{Tells, YardSat, word_after}
+use Rattle.mt_private.specs.Residents.{Decides, ResidentFollows, Opens, Yard, accessed_by, own_of, stepped_by, system_of, with_held, with_stored, scene, move_of}
+use Rattle.mt_private.specs.YardPlays.{TellsYardStep, YardSat, word_after}
 use Rattle.mt_rendezvous.specs.declared.view.Added.TheVariants.{Never, Once, Twice}
 use Rattle.mt_rendezvous.specs.declared.view.Added.{Added}
 use Rattle.mt_private.specs.YardRule.{MeetsYard, first_yard_view, its_machine, with_one, with_decision, yard_both, yard_left, yard_right, yard_spent}
@@ -39,31 +39,31 @@ pub record Has (all : List Resident) (k : ℕ) (y : Resident) (added : Added) : 
 abbrev pub LoadTakes : Type 0
 LoadTakes =
     (t : Start) (all : List Resident) (go : Go) (first second : ℕ) (s : System) (k : ℕ) (y : Resident) → Yard t (scene all go s) first second → Has all k y Never → y.held.cpu.phase ≡ Running
-    → first < 4294967296 → Follows t (scene all go s) (move_of k (stepped_by t Take y) (Some (Steps k Take))) first second
+    → first < 4294967296 → ResidentFollows t (scene all go s) (move_of k (stepped_by t Take y) (Some (Steps k Take))) first second
 
 -- any load by which nobody moves is no event
 abbrev pub LoadStays : Type 0
 LoadStays =
     (t : Start) (all : List Resident) (go : Go) (first second : ℕ) (s : System) (k : ℕ) (y : Resident) → Yard t (scene all go s) first second → get_elem? all k ≡ some y
-    → Follows t (scene all go s) (move_of k y None) first second
+    → ResidentFollows t (scene all go s) (move_of k y None) first second
 
 abbrev pub LoadPasses : Type 0
 LoadPasses =
     (t : Start) (all : List Resident) (go : Go) (first second : ℕ) (s : System) (k : ℕ) (y : Resident) → Yard t (scene all go s) first second → Has all k y Once → y.held.cpu.phase ≡ Arrived
-    → first ≡ length t.cpus + 1 → Follows t (scene all go s) (move_of k (with_held y (does t Pass y.held)) (Some (Steps k Pass))) first second
+    → first ≡ length t.cpus + 1 → ResidentFollows t (scene all go s) (move_of k (with_held y (does t Pass y.held)) (Some (Steps k Pass))) first second
 
 abbrev pub LoadLeaves : Type 0
 LoadLeaves =
     (t : Start) (all : List Resident) (go : Go) (first second : ℕ) (s : System) (k : ℕ) (y : Resident) → Yard t (scene all go s) first second → Has all k y Once
-    → (y.held.cpu.phase ≡ Taken) ⊎ (y.held.cpu.phase ≡ Arrived) → 4294967296 ≤ first → Follows t (scene all go s) (move_of k (with_held y (does t Leave y.held)) (Some (Steps k Leave))) first second
+    → (y.held.cpu.phase ≡ Taken) ⊎ (y.held.cpu.phase ≡ Arrived) → 4294967296 ≤ first → ResidentFollows t (scene all go s) (move_of k (with_held y (does t Leave y.held)) (Some (Steps k Leave))) first second
 
 -- ---- an addition to the first count
 
 abbrev pub AdditionArrives : Type 0
 AdditionArrives =
     (t : Start) (all : List Resident) (go : Go) (first second : ℕ) (s : System) (k : ℕ) (y : Resident) → Yard t (scene all go s) first second → Has all k y Never → y.held.cpu.phase ≡ Taken
-    → (first < 4294967296 → Follows t (scene all go s) (move_of k (with_held y (arrive t y.held)) (Some (Steps k Arrive))) (first + 1) second)
-    × (4294967296 ≤ first → Follows t (scene all go s) (move_of k (with_held y (late y.held)) None) (first + 1) second)
+    → (first < 4294967296 → ResidentFollows t (scene all go s) (move_of k (with_held y (arrive t y.held)) (Some (Steps k Arrive))) (first + 1) second)
+    × (4294967296 ≤ first → ResidentFollows t (scene all go s) (move_of k (with_held y (late y.held)) None) (first + 1) second)
 
 -- the coordinator's
 abbrev pub AdditionDecides : Type 0
@@ -76,12 +76,12 @@ AdditionDecides =
 abbrev pub AdditionArrivesAgain : Type 0
 AdditionArrivesAgain =
     (t : Start) (all : List Resident) (go : Go) (first second : ℕ) (s : System) (k : ℕ) (y : Resident) → Yard t (scene all go s) first second → Has all k y Once → y.held.cpu.phase ≡ Restored
-    → Follows t (scene all go s) (move_of k (with_held y (arrive_again t y.held)) (Some (Steps k ArriveAgain))) first (second + 1)
+    → ResidentFollows t (scene all go s) (move_of k (with_held y (arrive_again t y.held)) (Some (Steps k ArriveAgain))) first (second + 1)
 
 abbrev pub LoadReleases : Type 0
 LoadReleases =
     (t : Start) (all : List Resident) (go : Go) (first second : ℕ) (s : System) (k : ℕ) (y : Resident) → Yard t (scene all go s) first second → Has all k y Twice → y.held.cpu.phase ≡ Arrived2
-    → second ≡ length t.cpus → Follows t (scene all go s) (move_of k (with_held y (does t Release y.held)) (Some (Steps k Release))) first second
+    → second ≡ length t.cpus → ResidentFollows t (scene all go s) (move_of k (with_held y (does t Release y.held)) (Some (Steps k Release))) first second
 
 -- ---- a store of the own event word
 
@@ -89,14 +89,14 @@ LoadReleases =
 abbrev pub StoreAccesses : Type 0
 StoreAccesses =
     (t : Start) (all : List Resident) (go : Go) (first second : ℕ) (s : System) (k : ℕ) (y : Resident) (op : Op) (n : ℕ) → Yard t (scene all go s) first second → get_elem? all k ≡ some y
-    → y.held.cpu.phase ≡ Running → FitsOp op → Follows t (scene all go s) (move_of k (with_stored (accessed_by op y) n) (Some (Accesses k op))) first second × ((access s k op).answer ≡ (access (own_of y) 0 op).answer)
+    → y.held.cpu.phase ≡ Running → FitsOp op → ResidentFollows t (scene all go s) (move_of k (with_stored (accessed_by op y) n) (Some (Accesses k op))) first second × ((access s k op).answer ≡ (access (own_of y) 0 op).answer)
 
 -- the event that is due between the barriers
 abbrev pub StoreWorks : Type 0
 StoreWorks =
     (t : Start) (all : List Resident) (go : Go) (first second : ℕ) (s : System) (k : ℕ) (y : Resident) (e : Event) (n : ℕ) → Yard t (scene all go s) first second → Has all k y Once
     → is_local y.held.cpu.phase ≡ true → ((o : Order) (ps : List Processor) → due o ps y.held.cpu y.held.cpu.phase ≡ Some e)
-    → Follows t (scene all go s) (move_of k (with_stored (stepped_by t e y) n) (Some (Steps k e))) first second
+    → ResidentFollows t (scene all go s) (move_of k (with_stored (stepped_by t e y) n) (Some (Steps k e))) first second
 
 -- ---- the table
 
@@ -151,7 +151,7 @@ abbrev pub MoveIsOneEvent : Type 0
 MoveIsOneEvent =
     (key : Key) (s : YardState) (m : MeetsYard key s) (id : ℕ) (v : YardView) (y : Resident) → get_elem? s.views id ≡ some v → v.held ≡ y ∷ []
     → (i n : ℕ) (w : Resident) (shown : Option ℕ) (cancel : Bool) (e : Option MachineEvent) → w.held.number ≡ y.held.number → Stores y i n w → (cancel ≡ true → m.go ≡ Cancelled)
-    → Follows (start_of key) (scene m.all m.go m.system) (move_of y.held.number w e) (slice_index (slice_set s.words i n) 0) (slice_index (slice_set s.words i n) 1)
+    → ResidentFollows (start_of key) (scene m.all m.go m.system) (move_of y.held.number w e) (slice_index (slice_set s.words i n) 0) (slice_index (slice_set s.words i n) 1)
     → IsOneEvent key s (record { words = slice_set s.words i n; homes = s.homes; views = slice_set s.views id (with_one v w shown cancel) }) m e
 
 -- a step of the root by which it says so
@@ -213,12 +213,12 @@ pub record IsOneStep (key : Key) (s : YardState) (m : MeetsYard key s) (t : Yard
 -- so it is with each step that the play lets a seat make in a yard that meets the rule, whatever the word, the operands and the seat
 abbrev pub EachStepFollows : Type 0
 EachStepFollows =
-    (key : Key) (s : YardState) (m : MeetsYard key s) (id : ℕ) (st : Step Op) (me new : YardSat) → get_elem? s.views id ≡ some me.0 → Tells st me (slice_index s.words st.word) new
+    (key : Key) (s : YardState) (m : MeetsYard key s) (id : ℕ) (st : Step Op) (me new : YardSat) → get_elem? s.views id ≡ some me.0 → TellsYardStep st me (slice_index s.words st.word) new
     → IsOneStep key s m (yard_step id st new)
 
 -- a load of the second count by a pass shows its seat what it found, and no other step shows it anything
 abbrev pub ShownIsFound : Type 0
-ShownIsFound = (st : Step Op) (me new : YardSat) (found : ℕ) → Tells st me found new → (IsLoad st 1 × (new.0.shown ≡ Some found)) ⊎ ((IsLoad st 1 → ⊥) × (new.0.shown ≡ me.0.shown))
+ShownIsFound = (st : Step Op) (me new : YardSat) (found : ℕ) → TellsYardStep st me found new → (IsLoad st 1 × (new.0.shown ≡ Some found)) ⊎ ((IsLoad st 1 → ⊥) × (new.0.shown ≡ me.0.shown))
 
 -- ---- what a seat tells of its yard
 

@@ -17,7 +17,7 @@ use Rattle.mt_rendezvous.specs.Calls.{SeatOf}
 use Rattle.mt_rendezvous.specs.Plays.{Sat, arrive, arrive_again, does, late, own_event}
 use Rattle.mt_private.specs.declared.view.Resident.{Resident}
 use Rattle.mt_private.specs.declared.view.YardView.{YardView}
-use Rattle.mt_private.specs.Residents.{Decides, Follows, Opens, Yard, accessed_by, stepped_by, with_held, with_stored, scene, move_of}
+use Rattle.mt_private.specs.Residents.{Decides, ResidentFollows, Opens, Yard, accessed_by, stepped_by, with_held, with_stored, scene, move_of}
 use Rattle.mt_rendezvous.specs.Station.{in_first}
 use Rattle.mt_private.specs.YardRule.{as_view, with_one, with_decision}
 
@@ -69,7 +69,7 @@ pub record PassMoves (t : Start) (y w : Resident) (e : Option MachineEvent) : Ty
   pub yard : Yard t (scene all go system) first second
   pub at : get_elem? all y.held.number ≡ some y
   pub later : ℕ × ℕ
-  pub follows : Follows t (scene all go system) (move_of y.held.number w e) later.0 later.1
+  pub follows : ResidentFollows t (scene all go system) (move_of y.held.number w e) later.0 later.1
 
 -- what a step leaves in a view: its resident, the second count that it was shown, and whether it was shown the cancel
 pub record LeftAs : Type 0 where
@@ -206,12 +206,12 @@ has_added [] = false
 has_added (y ∷ ys) = in_first y.held.added
 
 -- each step of a seat of a yard is one of these, and tells what that one does
-abbrev pub Tells : Step Op → YardSat → ℕ → YardSat → Type 0
-Tells st me found new = OfSeat me.0.root st.word st.first st.said (has_added me.0.held) st me found new
+abbrev pub TellsYardStep : Step Op → YardSat → ℕ → YardSat → Type 0
+TellsYardStep st me found new = OfSeat me.0.root st.word st.first st.said (has_added me.0.held) st me found new
 
 -- the seat becomes the other by a step of word i with this operand
 abbrev pub Made : ℕ → ℕ → YardSat → YardSat → Type 0
-Made i a me new = (found : ℕ) × Tells (step 0 i a 0 none) me found new
+Made i a me new = (found : ℕ) × TellsYardStep (step 0 i a 0 none) me found new
 
 -- what a step leaves in its word: in a count the sum, in an event word what is stored, or what an exchange puts there
 abbrev pub own_word_after : Spoken Op → Step Op → ℕ → ℕ

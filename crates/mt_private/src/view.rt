@@ -44,9 +44,9 @@ impl TableRule<Op, YardView, Key> for Lodging {
 pub struct YardTurn;
 
 impl Play<Op, YardView> for YardTurn {
-    ghost use Rattle.mt_private.specs.YardPlays.{Tells};
+    ghost use Rattle.mt_private.specs.YardPlays.{TellsYardStep};
 
-    ghost then = { Tells };
+    ghost then = { TellsYardStep };
 }
 
 /// The root gives its first resident away, and takes one back. Neither is an event.

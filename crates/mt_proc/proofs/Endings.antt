@@ -12,14 +12,14 @@ use Rattle.mt_stream.specs.Transcript.{Transcript, told_from, told_step}
 use Rattle.mt_proc.specs.declared.request.Request.{Request}
 use Rattle.mt_proc.specs.declared.request.ProcFault.{ProcFault}
 use Rattle.mt_proc.specs.After.{Served}
-use Rattle.mt_proc.specs.Proc.{Answer, RequestState, begins, in_dump, in_requests, of_head, of_request, proc_end, proc_step, proc_transcript, situation_of}
+use Rattle.mt_proc.specs.Proc.{BeganRequests, RequestState, begins, in_dump, in_requests, of_head, of_request, proc_end, proc_step, proc_transcript, situation_of}
 use Rattle.mt_proc.specs.Requests.{request_of}
 
 abbrev IsEnd : Status → Type 0
 IsEnd status = (status ≡ Done) ⊎ (status ≡ Refused) ⊎ (status ≡ BadText)
 
 -- an answer that ends the text does so with one of them
-abbrev Ends : Answer → Type 0
+abbrev Ends : BeganRequests → Type 0
 Ends answer = MatchResult answer (λ step. ⊤) (λ last. IsEnd last.status)
 
 of_dump : (dump : Dump) (fault : Option (ℕ × Fault)) → Ends (begins dump fault)
@@ -40,7 +40,7 @@ step_ends : (cpus number : ℕ) (line : List ℕ) (p : RequestState) → Ends (p
 step_ends cpus number line (in_dump before) = of_dump_line (step_in_dump (situation_of cpus) before number line (ends_dump line))
 step_ends cpus number line (in_requests now) = of_line now (request_of number line)
 
-answer_ends : (answer : Answer) (rest : RequestState → Transcript) → Ends answer → ((p : RequestState) → IsEnd (rest p).status) → IsEnd (told_step rest answer).status
+answer_ends : (answer : BeganRequests) (rest : RequestState → Transcript) → Ends answer → ((p : RequestState) → IsEnd (rest p).status) → IsEnd (told_step rest answer).status
 answer_ends (Ok step) rest ends behind = behind step.1
 answer_ends (Err last) rest ends behind = ends
 

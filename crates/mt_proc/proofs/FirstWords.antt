@@ -6,7 +6,7 @@ use Rattle.mt_text.specs.Text.{words_of}
 use Rattle.mt_text.specs.Words.{place_of, text_of}
 use Rattle.mt_script.specs.Numbers.{with}
 use Rattle.mt_script.proofs.FirstWords.{by_length, size, word_first}
-use Rattle.mt_proc.specs.Requests.{Answer, asked_by, by_heads, count_fault, fault_at, request_in, request_of}
+use Rattle.mt_proc.specs.Requests.{ReadRequest, asked_by, by_heads, count_fault, fault_at, request_in, request_of}
 use Rattle.mt_proc.specs.declared.request.ProcReason.TheVariants.{BadLine}
 
 module _ (words : List (ℕ × List ℕ)) (many : 7 ≤ length words) (number : ℕ) where
@@ -41,7 +41,7 @@ asked_first number words = by_length words (asked_by number) (λ many.
 
 -- ---- lines without words
 
-none_asked : (answer : Answer) → with answer (λ request. Ok (Some request)) ≡ Ok None → ⊥
+none_asked : (answer : ReadRequest) → with answer (λ request. Ok (Some request)) ≡ Ok None → ⊥
 none_asked (Ok request) is = cc is
 none_asked (Err fault) is = cc is
 

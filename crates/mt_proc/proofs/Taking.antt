@@ -5,7 +5,7 @@ use Rattle.mt_ports.specs.Puts.{AppendsFront}
 use Rattle.mt_ports.specs.declared.status.Failed.{Failed}
 use Rattle.mt_stream.specs.declared.ending.Stop.{Stop}
 use Rattle.mt_stream.specs.declared.ending.Stop.TheVariants.{NoMemory}
-use Rattle.mt_output.specs.Writing.{Adds, Passes}
+use Rattle.mt_output.specs.Writing.{Adds, PassesOn}
 use Rattle.mt_machine.specs.Machine.{Machine}
 use Rattle.mt_dump.specs.Line.{Reading}
 use Rattle.mt_dump.specs.Reader.{HasRead, State}
@@ -15,7 +15,7 @@ use Rattle.mt_stream.specs.Transcript.{transcript_with}
 use Rattle.mt_stream.proofs.Taking.{takes_last}
 use Rattle.mt_proc.specs.declared.running.Run.{Run}
 use Rattle.mt_proc.specs.declared.running.Run.TheVariants as run
-use Rattle.mt_proc.specs.Proc.{Answer, RequestState, from_point, in_dump, in_requests, proc_step}
+use Rattle.mt_proc.specs.Proc.{BeganRequests, RequestState, from_point, in_dump, in_requests, proc_step}
 use Rattle.mt_proc.specs.Serving.{served}
 use Rattle.mt_proc.specs.Running.{AllServe, HasOutput, IsAt, LeadsBy, StandsAt, path_from}
 
@@ -25,11 +25,11 @@ leads_by cpus p number line so_far (Some end) lines = refl
 leads_by cpus p number line so_far None lines = refl
 
 module _ (cpus : ℕ) (here : AtLine) where
-  pub leads_as : (answer other : Answer) → answer ≡ other → LeadsBy cpus here answer → LeadsBy cpus here other
-  leads_as answer other is leads = subst (λ (a : Answer). LeadsBy cpus here a) is leads
+  pub leads_as : (answer other : BeganRequests) → answer ≡ other → LeadsBy cpus here answer → LeadsBy cpus here other
+  leads_as answer other is leads = subst (λ (a : BeganRequests). LeadsBy cpus here a) is leads
 
   module _ (now : Run) (writer : Waiting) (sink : Port) where
-    pub goes : (text : List ℕ) (next : RequestState) → LeadsBy cpus here (Ok (text, next)) → IsAt now next → HasOutput now (here.so_far ++ text) → AllServe cpus now → Passes writer.old text writer.new sink.old sink.new
+    pub goes : (text : List ℕ) (next : RequestState) → LeadsBy cpus here (Ok (text, next)) → IsAt now next → HasOutput now (here.so_far ++ text) → AllServe cpus now → PassesOn writer.old text writer.new sink.old sink.new
         → GoesOn (StandsAt cpus now) here writer sink
     goes text next leads at quiet each passed = record { next = path_from cpus next; at = (next, at, quiet, refl, each); text = text; goes = leads; passed = passed }
 

@@ -38,15 +38,15 @@ reason_text UnknownType = codes "unknown type"
 abbrev pub request_fault_line : ProcFault → List ℕ
 request_fault_line fault = bad_text fault.place (reason_text fault.reason)
 
-abbrev pub Answer : Type 0
-Answer = Result (List ℕ × RequestState) Transcript
+abbrev pub BeganRequests : Type 0
+BeganRequests = Result (List ℕ × RequestState) Transcript
 
 -- The dump's end: each file is to be accepted. The requests are then about processor 0's file.
-abbrev pub begins : Dump → Option (ℕ × Fault) → Answer
+abbrev pub begins : Dump → Option (ℕ × Fault) → BeganRequests
 begins dump (Some (k, fault)) = Err (transcript_with (dump_refused_line dump.version k fault) Refused)
 begins dump None = Ok ([], in_requests (at_first (first_file dump)))
 
-abbrev pub of_head : HeadStep → Answer
+abbrev pub of_head : HeadStep → BeganRequests
 of_head (goes_on now after) = Ok ([], in_dump after)
 of_head (shows dump) = begins dump (first_refusal dump.files)
 of_head (offends offence) = Err (transcript_with (offence_line offence) BadText)
@@ -55,7 +55,7 @@ of_head (offends offence) = Err (transcript_with (offence_line offence) BadText)
 abbrev pub situation_of : ℕ → Situation
 situation_of cpus = record at_start { cpus = cpus }
 
-abbrev pub of_request : Served → Result (Option Request) ProcFault → Answer
+abbrev pub of_request : Served → Result (Option Request) ProcFault → BeganRequests
 of_request now (Err fault) = Err (transcript_with (request_fault_line fault) BadText)
 of_request now (Ok None) = Ok ([], in_requests now)
 of_request now (Ok (Some request)) = Ok (answer_text now request, in_requests (asked now request))

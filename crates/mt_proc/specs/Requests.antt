@@ -19,8 +19,8 @@ use Rattle.mt_proc.specs.declared.request.ProcReason.{ProcReason}
 use Rattle.mt_proc.specs.declared.request.ProcReason.TheVariants.{BadLine, BadNumber, UnknownType}
 use Rattle.mt_proc.specs.declared.request.ProcFault.{ProcFault}
 
-abbrev pub Answer : Type 0
-Answer = Result Request ProcFault
+abbrev pub ReadRequest : Type 0
+ReadRequest = Result Request ProcFault
 
 abbrev pub fault_at : ProcReason → Place → ProcFault
 fault_at reason place = record { reason = reason; place = place }
@@ -56,7 +56,7 @@ number_at place (Ok number) = Ok number
 number_at place (Err fault) = Err (fault_at BadNumber place)
 
 -- three words, of which the first one's digits are these
-abbrev pub range_of : ℕ → List (ℕ × List ℕ) → List ℕ → Answer
+abbrev pub range_of : ℕ → List (ℕ × List ℕ) → List ℕ → ReadRequest
 range_of number words base =
     with (ok_or (behind (codes "size=") (text_of words 1)) (fault_at BadLine (place_of number words 1))) (λ size.
     with (ok_or (behind (codes "type=") (text_of words 2)) (fault_at BadLine (place_of number words 2))) (λ name.
@@ -72,16 +72,16 @@ count_fault number words wanted =
     else if nat_lt wanted (length words) then Some (fault_at BadLine (place_of number words wanted))
     else None
 
-abbrev pub disable_of : ℕ → List (ℕ × List ℕ) → List ℕ → Answer
+abbrev pub disable_of : ℕ → List (ℕ × List ℕ) → List ℕ → ReadRequest
 disable_of number words digits = with (number_at (place_of number words 0) (decimal_number digits 0xffffffffffffffff)) (λ n. Ok (Disable n))
 
 -- a line with words, by what stands in the first one behind either head
-abbrev pub by_heads : ℕ → List (ℕ × List ℕ) → Option (List ℕ) → Option (List ℕ) → Answer
+abbrev pub by_heads : ℕ → List (ℕ × List ℕ) → Option (List ℕ) → Option (List ℕ) → ReadRequest
 by_heads number words (Some base) other = option_map_or (λ fault. Err fault) (count_fault number words 3) (range_of number words base)
 by_heads number words None (Some digits) = option_map_or (λ fault. Err fault) (count_fault number words 1) (disable_of number words digits)
 by_heads number words None None = Err (fault_at BadLine (place_of number words 0))
 
-abbrev pub request_in : ℕ → List (ℕ × List ℕ) → Answer
+abbrev pub request_in : ℕ → List (ℕ × List ℕ) → ReadRequest
 request_in number words = by_heads number words (behind (codes "base=") (text_of words 0)) (behind (codes "disable=") (text_of words 0))
 
 -- a line of these words; one without words asks for nothing

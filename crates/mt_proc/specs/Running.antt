@@ -14,7 +14,7 @@ use Rattle.mt_stream.specs.Transcript.{Transcript, told_step}
 use Rattle.mt_proc.specs.declared.running.ProcRun.{ProcRun}
 use Rattle.mt_proc.specs.declared.running.Run.{Run}
 use Rattle.mt_proc.specs.declared.running.Run.TheVariants as run
-use Rattle.mt_proc.specs.Proc.{Answer, RequestState, from_point, in_dump, in_requests, proc_end, proc_told, situation_of}
+use Rattle.mt_proc.specs.Proc.{BeganRequests, RequestState, from_point, in_dump, in_requests, proc_end, proc_told, situation_of}
 use Rattle.mt_proc.specs.Serving.{Serves, served}
 
 -- the run stands at this point
@@ -47,7 +47,7 @@ abbrev pub StandsAt : ℕ → Run → List ℕ → Path → Type 0
 StandsAt cpus now so_far was = (p : RequestState) × IsAt now p × HasOutput now so_far × (was ≡ path_from cpus p) × AllServe cpus now
 
 -- what a line and those behind it lead to by the line's answer
-abbrev pub LeadsBy : ℕ → AtLine → Answer → Type 0
+abbrev pub LeadsBy : ℕ → AtLine → BeganRequests → Type 0
 LeadsBy cpus here answer =
     (end : Option Place) (lines : List (List ℕ)) → here.leads end lines ≡ record { tells = told_step (λ p. from_point cpus p end here.next_number lines) answer; early = [] }
 

@@ -82,17 +82,17 @@ apart_from_all (v ∷ vs) w e = one (shares_byte v w) refl e (apart_from_all vs 
         at (suc k) d l = rest h k d (omega arith)
 
 -- what an accepted window is
-pub record Fits (ws : List machine.Window) (w : machine.Window) : Type 0 where
+pub record IsAdmitted (ws : List machine.Window) (w : machine.Window) : Type 0 where
   pub aligned : w.base % 64 ≡ 0
   pub apart : is_overlap ws w ≡ false
   pub few : machine.word_count ws + 8 * w.lines ≤ 8 * 4096
   pub room : length ws < 16
 
-pub fits : (ws : List machine.Window) (w : machine.Window) → refusal ws w ≡ None → Fits ws w
+pub fits : (ws : List machine.Window) (w : machine.Window) → refusal ws w ≡ None → IsAdmitted ws w
 fits ws w h = one (w.base % 64 == 0) (is_overlap ws w) (nat_lt (8 * 4096) (machine.word_count ws + 8 * w.lines)) (nat_le 16 (length ws)) refl refl refl refl h
   where
     one : (a b c d : Bool) → (w.base % 64 == 0) ≡ a → is_overlap ws w ≡ b → nat_lt (8 * 4096) (machine.word_count ws + 8 * w.lines) ≡ c → nat_le 16 (length ws) ≡ d
-        → (if a then (if b then Some Overlaps else (if c || d then Some TooMuch else None)) else Some Misaligned) ≡ None → Fits ws w
+        → (if a then (if b then Some Overlaps else (if c || d then Some TooMuch else None)) else Some Misaligned) ≡ None → IsAdmitted ws w
     one true true c d ea eb ec ed e = absurd (cc)
     one true false true d ea eb ec ed e = absurd (cc)
     one true false false true ea eb ec ed e = absurd (cc)
@@ -103,7 +103,7 @@ pub words_pushed : (ws : List machine.Window) (w : machine.Window) → machine.w
 words_pushed [] w = omega arith
 words_pushed (v ∷ vs) w = let e = words_pushed vs w in omega arith
 
-pub added : (m : machine.Memory) (w : machine.Window) → IsRam m → 0 < w.lines → machine.window_end w ≤ 2 ^ 52 → Fits m.windows w → IsRam (with_window w m)
+pub added : (m : machine.Memory) (w : machine.Window) → IsRam m → 0 < w.lines → machine.window_end w ≤ 2 ^ 52 → IsAdmitted m.windows w → IsRam (with_window w m)
 added m w h some bound f =
     let long : length (m.words ++ replicate (8 * w.lines) 0) ≡ machine.word_count m.windows + 8 * w.lines =
     length-append m.words (replicate (8 * w.lines) 0) ∙ ap (λ n. length m.words + n) (length-replicate (8 * w.lines) 0) ∙ ap (λ n. n + 8 * w.lines) h.memory.counted in

@@ -67,7 +67,7 @@ impl RegFile {
         self.pair_register_count() + self.fixed_count() + 2
     }
 
-    // The writable register at a place in ascending order.
+    /// Returns the writable register at a place in ascending order. There is none past their number.
     pub fn register_at(&self, i: u32) -> Option<Register>
         ensures at { slice_get (writable self.now) i ≡ result }
         ensures within { IfSome result (IsWithin self.now) }

@@ -23,7 +23,7 @@ use Rattle.mt_laws.proofs.Registers.UnderWay.{lines_are_low, orders_hold}
 use Rattle.mt_laws.proofs.Words.Places.{place_same}
 use Rattle.mt_rendezvous.specs.declared.view.Start.{Start}
 use Rattle.mt_rendezvous.specs.Station.{order_of, broadcast, Begins}
-use Rattle.mt_rendezvous.specs.Plays.{Stands, own_event, written}
+use Rattle.mt_rendezvous.specs.Plays.{StandsInUpdate, own_event, written}
 use Rattle.mt_laws.proofs.Steps.Counts.{Ready, is_past, left_of, one_less}
 use Rattle.mt_laws.proofs.Steps.StepCounts.{ready}
 use Rattle.mt_rendezvous.proofs.Local.{due_alone, local_changing, works_in, written_is}
@@ -37,7 +37,7 @@ written_drains other a v h = absurd (cc)
 writes_dirty : (p : Processor) (e : Event) (a v : ℕ) (ph : Phase) → ((o : Order) (ps : List Processor) → due o ps p ph ≡ Some e) → Order → written e ≡ Some (a, v) → write_back_or_drop p ≡ e
 writes_dirty p e a v ph is o w = due_drains o [] p ph e (is o []) (written_drains e a v w)
 
-module _ (t : Start) (begins : Begins t) (go : Go) (k : ℕ) (p : Processor) (st : Stands t go k p) where
+module _ (t : Start) (begins : Begins t) (go : Go) (k : ℕ) (p : Processor) (st : StandsInUpdate t go k p) where
   abbrev start : IsStart (broadcast t)
   start = inr (order_of t Pending, begins.broadcasts)
 

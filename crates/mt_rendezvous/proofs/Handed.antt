@@ -14,7 +14,7 @@ use Rattle.mt_laws.specs.Updates.{all_running}
 use Rattle.mt_laws.proofs.Barrier.Claims.{all_get}
 use Rattle.mt_laws.proofs.Updates.Broadcast.{led_ends}
 use Rattle.mt_rendezvous.specs.declared.view.Start.{Start}
-use Rattle.mt_rendezvous.specs.Station.{Fits, broadcast, rise, weight, in_second}
+use Rattle.mt_rendezvous.specs.Station.{FitsPhase, broadcast, rise, weight, in_second}
 use Rattle.mt_rendezvous.specs.Laws.{machine_of}
 use Rattle.mt_rendezvous.proofs.Keeps.{all_true}
 use Rattle.mt_rendezvous.proofs.Unique.{first_of}
@@ -72,10 +72,10 @@ module _ (key : Key) (s : State (Unit {0}) View) (m : Meets key s) (running : Al
   runs : (k : ℕ) (h : Held) → get_elem? m.all k ≡ some h → h.cpu.phase ≡ Running
   runs k h e = all_get (λ p. p.phase ≡ Running) (map cpu_of m.all) running k h.cpu (at_cpu m.all k h e)
 
-  fits_there : (k : ℕ) (h : Held) (go : Go) → m.go ≡ go → get_elem? m.all k ≡ some h → Fits go h.added Running × (h.cpu.era ≡ common_era t.cpus + weight (in_second h.added))
+  fits_there : (k : ℕ) (h : Held) (go : Go) → m.go ≡ go → get_elem? m.all k ≡ some h → FitsPhase go h.added Running × (h.cpu.era ≡ common_era t.cpus + weight (in_second h.added))
   fits_there k h go is e =
       let f = (m.fits k h e).0 in
-      (subst (λ (x : Go × Phase). Fits x.0 h.added x.1) (λ i. (is i, runs k h e i)) f.fits, f.era ∙ ap (λ (ph : Phase). common_era t.cpus + rise (in_second h.added) ph) (runs k h e))
+      (subst (λ (x : Go × Phase). FitsPhase x.0 h.added x.1) (λ i. (is i, runs k h e i)) f.fits, f.era ∙ ap (λ (ph : Phase). common_era t.cpus + rise (in_second h.added) ph) (runs k h e))
 
   first : (h : Held) × (get_elem? m.all 0 ≡ some h)
   first = first_of m.all m.some_one
@@ -94,10 +94,10 @@ module _ (key : Key) (s : State (Unit {0}) View) (m : Meets key s) (running : Al
   none_by : (b : Bool) → is_over (order_of t m.go) (map cpu_of m.all) ≡ b → b ≡ true → (machine_of key s m).order ≡ None
   none_by b is on = ap (λ (x : Bool). if x then None else Some (order_of t m.go)) (is ∙ on)
 
-  twice : (h : Held) → Fits Given h.added Running → in_second h.added ≡ true
+  twice : (h : Held) → FitsPhase Given h.added Running → in_second h.added ≡ true
   twice h f = ⊎_elim (λ (x : (h.added ≡ Once) × (Given ≡ Cancelled)). absurd (let e = x.1 in cc)) (λ (x : (h.added ≡ Twice) × (Given ≡ Given)). ap in_second x.0) f
 
-  once : (h : Held) → Fits Cancelled h.added Running → in_second h.added ≡ false
+  once : (h : Held) → FitsPhase Cancelled h.added Running → in_second h.added ≡ false
   once h f = ⊎_elim (λ (x : (h.added ≡ Once) × (Cancelled ≡ Cancelled)). ap in_second x.0) (λ (x : (h.added ≡ Twice) × (Cancelled ≡ Given)). absurd (let e = x.1 in cc)) f
 
   pub was_given : m.go ≡ Given → machine_of key s m ≡ updated (broadcast t).system [] t.goal

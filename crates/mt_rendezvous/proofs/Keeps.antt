@@ -22,10 +22,10 @@ use Rattle.mt_rendezvous.specs.declared.view.Held.{Held}
 use Rattle.mt_rendezvous.specs.declared.view.Start.{Start}
 use Rattle.mt_rendezvous.specs.declared.view.View.{View}
 use Rattle.mt_rendezvous.specs.declared.view.Key.{Key}
-use Rattle.mt_rendezvous.specs.Station.{order_of, broadcast, cpu_of, first_memory_word, system_of, joined, start_of, view, weight, total, added_of, again_of, go_weight, phase_word_of, Fits, FitsHeld, rise, Sits, IsHeld, Meets, in_second, seating}
+use Rattle.mt_rendezvous.specs.Station.{order_of, broadcast, cpu_of, first_memory_word, system_of, joined, start_of, view, weight, total, added_of, again_of, go_weight, phase_word_of, FitsPhase, FitsHeld, rise, Sits, IsHeld, Meets, in_second, seating}
 use Rattle.mt_rendezvous.specs.Plays.{CanFollow, PassSteps, Took, after_event, word_step}
 use Rattle.mt_rendezvous.specs.declared.view.Added.{Added}
-use Rattle.mt_rendezvous.specs.Laws.{Follows}
+use Rattle.mt_rendezvous.specs.Laws.{StationFollows}
 
 -- ---- lists
 
@@ -112,20 +112,20 @@ no_rise : (again : Bool) (p : Phase) → IsUnderWay p → rise again p ≡ 0
 no_rise again Running u = absurd u
 no_rise again other u = refl
 
-waits : (added : Added) (p : Phase) → IsUnderWay p → Fits Cancelled added p → is_waiting_to_pass p ≡ true
+waits : (added : Added) (p : Phase) → IsUnderWay p → FitsPhase Cancelled added p → is_waiting_to_pass p ≡ true
 waits added Running u f = absurd u
 waits added Taken u f = refl
 waits added Arrived u f = refl
 waits added Arrived2 u f = absurd (let e = f.1 in cc)
 waits added other u f = absurd (let e = f.1 in cc)
 
-cancel_over : (added : Added) (go : Go) (l : List Held) (k : ℕ) (h : Held) → get_elem? l k ≡ some h → IsUnderWay h.cpu.phase → Fits go added h.cpu.phase
+cancel_over : (added : Added) (go : Go) (l : List Held) (k : ℕ) (h : Held) → get_elem? l k ≡ some h → IsUnderWay h.cpu.phase → FitsPhase go added h.cpu.phase
     → (is_cancelled go && not (list_any (λ p. is_waiting_to_pass p.phase) (map cpu_of l))) ≡ false
 cancel_over added Pending l k h at u f = refl
 cancel_over added Given l k h at u f = refl
 cancel_over added Cancelled l k h at u f = ap not (any_true (λ p. is_waiting_to_pass p.phase) l k h at (waits added h.cpu.phase u f))
 
-pub order_stands : (t : Start) (all : List Held) (go : Go) (words : List ℕ) (k : ℕ) (h : Held) → get_elem? all k ≡ some h → IsUnderWay h.cpu.phase → Fits go h.added h.cpu.phase → h.cpu.era ≡ common_era t.cpus + rise (in_second h.added) h.cpu.phase
+pub order_stands : (t : Start) (all : List Held) (go : Go) (words : List ℕ) (k : ℕ) (h : Held) → get_elem? all k ≡ some h → IsUnderWay h.cpu.phase → FitsPhase go h.added h.cpu.phase → h.cpu.era ≡ common_era t.cpus + rise (in_second h.added) h.cpu.phase
     → (joined t all go words).order ≡ Some (order_of t go)
 order_stands t all go words k h at u fits era = ap (λ (b : Bool). if b then None else Some (order_of t go)) over
   where
@@ -294,7 +294,7 @@ module _ (key : Key) where
 
   -- a step of the pass that holds h, by which the word i becomes n and it holds w: the rule is kept, and the machine takes this event or none
   pub record Placed (s : St) (m : Meets key s) (id i n : ℕ) (v : View) (h w : Held) (shown : Option ℕ) (e : Option MachineEvent) : Type 0 where
-    pub follows : Follows key s (record { words = set s.words i n; homes = s.homes; views = set s.views id (view v.root (w ∷ []) v.go shown v) }) m e
+    pub follows : StationFollows key s (record { words = set s.words i n; homes = s.homes; views = set s.views id (view v.root (w ∷ []) v.go shown v) }) m e
     pub steps : PassSteps v.start (word_step i (slice_index s.words i) n) e h w
     pub led : Led (broadcast t) (joined t (set m.all h.number w) m.go (set s.words i n))
 

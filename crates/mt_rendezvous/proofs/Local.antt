@@ -19,7 +19,7 @@ use Rattle.mt_machine.specs.Control.{reload_cr3}
 use Rattle.mt_cpu.specs.Steps.{is_local}
 use Rattle.mt_rendezvous.specs.declared.view.Held.{Held}
 use Rattle.mt_rendezvous.specs.declared.view.Start.{Start}
-use Rattle.mt_rendezvous.specs.Station.{order_of, code, phase_word, Fits, FitsHeld, Waits, rise, in_first, in_second}
+use Rattle.mt_rendezvous.specs.Station.{order_of, code, phase_word, FitsPhase, FitsHeld, Waits, rise, in_first, in_second}
 use Rattle.mt_rendezvous.specs.Plays.{written}
 use Rattle.mt_rendezvous.specs.declared.view.Added.TheVariants.{Never, Once, Twice}
 use Rattle.mt_rendezvous.specs.declared.view.Added.{Added}
@@ -44,14 +44,14 @@ changing_waits_not Taken h w = absurd (cc)
 changing_waits_not Arrived h w = absurd (cc)
 changing_waits_not other h w = w
 
-pub fits_changing : (go : Go) (added : Added) (p : Phase) → is_changing p ≡ true → added ≡ Once → go ≡ Given → Fits go added p
+pub fits_changing : (go : Go) (added : Added) (p : Phase) → is_changing p ≡ true → added ≡ Once → go ≡ Given → FitsPhase go added p
 fits_changing go added Running h a b = absurd (cc)
 fits_changing go added Taken h a b = absurd (cc)
 fits_changing go added Arrived h a b = absurd (cc)
 fits_changing go added Arrived2 h a b = absurd (cc)
 fits_changing go added other h a b = (a, b)
 
-pub changing_fits : (go : Go) (added : Added) (p : Phase) → is_changing p ≡ true → Fits go added p → (added ≡ Once) × (go ≡ Given)
+pub changing_fits : (go : Go) (added : Added) (p : Phase) → is_changing p ≡ true → FitsPhase go added p → (added ≡ Once) × (go ≡ Given)
 changing_fits go added Running h f = absurd (cc)
 changing_fits go added Taken h f = absurd (cc)
 changing_fits go added Arrived h f = absurd (cc)
@@ -71,12 +71,12 @@ pub same_era : (t : Start) (go : Go) (h : Held) → FitsHeld t go h → IsUnderW
 same_era t go h f u = let e = f.era in let z = no_rise (in_second h.added) h.cpu.phase u in omega arith
 
 -- a processor that is on its way after an event that leaves its era
-pub fits_on : (t : Start) (go : Go) (h : Held) → h.cpu.era ≡ common_era t.cpus → IsUnderWay h.cpu.phase → Fits go h.added h.cpu.phase → (Waits h.cpu.phase → slice_get t.cpus h.number ≡ Some (record h.cpu { phase = Taken })) → FitsHeld t go h
+pub fits_on : (t : Start) (go : Go) (h : Held) → h.cpu.era ≡ common_era t.cpus → IsUnderWay h.cpu.phase → FitsPhase go h.added h.cpu.phase → (Waits h.cpu.phase → slice_get t.cpus h.number ≡ Some (record h.cpu { phase = Taken })) → FitsHeld t go h
 fits_on t go h era u f first = record { first = first; fits = f; era = let z = no_rise (in_second h.added) h.cpu.phase u in omega arith }
 
 -- ---- the barriers' counts
 
-pub arrived_in : (t : Start) (p : Processor) (added : Added) (ph : Phase) → Fits Given added ph → in_first added ≡ true → p.era ≡ common_era t.cpus + rise (in_second added) ph → has_arrived (order_of t Given) (record p { phase = ph }) ≡ true
+pub arrived_in : (t : Start) (p : Processor) (added : Added) (ph : Phase) → FitsPhase Given added ph → in_first added ≡ true → p.era ≡ common_era t.cpus + rise (in_second added) ph → has_arrived (order_of t Given) (record p { phase = ph }) ≡ true
 arrived_in t p added Taken f a era = absurd (⊎_elim
     (λ (x : added ≡ Never). let e : false ≡ true = ap in_first (sym x) ∙ a in cc)
     (λ (x : (added ≡ Once) × (Given ≡ Cancelled)). let e = x.1 in cc)
@@ -90,9 +90,9 @@ arrived_in t p added other f a era = refl
 pub arrived_of : (t : Start) (go : Go) (h : Held) → go ≡ Given → FitsHeld t go h → in_first h.added ≡ true → has_arrived (order_of t go) h.cpu ≡ true
 arrived_of t go h is f a =
     subst (λ (g : Go). has_arrived (order_of t g) h.cpu ≡ true) (sym is)
-    (arrived_in t h.cpu h.added h.cpu.phase (subst (λ (g : Go). Fits g h.added h.cpu.phase) is f.fits) a f.era)
+    (arrived_in t h.cpu h.added h.cpu.phase (subst (λ (g : Go). FitsPhase g h.added h.cpu.phase) is f.fits) a f.era)
 
-pub again_in : (t : Start) (go : Go) (p : Processor) (added : Added) (ph : Phase) → Fits go added ph → in_second added ≡ true → p.era ≡ common_era t.cpus + rise (in_second added) ph → has_arrived_again (order_of t go) (record p { phase = ph }) ≡ true
+pub again_in : (t : Start) (go : Go) (p : Processor) (added : Added) (ph : Phase) → FitsPhase go added ph → in_second added ≡ true → p.era ≡ common_era t.cpus + rise (in_second added) ph → has_arrived_again (order_of t go) (record p { phase = ph }) ≡ true
 again_in t go p added Arrived2 f a era = refl
 again_in t go p added Running f a era = let up : rise (in_second added) Running ≡ 1 = ap (λ b. rise b Running) a in lt-ltb (common_era t.cpus) p.era (omega arith)
 again_in t go p added Taken f a era = absurd (⊎_elim

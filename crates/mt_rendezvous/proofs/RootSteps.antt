@@ -20,16 +20,16 @@ use Rattle.mt_rendezvous.specs.declared.view.Held.{Held}
 use Rattle.mt_rendezvous.specs.declared.view.Start.{Start}
 use Rattle.mt_rendezvous.specs.declared.view.View.{View}
 use Rattle.mt_rendezvous.specs.declared.view.Key.{Key}
-use Rattle.mt_rendezvous.specs.Station.{order_of, broadcast, Begins, cpu_of, first_count, first_memory_word, system_of, joined, start_of, held, numbered, first_view, total, added_of, again_of, go_weight, phase_word, phase_word_of, Fits, FitsHeld, rise, Apart, Sits, IsHeld, Meets, one, others, root_left, pass_right, both, spent, in_first, seating}
+use Rattle.mt_rendezvous.specs.Station.{order_of, broadcast, Begins, cpu_of, first_count, first_memory_word, system_of, joined, start_of, held, numbered, first_view, total, added_of, again_of, go_weight, phase_word, phase_word_of, FitsPhase, FitsHeld, rise, Apart, Sits, IsHeld, Meets, one, others, root_left, pass_right, both, spent, in_first, seating}
 use Rattle.mt_rendezvous.specs.Calls.{opening_words}
 use Rattle.mt_rendezvous.specs.Plays.{Decided, after_event, with_go, Gives, Cancels, word_step}
-use Rattle.mt_rendezvous.specs.Laws.{Follows, machine_of}
+use Rattle.mt_rendezvous.specs.Laws.{StationFollows, machine_of}
 use Rattle.mt_rendezvous.specs.declared.view.Added.TheVariants.{Never, Once, Twice}
 use Rattle.mt_rendezvous.specs.declared.view.Added.{Added}
 use Rattle.mt_rendezvous.proofs.Keeps.{AllSit, told_of, total_small, weight_small, kept_present, IsUnderWay, stands_order, low_word}
 
 -- the coordinator's word changes once
-pub turned : (go new : Go) (added : Added) (p : Phase) → go ≡ Pending → Fits go added p → Fits new added p
+pub turned : (go new : Go) (added : Added) (p : Phase) → go ≡ Pending → FitsPhase go added p → FitsPhase new added p
 turned go new added Taken is f = ⊎_elim (λ (t : added ≡ Never). inl t) (λ (t : (added ≡ Once) × (go ≡ Cancelled)). absurd (let e = t.1 in cc)) f
 turned go new added Arrived is f = f
 turned go new added Running is f = absurd (⊎_elim (λ (t : (added ≡ Once) × (go ≡ Cancelled)). let e = t.1 in cc) (λ (t : (added ≡ Twice) × (go ≡ Given)). let e = t.1 in cc) f)
@@ -37,7 +37,7 @@ turned go new added Arrived2 is f = absurd (let e = f.1 in cc)
 turned go new added other is f = absurd (let e = f.1 in cc)
 
 -- before it does, each processor is on its way
-pending_under_way : (go : Go) (added : Added) (p : Phase) → go ≡ Pending → Fits go added p → IsUnderWay p
+pending_under_way : (go : Go) (added : Added) (p : Phase) → go ≡ Pending → FitsPhase go added p → IsUnderWay p
 pending_under_way go added Running is f = absurd (⊎_elim (λ (t : (added ≡ Once) × (go ≡ Cancelled)). let e = t.1 in cc) (λ (t : (added ≡ Twice) × (go ≡ Given)). let e = t.1 in cc) f)
 pending_under_way go added other is f = tt
 
@@ -260,7 +260,7 @@ module _ (key : Key) where
 
   -- what comes of the coordinator's addition to word 0
   pub record Turned (s : St) (m : Meets key s) (id : ℕ) (v : View) (new : Go) (n : ℕ) (e : MachineEvent) : Type 0 where
-    pub follows : Follows key s (record { words = set s.words 0 n; homes = s.homes; views = set s.views id (with_go v new) }) m (Some e)
+    pub follows : StationFollows key s (record { words = set s.words 0 n; homes = s.homes; views = set s.views id (with_go v new) }) m (Some e)
     pub steps : Decided v.start (word_step 0 (get_or s.words 0 0) n) e new
 
   decides : (s : St) (m : Meets key s) (id : ℕ) (v : View) (new : Go) (n : ℕ) (e : MachineEvent) → get_elem? s.views id ≡ some v → v.root ≡ true → (was : m.go ≡ Pending) → Word new e → is_led e ≡ true
@@ -330,7 +330,7 @@ module _ (key : Key) where
 
   -- a processor is given away to a new pass
   pub splitting : (s : St) (m : Meets key s) (id : ℕ) (v : View) (h : Held) (hs : List Held) → get_elem? s.views id ≡ some v → v.held ≡ h ∷ hs
-      → Follows key s (record { words = s.words; homes = s.homes; views = set s.views id (root_left v) ++ pass_right v ∷ [] }) m None
+      → StationFollows key s (record { words = s.words; homes = s.homes; views = set s.views id (root_left v) ++ pass_right v ∷ [] }) m None
   splitting s m id v h hs at is = record {
     enabled = tt;
     becomes = same_machine s m;
@@ -358,7 +358,7 @@ module _ (key : Key) where
 
   -- a pass's processor is taken back
   pub joining : (s : St) (m : Meets key s) (id other : ℕ) (v w : View) (h : Held) → get_elem? s.views id ≡ some v → v.root ≡ true → ¬ (other ≡ id) → get_elem? s.views other ≡ some w → w.held ≡ h ∷ []
-      → Follows key s (record { words = s.words; homes = s.homes; views = set (set s.views id (both v w)) other spent }) m None
+      → StationFollows key s (record { words = s.words; homes = s.homes; views = set (set s.views id (both v w)) other spent }) m None
   joining s m id other v w h at root apart there is = record {
     enabled = tt;
     becomes = same_machine s m;
@@ -460,7 +460,7 @@ begins key words broad present few opens =
     fits_first k h e = let r = numbered_at 0 key.cpus.value.items k h e in
         let era : r.0.era ≡ common_era key.cpus.value.items = all_get (λ p. p.era ≡ common_era key.cpus.value.items) key.cpus.value.items broad.broadcasts.one_era k r.0 (at_std key.cpus.value.items k r.0 r.1) in
         subst (λ (g : Held). FitsHeld (start_of key) Pending g × (g.number ≡ k)) (sym r.2)
-        (record { first = λ _. first_is k r.0 r.1; fits = subst (λ p. Fits Pending Never p) (sym (taken k r.0 r.1)) (inl refl); era = era ∙ rises r.0.phase (taken k r.0 r.1) (common_era key.cpus.value.items) }, omega arith)
+        (record { first = λ _. first_is k r.0 r.1; fits = subst (λ p. FitsPhase Pending Never p) (sym (taken k r.0 r.1)) (inl refl); era = era ∙ rises r.0.phase (taken k r.0 r.1) (common_era key.cpus.value.items) }, omega arith)
       where
         rises : (p : _) → p ≡ Taken → (n : ℕ) → n ≡ n + rise false p
         rises p e n = let z : rise false p ≡ 0 = ap (rise false) e in omega arith

@@ -24,9 +24,9 @@ use Rattle.mt_rendezvous.specs.declared.view.Held.{Held}
 use Rattle.mt_rendezvous.specs.declared.view.Start.{Start}
 use Rattle.mt_rendezvous.specs.declared.view.View.{View}
 use Rattle.mt_rendezvous.specs.declared.view.Key.{Key}
-use Rattle.mt_rendezvous.specs.Station.{Begins, order_of, broadcast, cpu_of, first_memory_word, memory_of, system_of, joined, start_of, view, with_held, weight, total, added_of, again_of, go_weight, code, phase_word, phase_word_of, Fits, FitsHeld, Waits, Meets, rise, in_first, in_second}
+use Rattle.mt_rendezvous.specs.Station.{Begins, order_of, broadcast, cpu_of, first_memory_word, memory_of, system_of, joined, start_of, view, with_held, weight, total, added_of, again_of, go_weight, code, phase_word, phase_word_of, FitsPhase, FitsHeld, Waits, Meets, rise, in_first, in_second}
 use Rattle.mt_machine.specs.Machine.{MachineEvent, Steps as Does}
-use Rattle.mt_rendezvous.specs.Plays.{PassSteps, Stands, Of, does, arrive, late, arrive_again, own_event, work, with_shown, written, Arrives, Passes, Works, ArrivesAgain, Releases, word_step}
+use Rattle.mt_rendezvous.specs.Plays.{PassSteps, StandsInUpdate, Of, does, arrive, late, arrive_again, own_event, work, with_shown, written, Arrives, Passes, Works, ArrivesAgain, Releases, word_step}
 use Rattle.mt_rendezvous.proofs.Keeps.{Placed, placed, Comes, comes_by, comes_still, total_set, total_small, total_full, weight_small, at_cpu, at_less, all_true, acts, low_word, stands_order, drop_set, codes_kept, codes_stored, IsUnderWay}
 use Rattle.mt_rendezvous.specs.declared.view.Added.TheVariants.{Never, Once, Twice}
 use Rattle.mt_rendezvous.specs.declared.view.Added.{Added}
@@ -194,7 +194,7 @@ module _ (key : Key) where
       (λ (c : (m.go ≡ Cancelled) × (4294967296 ≤ get_or s.words 0 0)). inl (
         c.1,
         at_first s m id v h (late h) v.shown n None at is refl (sym first) (ap (λ b. phase_word b h.cpu.phase) (sym first)) (comes_none s m h.number 0 n h (late h) f.at refl (omega arith))
-            (record { first = f.fits.first; fits = subst (λ p. Fits m.go Once p) (sym taken) (inr (refl, c.0)); era = f.fits.era ∙ ap (λ b. common_era t.cpus + rise b h.cpu.phase) first }) count,
+            (record { first = f.fits.first; fits = subst (λ p. FitsPhase m.go Once p) (sym taken) (inr (refl, c.0)); era = f.fits.era ∙ ap (λ b. common_era t.cpus + rise b h.cpu.phase) first }) count,
       ))
       (λ (c : (m.go ≢ Cancelled) × (get_or s.words 0 0 < 4294967296)). let w = arrive v.start h in inr (
         c.1,
@@ -244,7 +244,7 @@ module _ (key : Key) where
       ))
       (arrival s m id me.0 h at is out taken)
 
-  stands : (all : List Held) (go g : Go) (words : List ℕ) (k : ℕ) (h : Held) → Led (broadcast t) (joined t all go words) → get_elem? all k ≡ some h → IsUnderWay h.cpu.phase → FitsHeld t go h → go ≡ g → Stands t g k h.cpu
+  stands : (all : List Held) (go g : Go) (words : List ℕ) (k : ℕ) (h : Held) → Led (broadcast t) (joined t all go words) → get_elem? all k ≡ some h → IsUnderWay h.cpu.phase → FitsHeld t go h → go ≡ g → StandsInUpdate t g k h.cpu
   stands all go g words k h l at u f is = record {
     machine = joined t all go words;
     led = l;
@@ -258,9 +258,9 @@ module _ (key : Key) where
   pub all_again : (s : St) (m : Meets key s) → get_or s.words 1 0 ≡ length m.all → list_all (has_arrived_again (order_of t m.go)) (map cpu_of m.all) ≡ true
   all_again s m full = all_true (has_arrived_again (order_of t m.go)) m.all (λ k h at. again_of_held t m.go h (m.fits k h at).0 (is_true (in_second h.added) (total_full again_of (λ g. weight_small (in_second g.added)) m.all (sym m.second ∙ full) k h at)))
 
-  its_phase : (go : Go) (added : Added) (p : Phase) → (p ≡ Taken) ⊎ (p ≡ Arrived) → Fits go added p → added ≡ Once → go ≡ Given → p ≡ Arrived
+  its_phase : (go : Go) (added : Added) (p : Phase) → (p ≡ Taken) ⊎ (p ≡ Arrived) → FitsPhase go added p → added ≡ Once → go ≡ Given → p ≡ Arrived
   its_phase go added p (inr e) f a g = e
-  its_phase go added p (inl e) f a g = absurd (⊎_elim (λ (x : added ≡ Never). cc) (λ (x : (added ≡ Once) × (go ≡ Cancelled)). let c = x.1 in cc) (subst (Fits go added) e f))
+  its_phase go added p (inl e) f a g = absurd (⊎_elim (λ (x : added ≡ Never). cc) (λ (x : (added ≡ Once) × (go ≡ Cancelled)). let c = x.1 in cc) (subst (FitsPhase go added) e f))
 
   waiting_word : (again : Bool) (p : Phase) → (p ≡ Taken) ⊎ (p ≡ Arrived) → 0 ≡ phase_word again p
   waiting_word again p (inl e) = sym (ap (phase_word again) e)
@@ -272,10 +272,10 @@ module _ (key : Key) where
   -- what a load of word 0 finds, and what comes of it
   abbrev pub Passing : (s : St) → Meets key s → ℕ → View → Held → Type 0
   Passing s m id v h =
-      ((4294967296 ≤ get_or s.words 0 0) × Placed key s m id 0 (get_or s.words 0 0) v h (does v.start Leave h) v.shown (Some (Does h.number Leave)) × Stands v.start Cancelled h.number h.cpu
+      ((4294967296 ≤ get_or s.words 0 0) × Placed key s m id 0 (get_or s.words 0 0) v h (does v.start Leave h) v.shown (Some (Does h.number Leave)) × StandsInUpdate v.start Cancelled h.number h.cpu
       × (get_or s.words 0 0 ≢ length v.start.cpus + 1))
       ⊎ (((get_or s.words 0 0 ≡ length v.start.cpus + 1) × Placed key s m id 0 (get_or s.words 0 0) v h (does v.start Pass h) v.shown (Some (Does h.number Pass))
-      × (h.cpu.phase ≡ Arrived) × Stands v.start Given h.number (does v.start Pass h).cpu × (4294967296 ≤ get_or s.words 0 0 → ⊥))
+      × (h.cpu.phase ≡ Arrived) × StandsInUpdate v.start Given h.number (does v.start Pass h).cpu × (4294967296 ≤ get_or s.words 0 0 → ⊥))
       ⊎ ((get_or s.words 0 0 < 4294967296) × (get_or s.words 0 0 ≢ length v.start.cpus + 1) × Placed key s m id 0 (get_or s.words 0 0) v h h v.shown None))
 
   pub passing : (s : St) (m : Meets key s) (id : ℕ) (v : View) (h : Held) → get_elem? s.views id ≡ some v → v.held ≡ h ∷ [] → h.added ≡ Once → (h.cpu.phase ≡ Taken) ⊎ (h.cpu.phase ≡ Arrived) → Passing s m id v h
@@ -293,7 +293,7 @@ module _ (key : Key) where
         at_first s m id v h w v.shown x (Some (Does h.number Leave)) at is refl refl (left_word (in_second h.added) first ∙ waiting_word (in_second h.added) h.cpu.phase waits)
             (comes_low s m h.number 0 x Leave h w f.at u f.fits (omega arith) (due_leave t m.go (map cpu_of m.all) h.cpu waits c.0) refl (system_of t m.all s.words) refl refl)
             (record { first = λ w. absurd w; fits = inl (counted, c.0); era = let e = same_era t m.go h f.fits u in let z : weight (in_second h.added) ≡ 0 = ap weight first in omega arith }) refl,
-        subst (λ (y : Start). Stands y Cancelled h.number h.cpu) (sym f.told) (stands m.all m.go Cancelled s.words h.number h m.led_to f.at u f.fits c.0),
+        subst (λ (y : Start). StandsInUpdate y Cancelled h.number h.cpu) (sym f.told) (stands m.all m.go Cancelled s.words h.number h m.led_to f.at u f.fits c.0),
         (λ (e : get_or s.words 0 0 ≡ length v.start.cpus + 1). let above = c.1 in omega arith),
       ))
       (λ (c : (m.go ≢ Cancelled) × (get_or s.words 0 0 < 4294967296)). dite (ℕ_discrete (get_or s.words 0 0) (length v.start.cpus + 1))
@@ -308,7 +308,7 @@ module _ (key : Key) where
         e,
         there,
         p,
-        subst (λ (y : Start). Stands y Given h.number w.cpu) (sym f.told) (stands (set m.all h.number w) m.go Given (set s.words 0 x) h.number w there.led (set_here m.all h.number w (at_less m.all h.number h f.at)) tt g r.0),
+        subst (λ (y : Start). StandsInUpdate y Given h.number w.cpu) (sym f.told) (stands (set m.all h.number w) m.go Given (set s.words 0 x) h.number w there.led (set_here m.all h.number w (at_less m.all h.number h f.at)) tt g r.0),
         (λ (above : 4294967296 ≤ get_or s.words 0 0). let b = c.1 in omega arith),
       )))
       (λ (n : get_or s.words 0 0 ≢ length v.start.cpus + 1). inr (inr (
@@ -335,7 +335,7 @@ module _ (key : Key) where
           (λ _. (
             moved me.0 (does me.0.start Leave) h is,
             of_one me.0 h (λ g. PassSteps me.0.start (word_step 0 (get_or s.words 0 0) (get_or s.words 0 0)) (Some (Does g.number Leave)) g (does me.0.start Leave g)) is c.1.steps,
-            of_one me.0 h (λ g. Stands me.0.start Cancelled g.number g.cpu) is c.2,
+            of_one me.0 h (λ g. StandsInUpdate me.0.start Cancelled g.number g.cpu) is c.2,
           )),
           (λ (below : get_or s.words 0 0 < 4294967296) _. absurd (let above = c.0 in omega arith)),
         ),
@@ -350,7 +350,7 @@ module _ (key : Key) where
           (λ _. (
             moved me.0 (does me.0.start Pass) h is,
             of_one me.0 h (λ g. PassSteps me.0.start (word_step 0 (get_or s.words 0 0) (get_or s.words 0 0)) (Some (Does g.number Pass)) g (does me.0.start Pass g)) is c.1.steps,
-            of_one me.0 h (λ g. (g.cpu.phase ≡ Arrived) × Stands me.0.start Given g.number (does me.0.start Pass g).cpu) is (c.2, c.3),
+            of_one me.0 h (λ g. (g.cpu.phase ≡ Arrived) × StandsInUpdate me.0.start Given g.number (does me.0.start Pass g).cpu) is (c.2, c.3),
           )),
           (λ above. absurd (c.4 above)),
           (λ _ n. absurd (n c.0)),
@@ -395,7 +395,7 @@ module _ (key : Key) where
       let few : length m.all < 65536 = m.few in
       let e : get_or s.words 1 0 ≡ total again_of m.all = m.second in
       let o : weight (in_second h.added) ≡ 0 = ap weight first in
-      let old : Fits m.go h.added Restored = subst (Fits m.go h.added) restored f.fits.fits in
+      let old : FitsPhase m.go h.added Restored = subst (FitsPhase m.go h.added) restored f.fits.fits in
       let u : IsUnderWay h.cpu.phase = under_way h.cpu.phase Restored restored tt in
       let w = arrive_again v.start h in
       at_second s m id v h w v.shown n (Some (Does h.number ArriveAgain)) at is refl (sym (ap in_first counted)) (sym (ap (phase_word (in_second h.added)) restored))
@@ -431,7 +431,7 @@ module _ (key : Key) where
       let x : ℕ = get_or s.words 1 0 in
       let f = found s m id v h at is in
       let size : length m.all ≡ length v.start.cpus = f.size in
-      let old : Fits m.go h.added Arrived2 = subst (Fits m.go h.added) waits f.fits.fits in
+      let old : FitsPhase m.go h.added Arrived2 = subst (FitsPhase m.go h.added) waits f.fits.fits in
       let u : IsUnderWay h.cpu.phase = under_way h.cpu.phase Arrived2 waits tt in
       dite (ℕ_discrete (get_or s.words 1 0) (length v.start.cpus))
       (λ (e : get_or s.words 1 0 ≡ length v.start.cpus). let w = does v.start Release h in
@@ -512,7 +512,7 @@ module _ (key : Key) where
 
   -- a store of a word by which the event acts, and where the processor stands then
   abbrev pub Storing : (s : St) → Meets key s → ℕ → ℕ → ℕ → View → Held → Event → Type 0
-  Storing s m id i n v h e = Placed key s m id i n v h (does v.start e h) v.shown (Some (Does h.number e)) × Stands v.start Given h.number (does v.start e h).cpu
+  Storing s m id i n v h e = Placed key s m id i n v h (does v.start e h) v.shown (Some (Does h.number e)) × StandsInUpdate v.start Given h.number (does v.start e h).cpu
 
   storing : (id i n : ℕ) (me : Me (Unit {0}) View) (h : Held) (e : Event) → IsDue me h e → (s : St) (m : Meets key s) → (at : get_elem? s.views id ≡ some me.0) → 2 ≤ i
       → before_own e h.number (system_of t m.all s.words) ≡ system_of t m.all (set s.words i n)
@@ -531,7 +531,7 @@ module _ (key : Key) where
       let a = acts t m.all m.go s.words (set s.words i n) h.number e h w f.at (stands_order t m.all m.go s.words h.number h f.at u f.fits) (d.due_is (order_of t m.go) (map cpu_of m.all)) own before in
       let p = at_store s m id i n me.0 h w (Some (Does h.number e)) at d.is refl refl high (comes_by t m.all m.go s.words (set s.words i n) h.number e h w a) g codes in (
         p,
-        subst (λ (y : Start). Stands y Given h.number w.cpu) (sym f.told)
+        subst (λ (y : Start). StandsInUpdate y Given h.number w.cpu) (sym f.told)
             (stands (set m.all h.number w) m.go Given (set s.words i n) h.number w p.led (set_here m.all h.number w (at_less m.all h.number h f.at)) u' g old.1),
       )
 
@@ -549,7 +549,7 @@ module _ (key : Key) where
           ap (λ (y : Event). view me.0.root (does me.0.start y h ∷ []) me.0.go me.0.shown me.0) own_e ∙ moved me.0 (work me.0.start) h d.is,
           of_one me.0 h (λ x. (was : ℕ) × PassSteps me.0.start (word_step i was n) (Some (Does x.number (own_event me.0.start x.cpu))) x (work me.0.start x)) d.is
               (subst (λ (y : Event). (was : ℕ) × PassSteps me.0.start (word_step i was n) (Some (Does h.number y)) h (does me.0.start y h)) own_e (get_or s.words i 0, p.0.steps)),
-          of_one me.0 h (λ x. Stands me.0.start Given x.number (work me.0.start x).cpu) d.is (subst (λ (y : Event). Stands me.0.start Given h.number (does me.0.start y h).cpu) own_e p.1),
+          of_one me.0 h (λ x. StandsInUpdate me.0.start Given x.number (work me.0.start x).cpu) d.is (subst (λ (y : Event). StandsInUpdate me.0.start Given h.number (does me.0.start y h).cpu) own_e p.1),
         ),
       )
 

@@ -8,7 +8,7 @@ use Rattle.mt_machine.specs.Machine.{own_step}
 use Rattle.mt_rendezvous.specs.declared.view.Added.TheVariants.{Once}
 use Rattle.mt_rendezvous.specs.declared.view.View.{View}
 use Rattle.mt_rendezvous.specs.Station.{held}
-use Rattle.mt_rendezvous.specs.Plays.{Sat, Stands, TellsAt, own_event, work}
+use Rattle.mt_rendezvous.specs.Plays.{Sat, StandsInUpdate, TellsAt, own_event, work}
 use Rattle.mt_rendezvous.specs.Calls.{Carries, PassOf}
 use Rattle.mt_rendezvous.proofs.Carried.{carried, of_it}
 use Rattle.mt_rendezvous.proofs.Told.{of_store}
@@ -19,5 +19,5 @@ module _ {pass : PassOf Sat} {c : Processor} (r : Carries pass c Once) (new : Sa
       let w = (of_store i st pass.me new found high tells).2 in
       carried r its new d Once work same w.0 (ap (λ (v : View). v.held) w.1) (ap (λ (v : View). v.start) w.1) (ap (λ (p : Processor). held pass.number p Once) (sym is))
 
-  pub stands_on : Stands pass.start Given pass.number d
-  stands_on = subst (Stands pass.start Given pass.number) (sym is) (of_it r (λ u h. Stands u Given h.number (work u h).cpu) (of_store i st pass.me new found high tells).2.3)
+  pub stands_on : StandsInUpdate pass.start Given pass.number d
+  stands_on = subst (StandsInUpdate pass.start Given pass.number) (sym is) (of_it r (λ u h. StandsInUpdate u Given h.number (work u h).cpu) (of_store i st pass.me new found high tells).2.3)

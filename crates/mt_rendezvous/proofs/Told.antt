@@ -16,7 +16,7 @@ use Rattle.mt_rendezvous.specs.declared.view.Start.{Start}
 use Rattle.mt_rendezvous.specs.declared.view.View.{View}
 use Rattle.mt_rendezvous.specs.declared.view.Key.{Key}
 use Rattle.mt_rendezvous.specs.Station.{Meets, code, first_memory_word, held, with_held}
-use Rattle.mt_rendezvous.specs.Plays.{Arrives, GoesTo, IsWaiting, Passes, Sat, Tells, TellsAt, TellsFirst, TellsSecond, arrive, does, late, own_event, written}
+use Rattle.mt_rendezvous.specs.Plays.{Arrives, GoesTo, IsWaiting, Passes, Sat, TellsSeatStep, TellsAt, TellsFirst, TellsSecond, arrive, does, late, own_event, written}
 use Rattle.mt_rendezvous.proofs.Steps.{IsDue, arrives, arrives_again, own_is, passes, releases, works, writes_back}
 use Rattle.mt_rendezvous.specs.declared.view.Added.TheVariants.{Never, Once, Twice}
 use Rattle.mt_rendezvous.proofs.RootSteps.{cancels, gives}
@@ -103,7 +103,7 @@ goes_back slots t k i j address value c e own word placed at_i = subst (λ (w : 
 -- ---- the calls
 
 module _ (key : Key) (slots id k : ℕ) (me : Sat) (c : Processor) where
-  pub arrives_told : me.0.root ≡ false → me.0.held ≡ held k c Never ∷ [] → c.phase ≡ Taken → Allows (Meets key) slots id me 0 (λ n. (n + 1) % 2 ^ 64) (Tells (step slots 0 1 0 none) me)
+  pub arrives_told : me.0.root ≡ false → me.0.held ≡ held k c Never ∷ [] → c.phase ≡ Taken → Allows (Meets key) slots id me 0 (λ n. (n + 1) % 2 ^ 64) (TellsSeatStep (step slots 0 1 0 none) me)
   arrives_told no_root is taken s m size at small =
       let r = arrives key slots id me (held k c Never) is refl taken s m size at small in (
         r.0,
@@ -113,23 +113,23 @@ module _ (key : Key) (slots id k : ℕ) (me : Sat) (c : Processor) where
         ((λ (root : me.0.root ≡ true). absurd (true≢false (sym root ∙ no_root))), (λ _. (record { number = k; cpu = c; holds = is; phase = taken }, r.4))),
       )
 
-  pub passes_told : me.0.held ≡ held k c Once ∷ [] → IsWaiting c.phase → Allows (Meets key) slots id me 0 (λ n. n) (Tells (step slots 0 0 0 none) me)
+  pub passes_told : me.0.held ≡ held k c Once ∷ [] → IsWaiting c.phase → Allows (Meets key) slots id me 0 (λ n. n) (TellsSeatStep (step slots 0 0 0 none) me)
   passes_told is waits s m size at small =
       let r = passes key slots id me (held k c Once) is refl waits s m size at small in
       (r.0, r.1, r.2, r.3, (record { number = k; cpu = c; holds = is; phase = waits }, r.4))
 
-  pub arrives_again_told : me.0.held ≡ held k c Once ∷ [] → c.phase ≡ Restored → Allows (Meets key) slots id me 1 (λ n. (n + 1) % 2 ^ 64) (Tells (step slots 1 1 0 none) me)
+  pub arrives_again_told : me.0.held ≡ held k c Once ∷ [] → c.phase ≡ Restored → Allows (Meets key) slots id me 1 (λ n. (n + 1) % 2 ^ 64) (TellsSeatStep (step slots 1 1 0 none) me)
   arrives_again_told is restored s m size at small =
       let r = arrives_again key slots id me (held k c Once) is refl restored s m size at small in
       (r.0, r.1, r.2, r.3, (record { number = k; cpu = c; holds = is; phase = restored }, r.4))
 
-  pub releases_told : me.0.held ≡ held k c Twice ∷ [] → c.phase ≡ Arrived2 → Allows (Meets key) slots id me 1 (λ n. n) (Tells (step slots 1 0 0 none) me)
+  pub releases_told : me.0.held ≡ held k c Twice ∷ [] → c.phase ≡ Arrived2 → Allows (Meets key) slots id me 1 (λ n. n) (TellsSeatStep (step slots 1 0 0 none) me)
   releases_told is waits s m size at small =
       let r = releases key slots id me (held k c Twice) is refl waits s m size at small in
       (r.0, r.1, r.2, r.3, (record { number = k; cpu = c; holds = is; phase = waits }, r.4))
 
   pub works_told : (n : ℕ) (e : Event) → IsDue key me (held k c Once) e → written e ≡ None → n ≡ code (own_step me.0.start.goal e c).phase
-      → Allows (Meets key) slots id me (k + 2) (λ _. n) (λ _. Tells (step slots (k + 2) n 0 none) me n)
+      → Allows (Meets key) slots id me (k + 2) (λ _. n) (λ _. TellsSeatStep (step slots (k + 2) n 0 none) me n)
   works_told n e d no_word is_code s m size at small =
       let r = works key slots id n me (held k c Once) e d no_word is_code s m size at small in
       let goes = goes_own slots me.0.start k n c e (own_is key me.0.start me (held k c Once) e d) no_word is_code in (
@@ -141,7 +141,7 @@ module _ (key : Key) (slots id k : ℕ) (me : Sat) (c : Processor) where
       )
 
   pub writes_back_told : (i j address value : ℕ) (e : Event) → IsDue key me (held k c Once) e → written e ≡ Some (address, value) → place me.0.start.ram address ≡ Some j → i ≡ first_memory_word me.0.start + j
-      → Allows (Meets key) slots id me i (λ _. value) (λ _. Tells (step slots i value 0 none) me value)
+      → Allows (Meets key) slots id me i (λ _. value) (λ _. TellsSeatStep (step slots i value 0 none) me value)
   writes_back_told i j address value e d word placed at_i s m size at small =
       let r = writes_back key slots id i j address value me (held k c Once) e d word placed at_i s m size at small in
       let goes = goes_back slots me.0.start k i j address value c e (own_is key me.0.start me (held k c Once) e d) word placed at_i in (
@@ -153,11 +153,11 @@ module _ (key : Key) (slots id k : ℕ) (me : Sat) (c : Processor) where
       )
 
 module _ (key : Key) (slots id : ℕ) (me : Sat) (root : me.0.root ≡ true) (unsaid : me.0.go ≡ Pending) where
-  pub gives_told : Allows (Meets key) slots id me 0 (λ n. (n + 1) % 2 ^ 64) (Tells (step slots 0 1 0 none) me)
+  pub gives_told : Allows (Meets key) slots id me 0 (λ n. (n + 1) % 2 ^ 64) (TellsSeatStep (step slots 0 1 0 none) me)
   gives_told s m size at small =
       let r = gives key slots id me root unsaid s m size at small in
       (r.0, r.1, r.2, r.3, ((λ _. ((root, unsaid), r.4)), (λ (no_root : me.0.root ≡ false). absurd (true≢false (sym root ∙ no_root)))))
 
-  pub cancels_told : Allows (Meets key) slots id me 0 (λ n. (n + 4294967296) % 2 ^ 64) (Tells (step slots 0 4294967296 0 none) me)
+  pub cancels_told : Allows (Meets key) slots id me 0 (λ n. (n + 4294967296) % 2 ^ 64) (TellsSeatStep (step slots 0 4294967296 0 none) me)
   cancels_told s m size at small =
       let r = cancels key slots id me root unsaid s m size at small in (r.0, r.1, r.2, r.3, (refl, (root, unsaid), r.4))

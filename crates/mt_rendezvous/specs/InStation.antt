@@ -24,7 +24,7 @@ use Rattle.mt_rendezvous.specs.declared.view.Held.{Held}
 use Rattle.mt_rendezvous.specs.declared.view.Start.{Start}
 use Rattle.mt_rendezvous.specs.declared.view.View.{View}
 use Rattle.mt_rendezvous.specs.Station.{Begins, start_of}
-use Rattle.mt_rendezvous.specs.Plays.{IsWaiting, Made, Sat, Stands}
+use Rattle.mt_rendezvous.specs.Plays.{IsWaiting, Made, Sat, StandsInUpdate}
 use Rattle.mt_rendezvous.specs.Update.{decided}
 use Rattle.mt_rendezvous.specs.Calls.{Carries, Ends, HasAdded, IsRoot, Leads, Offers, PassOf, SeatOf}
 
@@ -124,7 +124,7 @@ pub record HasArrived (station : Station) (pass : Pass) (cpu : Processor) : Type
 pub record HasPassed (station : Station) (pass : Pass) (cpu : Processor) : Type 0 where
   pub begins : Begins (start_at station)
   pub carries : CarriesIn station pass cpu Once
-  pub stands : Stands (start_at station) Given pass.number cpu
+  pub stands : StandsInUpdate (start_at station) Given pass.number cpu
   pub between : is_changing cpu.phase ≡ true
 
 -- the pass has added to the second count, and its processor waits there

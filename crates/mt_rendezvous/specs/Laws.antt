@@ -20,7 +20,7 @@ use Rattle.mt_rendezvous.specs.declared.view.Held.{Held}
 use Rattle.mt_rendezvous.specs.declared.view.View.{View}
 use Rattle.mt_rendezvous.specs.declared.view.Key.{Key}
 use Rattle.mt_rendezvous.specs.Station.{Begins, Meets, both, broadcast, held, joined, pass_right, root_left, spent, start_of}
-use Rattle.mt_rendezvous.specs.Plays.{Arrives, ArrivesAgain, Cancels, CanFollow, Gives, GoesTo, IsWaiting, Passes, Releases, Sat, Tells, Works, after_event, own_event, written}
+use Rattle.mt_rendezvous.specs.Plays.{Arrives, ArrivesAgain, Cancels, CanFollow, Gives, GoesTo, IsWaiting, Passes, Releases, Sat, TellsSeatStep, Works, after_event, own_event, written}
 use Rattle.mt_rendezvous.specs.Calls.{gathered}
 use Rattle.mt_machine.specs.Start.{IsBroadcast}
 
@@ -67,7 +67,7 @@ abbrev pub Station : Type 0
 Station = State (Unit {0}) View
 
 -- the second state meets the rule too, and its machine is the one after this event, which was enabled, or the same machine if there is none
-pub record Follows (key : Key) (s after : Station) (m : Meets key s) (e : Option MachineEvent) : Type 0 where
+pub record StationFollows (key : Key) (s after : Station) (m : Meets key s) (e : Option MachineEvent) : Type 0 where
   pub kept : Meets key after
   pub enabled : CanFollow (machine_of key s m) e
   pub becomes : machine_of key after kept ≡ after_event (machine_of key s m) e
@@ -103,42 +103,42 @@ OfPass added P =
 abbrev pub SplitFollows : Type 0
 SplitFollows =
     (key : Key) (s : Station) (m : Meets key s) (id : ℕ) (v : View) (h : Held) (hs : List Held) → get_elem? s.views id ≡ some v → v.held ≡ h ∷ hs
-    → Follows key s (record { words = s.words; homes = s.homes; views = slice_set s.views id (root_left v) ++ pass_right v ∷ [] }) m None
+    → StationFollows key s (record { words = s.words; homes = s.homes; views = slice_set s.views id (root_left v) ++ pass_right v ∷ [] }) m None
 
 -- a pass is taken back: no event
 abbrev pub JoinFollows : Type 0
 JoinFollows =
     (key : Key) (s : Station) (m : Meets key s) (id other : ℕ) (v w : View) (h : Held) → get_elem? s.views id ≡ some v → v.root ≡ true → ¬ (other ≡ id)
     → get_elem? s.views other ≡ some w → w.held ≡ h ∷ []
-    → Follows key s (record { words = s.words; homes = s.homes; views = slice_set (slice_set s.views id (both v w)) other spent }) m None
+    → StationFollows key s (record { words = s.words; homes = s.homes; views = slice_set (slice_set s.views id (both v w)) other spent }) m None
 
 -- the root's additions to word 0
 abbrev pub GoFollows : Type 0
 GoFollows =
     (key : Key) (s : Station) (m : Meets key s) (id : ℕ) (me new : Sat) → IsAsked s id me → Gives (step 0 0 1 0 none) me (slice_index s.words 0) new
-    → Follows key s (raised s id new 0 1) m (Some Goes)
+    → StationFollows key s (raised s id new 0 1) m (Some Goes)
 
 abbrev pub CancelFollows : Type 0
 CancelFollows =
     (key : Key) (s : Station) (m : Meets key s) (id : ℕ) (me new : Sat) → IsAsked s id me → Cancels (step 0 0 4294967296 0 none) me (slice_index s.words 0) new
-    → Follows key s (raised s id new 0 4294967296) m (Some CancelsUpdate)
+    → StationFollows key s (raised s id new 0 4294967296) m (Some CancelsUpdate)
 
 -- an addition of a pass to word 0
 abbrev pub ArriveFollows : Type 0
 ArriveFollows =
     OfPass Never
     (λ key s m id k c me new. c.phase ≡ Taken → Arrives (step 0 0 1 0 none) me (slice_index s.words 0) new
-    → (slice_index s.words 0 < 4294967296 → Follows key s (raised s id new 0 1) m (Some (Steps k Arrive)))
-    × (4294967296 ≤ slice_index s.words 0 → Follows key s (raised s id new 0 1) m None))
+    → (slice_index s.words 0 < 4294967296 → StationFollows key s (raised s id new 0 1) m (Some (Steps k Arrive)))
+    × (4294967296 ≤ slice_index s.words 0 → StationFollows key s (raised s id new 0 1) m None))
 
 -- a load of word 0
 abbrev pub PassFollows : Type 0
 PassFollows =
     OfPass Once
     (λ key s m id k c me new. IsWaiting c.phase → Passes (step 0 0 0 0 none) me (slice_index s.words 0) new
-    → (slice_index s.words 0 ≡ length me.0.start.cpus + 1 → Follows key s (loaded s id new 0) m (Some (Steps k Pass)))
-    × (4294967296 ≤ slice_index s.words 0 → Follows key s (loaded s id new 0) m (Some (Steps k Leave)))
-    × (slice_index s.words 0 < 4294967296 → slice_index s.words 0 ≢ length me.0.start.cpus + 1 → Follows key s (loaded s id new 0) m None))
+    → (slice_index s.words 0 ≡ length me.0.start.cpus + 1 → StationFollows key s (loaded s id new 0) m (Some (Steps k Pass)))
+    × (4294967296 ≤ slice_index s.words 0 → StationFollows key s (loaded s id new 0) m (Some (Steps k Leave)))
+    × (slice_index s.words 0 < 4294967296 → slice_index s.words 0 ≢ length me.0.start.cpus + 1 → StationFollows key s (loaded s id new 0) m None))
 
 -- a store
 abbrev pub WorkFollows : Type 0
@@ -146,22 +146,22 @@ WorkFollows =
     OfPass Once
     (λ key s m id k c me new. (i n : ℕ) → IsTrue (is_local c.phase)
     → GoesTo me.0.start (held k c Once) (written (own_event me.0.start c)) (step 0 i n 0 none) → Works (step 0 i n 0 none) me n new
-    → Follows key s (stored s id new i n) m (Some (Steps k (own_event me.0.start c))))
+    → StationFollows key s (stored s id new i n) m (Some (Steps k (own_event me.0.start c))))
 
 -- an addition to word 1
 abbrev pub ArriveAgainFollows : Type 0
 ArriveAgainFollows =
     OfPass Once
     (λ key s m id k c me new. c.phase ≡ Restored → ArrivesAgain (step 0 1 1 0 none) me (slice_index s.words 1) new
-    → Follows key s (raised s id new 1 1) m (Some (Steps k ArriveAgain)))
+    → StationFollows key s (raised s id new 1 1) m (Some (Steps k ArriveAgain)))
 
 -- a load of word 1
 abbrev pub ReleaseFollows : Type 0
 ReleaseFollows =
     OfPass Twice
     (λ key s m id k c me new. c.phase ≡ Arrived2 → Releases (step 0 1 0 0 none) me (slice_index s.words 1) new
-    → (slice_index s.words 1 ≡ length me.0.start.cpus → Follows key s (loaded s id new 1) m (Some (Steps k Release)))
-    × (slice_index s.words 1 ≢ length me.0.start.cpus → Follows key s (loaded s id new 1) m None))
+    → (slice_index s.words 1 ≡ length me.0.start.cpus → StationFollows key s (loaded s id new 1) m (Some (Steps k Release)))
+    × (slice_index s.words 1 ≢ length me.0.start.cpus → StationFollows key s (loaded s id new 1) m None))
 
 -- ---- every step at once
 
@@ -210,17 +210,17 @@ ComesOf i a (Some other) = ⊥
 -- such a step keeps the rule, and is one event of the station's machine that comes of it, or none
 pub record IsOneStep (key : Key) (s : Station) (m : Meets key s) (t : SeatStep) : Type 0 where
   pub event : Option MachineEvent
-  pub follows : Follows key s (after_step s t) m event
+  pub follows : StationFollows key s (after_step s t) m event
   pub comes : ComesOf t.word t.operand event
 
 -- so it is with each step that the play lets a seat make on a station that meets the rule, whatever the word, the operand and the seat
 abbrev pub EachStepFollows : Type 0
 EachStepFollows =
-    (key : Key) (s : Station) (m : Meets key s) (id i a : ℕ) (me new : Sat) → get_elem? s.views id ≡ some me.0 → Tells (step 0 i a 0 none) me (told_at i a s.words) new
+    (key : Key) (s : Station) (m : Meets key s) (id i a : ℕ) (me new : Sat) → get_elem? s.views id ≡ some me.0 → TellsSeatStep (step 0 i a 0 none) me (told_at i a s.words) new
     → IsOneStep key s m (seat_step id i a new)
 
 -- a load of word 1 shows its seat what it found, and no other step shows it anything
 abbrev pub ShownIsFound : Type 0
 ShownIsFound =
-    (i a found : ℕ) (me new : Sat) → Tells (step 0 i a 0 none) me found new
+    (i a found : ℕ) (me new : Sat) → TellsSeatStep (step 0 i a 0 none) me found new
     → (i ≡ 1 → a ≡ 0 → new.0.shown ≡ Some found) × ((i ≢ 1) ⊎ (a ≢ 0) → new.0.shown ≡ me.0.shown)

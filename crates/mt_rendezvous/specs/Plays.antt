@@ -85,7 +85,7 @@ pub record Took (t : Start) (k : ℕ) (e : Event) (p q : Processor) : Type 0 whe
   pub after : slice_get (next machine (Steps k e)).system.processors k ≡ Some q
 
 -- a machine that the broadcast leads to has the processor so, and its update isn't over
-pub record Stands (t : Start) (go : Go) (k : ℕ) (p : Processor) : Type 0 where
+pub record StandsInUpdate (t : Start) (go : Go) (k : ℕ) (p : Processor) : Type 0 where
   pub machine : Machine
   pub led : Led (broadcast t) machine
   pub order : machine.order ≡ Some (order_of t go)
@@ -145,14 +145,14 @@ Arrives st me found new =
 
 -- it has arrived, and stands then with the go given
 abbrev pub MayPass : Start → Held → Type 0
-MayPass t h = (h.cpu.phase ≡ Arrived) × Stands t Given h.number (does t Pass h).cpu
+MayPass t h = (h.cpu.phase ≡ Arrived) × StandsInUpdate t Given h.number (does t Pass h).cpu
 
 -- a load of word 0: Pass where all have arrived and go is given, Leave where it shows the cancel, else no event
 abbrev pub Passes : Step (Unit {0}) → Sat → ℕ → Sat → Type 0
 Passes st me found new =
     (new.1 ≡ me.1)
     × (found ≡ length me.0.start.cpus + 1 → Turned me new (does me.0.start Pass) × IsEvent me.0 (word_step st.word found found) Pass (does me.0.start Pass) × Of me.0 (MayPass me.0.start))
-    × (4294967296 ≤ found → Turned me new (does me.0.start Leave) × IsEvent me.0 (word_step st.word found found) Leave (does me.0.start Leave) × Of me.0 (λ h. Stands me.0.start Cancelled h.number h.cpu))
+    × (4294967296 ≤ found → Turned me new (does me.0.start Leave) × IsEvent me.0 (word_step st.word found found) Leave (does me.0.start Leave) × Of me.0 (λ h. StandsInUpdate me.0.start Cancelled h.number h.cpu))
     × (found < 4294967296 → found ≢ length me.0.start.cpus + 1 → (new.0 ≡ me.0) × IsNoEvent me.0 (word_step st.word found found) (λ h. h))
 
 -- a store of the own phase word, or of a word of memory: the event that is due
@@ -161,7 +161,7 @@ Works st me found new =
     (new.1 ≡ me.1)
     × Turned me new (work me.0.start)
     × Of me.0 (λ h. (was : ℕ) × PassSteps me.0.start (word_step st.word was st.first) (Some (Steps h.number (own_event me.0.start h.cpu))) h (work me.0.start h))
-    × Of me.0 (λ h. Stands me.0.start Given h.number (work me.0.start h).cpu)
+    × Of me.0 (λ h. StandsInUpdate me.0.start Given h.number (work me.0.start h).cpu)
 
 -- an addition to word 1: ArriveAgain
 abbrev pub ArrivesAgain : Step (Unit {0}) → Sat → ℕ → Sat → Type 0
@@ -247,9 +247,9 @@ TellsAt (suc zero) st = TellsSecond st.first st
 TellsAt (suc (suc i)) st = λ me found new.
     (p : IsPass me Once (λ p. IsTrue (is_local p))) × GoesTo me.0.start (held p.number p.cpu Once) (written (own_event me.0.start p.cpu)) st × Works st me found new
 
-abbrev pub Tells : Step (Unit {0}) → Sat → ℕ → Sat → Type 0
-Tells st = TellsAt st.word st
+abbrev pub TellsSeatStep : Step (Unit {0}) → Sat → ℕ → Sat → Type 0
+TellsSeatStep st = TellsAt st.word st
 
 -- the seat becomes the other by a step of word i with this operand
 abbrev pub Made : ℕ → ℕ → Sat → Sat → Type 0
-Made i a me new = (found : ℕ) × Tells (step 0 i a 0 none) me found new
+Made i a me new = (found : ℕ) × TellsSeatStep (step 0 i a 0 none) me found new

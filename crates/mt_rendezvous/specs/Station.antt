@@ -167,12 +167,12 @@ phase_word_of h = phase_word (in_second h.added) h.cpu.phase
 -- ---- the rule
 
 -- how a processor's phase and what its pass has added go together
-abbrev pub Fits : Go → Added → Phase → Type 0
-Fits go added Taken = (added ≡ Never) ⊎ ((added ≡ Once) × (go ≡ Cancelled))
-Fits go added Arrived = added ≡ Once
-Fits go added Arrived2 = (added ≡ Twice) × (go ≡ Given)
-Fits go added Running = ((added ≡ Once) × (go ≡ Cancelled)) ⊎ ((added ≡ Twice) × (go ≡ Given))
-Fits go added other = (added ≡ Once) × (go ≡ Given)
+abbrev pub FitsPhase : Go → Added → Phase → Type 0
+FitsPhase go added Taken = (added ≡ Never) ⊎ ((added ≡ Once) × (go ≡ Cancelled))
+FitsPhase go added Arrived = added ≡ Once
+FitsPhase go added Arrived2 = (added ≡ Twice) × (go ≡ Given)
+FitsPhase go added Running = ((added ≡ Once) × (go ≡ Cancelled)) ⊎ ((added ≡ Twice) × (go ≡ Given))
+FitsPhase go added other = (added ≡ Once) × (go ≡ Given)
 
 -- whether its era has risen
 abbrev pub rise : Bool → Phase → ℕ
@@ -188,7 +188,7 @@ Waits other = ⊥
 -- as long as it waits it is as it was gathered, but for its phase
 pub record FitsHeld (t : Start) (go : Go) (h : Held) : Type 0 where
   pub first : Waits h.cpu.phase → slice_get t.cpus h.number ≡ Some (record h.cpu { phase = Taken })
-  pub fits : Fits go h.added h.cpu.phase
+  pub fits : FitsPhase go h.added h.cpu.phase
   pub era : h.cpu.era ≡ common_era t.cpus + rise (in_second h.added) h.cpu.phase
 
 abbrev pub NotIn : ℕ → List Held → Type 0

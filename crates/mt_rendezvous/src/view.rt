@@ -61,9 +61,9 @@ impl TableRule<(), View, Key> for Meeting {
 pub struct Turn;
 
 impl Play<(), View> for Turn {
-    ghost use Rattle.mt_rendezvous.specs.Plays.{Tells};
+    ghost use Rattle.mt_rendezvous.specs.Plays.{TellsSeatStep};
 
-    ghost then = { Tells };
+    ghost then = { TellsSeatStep };
 }
 
 /// The root gives its first processor away, and takes one back. Neither is an event: no word changes, and the

@@ -5,7 +5,7 @@ use Rattle.mt_ports.specs.Puts.{AppendsFront}
 use Rattle.mt_ports.specs.declared.status.Failed.{Failed}
 use Rattle.mt_stream.specs.declared.ending.Stop.{Stop}
 use Rattle.mt_ports.specs.declared.status.Status.TheVariants.{Refused}
-use Rattle.mt_output.specs.Writing.{Passes}
+use Rattle.mt_output.specs.Writing.{PassesOn}
 use Rattle.mt_output.specs.Lines.{accepted_line, dump_refused_line}
 use Rattle.mt_output.proofs.Writing.{passes_nothing}
 use Rattle.mt_text.specs.declared.place.Place.{Place}
@@ -64,7 +64,7 @@ pub dump_accepted : (now : Situation) (dump : Dump) (number : ℕ) → first_ref
 dump_accepted now dump number is end lines = ap (told_dump now dump (body_lines end number lines)) is
 
 pub dump_goes : (now : Situation) (dump : Dump) (number : ℕ) (r : ReplayState) (text : List ℕ) (writer : Waiting) (sink : Port) → first_refusal dump.files ≡ None → r ≡ first_state now dump → text ≡ accepted_line
-    → Passes writer.old text writer.new sink.old sink.new → GoesOn (StandsAt (run.Body r)) (dump_at now dump number) writer sink
+    → PassesOn writer.old text writer.new sink.old sink.new → GoesOn (StandsAt (run.Body r)) (dump_at now dump number) writer sink
 dump_goes now dump number r text writer sink is first line passed = record {
   next = path_from false accepted_line (in_body (first_state now dump));
   at = (in_body (first_state now dump), false, (first, refl), (λ takes. refl), refl);
@@ -72,7 +72,7 @@ dump_goes now dump number r text writer sink is first line passed = record {
   goes = λ end lines.
       leads_then (from_dump now dump number end lines) (body_lines end number lines (first_state now dump)) false false (newcomers_in number lines (first_state now dump)) (newcomers_of_dump now dump (newcomers_in number lines) (first_refusal dump.files)) [] accepted_line
       (dump_accepted now dump number is end lines) (ap (newcomers_of_dump now dump (newcomers_in number lines)) is);
-  passed = subst (λ l. Passes writer.old l writer.new sink.old sink.new) line passed;
+  passed = subst (λ l. PassesOn writer.old l writer.new sink.old sink.new) line passed;
 }
 
 pub dump_fails : (now : Situation) (dump : Dump) (number : ℕ) (waiting text : List ℕ) (sink : Port) → first_refusal dump.files ≡ None → text ≡ accepted_line → AppendsFront sink.old sink.new (waiting ++ text)

@@ -8,7 +8,7 @@ use Rattle.mt_ports.specs.declared.status.Status.{Status}
 use Rattle.mt_ports.specs.declared.status.Failed.{Failed}
 use Rattle.mt_ports.specs.Puts.{AppendsFront}
 use Rattle.mt_output.specs.Lines.{accepted_line}
-use Rattle.mt_output.specs.Writing.{Passes}
+use Rattle.mt_output.specs.Writing.{PassesOn}
 use Rattle.mt_script.specs.declared.command.Command.{Command}
 use Rattle.mt_dump.specs.Reader.{HasRead}
 use Rattle.mt_script.specs.Situation.{Situation, at_start}
@@ -79,7 +79,7 @@ HasOutput (run.Body r) came text = takes_windows r.now.stage ≡ true → text �
 abbrev pub Writes : Waiting → List ℕ → Port → Result (Option Stop) Failed → Type 0
 Writes writer text sink result =
     MatchResult result
-    (λ ended. (ended ≡ None) × Passes writer.old text writer.new sink.old sink.new)
+    (λ ended. (ended ≡ None) × PassesOn writer.old text writer.new sink.old sink.new)
     (λ _. AppendsFront sink.old sink.new (writer.old ++ text))
 
 -- A command was done: its text went through the writer, and its state stands. For want of memory nothing was done, and
@@ -88,7 +88,7 @@ abbrev pub CarriesOut : Change ReplayState → Command → Waiting → Port → 
 CarriesOut state c writer sink result =
     MatchResult result
     (λ ended. MatchOption ended
-    (Passes writer.old (command_text state.old c) writer.new sink.old sink.new × (state.new ≡ state_after state.old c))
+    (PassesOn writer.old (command_text state.old c) writer.new sink.old sink.new × (state.new ≡ state_after state.old c))
     (λ stop. (stop ≡ NoMemory) × (writer.new ≡ writer.old) × (sink.new ≡ sink.old)))
     (λ failed. AppendsFront sink.old sink.new (writer.old ++ command_text state.old c))
 

@@ -182,7 +182,7 @@ called_goal step = goal_by step.command step.before
 -- ---- and memory holds every store cached before it, save words stored again since"
 
 -- each processor's file is the goal, and each line, buffer and TLB entry is of this era; each word in memory has this value, save those stored again
-pub record Keeps (goal : RegisterFile) (era : ℕ) (value : ℕ → ℕ) (stored : List ℕ) (m : Machine) : Type 0 where
+pub record KeepsUpdate (goal : RegisterFile) (era : ℕ) (value : ℕ → ℕ) (stored : List ℕ) (m : Machine) : Type 0 where
   pub settled : IsSettled m.system era goal
   pub held : (address : ℕ) → IsSome (place m.system.memory address) → (Contains stored address → ⊥) → word_at m.system.memory address ≡ value address
 
@@ -199,7 +199,7 @@ CompleteUpdatesAreKept =
     (text : List ℕ) (front since rest : List ScriptStep) (update : ScriptStep) (era : ℕ)
     → course text ≡ front ++ update ∷ (since ++ rest) → wrote update ≡ complete_line era → NoneOf IsCall since
     → (wrote update ≡ complete_line (next_era update))
-    × Keeps update.before.goal (next_era update) (emptied_now update.before.machine) (stored_in since) (last_of (left update) since).machine
+    × KeepsUpdate update.before.goal (next_era update) (emptied_now update.before.machine) (stored_in since) (last_of (left update) since).machine
 
 -- ---- the same, by `joined K`
 
@@ -214,7 +214,7 @@ JoinsAreKept =
     (text : List ℕ) (front since rest : List ScriptStep) (join : ScriptStep) (k : ℕ)
     → course text ≡ front ++ join ∷ (since ++ rest) → Joins join k → NoneOf IsCall since
     → HasNewcomer join
-    × Keeps (first_file join.before) (next_era join) (emptied_now (with_newcomer join.before.machine)) (stored_in since) (last_of (left join) since).machine
+    × KeepsUpdate (first_file join.before) (next_era join) (emptied_now (with_newcomer join.before.machine)) (stored_in since) (last_of (left join) since).machine
 
 -- ---- the same, one after the other by `release`
 
@@ -253,7 +253,7 @@ ReleasedUpdatesAreKept =
     (text : List ℕ) (front since rest : List ScriptStep) (release : ScriptStep)
     → course text ≡ front ++ release ∷ (since ++ rest) → wrote release ≡ release_line → NoneOf IsCall since
     → (u : UpdateOf front release)
-    × Keeps (called_goal u.call) (next_era u.call) (now u.pass.before.machine.system) (stored_in (u.again ++ since)) (last_of (left release) since).machine
+    × KeepsUpdate (called_goal u.call) (next_era u.call) (now u.pass.before.machine.system) (stored_in (u.again ++ since)) (last_of (left release) since).machine
 
 -- ---- "a refused update changes no processor"
 

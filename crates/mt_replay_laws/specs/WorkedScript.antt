@@ -6,7 +6,7 @@ use Rattle.mt_machine.specs.Machine.{Machine}
 use Rattle.mt_machine.specs.System.{now}
 use Rattle.mt_script.specs.Situation.{at_start}
 use Rattle.mt_script.specs.declared.command.Command.TheVariants as command
-use Rattle.mt_replay_laws.specs.Headline.{Keeps, UpdateOf, called_goal, next_era, stored_in}
+use Rattle.mt_replay_laws.specs.Headline.{KeepsUpdate, UpdateOf, called_goal, next_era, stored_in}
 use Rattle.mt_replay.specs.Steps.{ScriptStep, course, last_of, left}
 use Rattle.mt_replay.specs.ReplayState.{ReplayState, first_state}
 
@@ -15,7 +15,7 @@ no_step = record { number = 0; command = command.Blank; before = first_state at_
 
 -- these values and registers are kept from a step on, through steps behind it
 abbrev pub KeptFrom : RegisterFile → ℕ → (ℕ → ℕ) → ScriptStep → List ScriptStep → Type 0
-KeptFrom goal era value step since = Keeps goal era value (stored_in since) (last_of (left step) since).machine
+KeptFrom goal era value step since = KeepsUpdate goal era value (stored_in since) (last_of (left step) since).machine
 
 -- ---- two processors: an update by steps, one all at once, a refused one, and a store behind each of the first two
 
@@ -63,7 +63,7 @@ end_of_release = (last_of (left (step_at 37)) after_release).machine
 -- the first release tells of an update, whose registers and words are kept behind it
 pub record IsReleaseOfUpdate : Type 0 where
   pub update : UpdateOf (front_of 37) (step_at 37)
-  pub kept : Keeps (called_goal update.call) (next_era update.call) (now update.pass.before.machine.system) (stored_in (update.again ++ after_release)) end_of_release
+  pub kept : KeepsUpdate (called_goal update.call) (next_era update.call) (now update.pass.before.machine.system) (stored_in (update.again ++ after_release)) end_of_release
 
 -- ---- one section, and a line behind it
 

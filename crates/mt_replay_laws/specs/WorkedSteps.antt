@@ -12,7 +12,7 @@ use Rattle.mt_script.specs.declared.command.Section.TheVariants.{Begin, End}
 use Rattle.mt_script.specs.declared.command.Ask.TheVariants as ask
 use Rattle.mt_script.specs.declared.command.Stage.TheVariants.{Commands, InBegin}
 use Rattle.mt_replay.specs.ReplayState.{ReplayState}
-use Rattle.mt_replay_laws.specs.Headline.{Keeps}
+use Rattle.mt_replay_laws.specs.Headline.{KeepsUpdate}
 use Rattle.mt_replay.specs.Steps.{ScriptStep}
 use Rattle.mt_replay_laws.specs.WorkedStates.{busy, painted, resting, state_of}
 
@@ -73,7 +73,7 @@ updated_processor = record (start_processor worked_file) { era = 1 }
 
 -- the machine keeps what the headline promises of an update to this file, the first, behind which these words were stored
 abbrev pub IsKept : (ℕ → ℕ) → List ℕ → Processor → Type 0
-IsKept value stored p = Keeps worked_file 1 value stored (machine_of p)
+IsKept value stored p = KeepsUpdate worked_file 1 value stored (machine_of p)
 
 -- the first word was stored, the others are zeros
 abbrev pub seven_stored : ℕ → ℕ

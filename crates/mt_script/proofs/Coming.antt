@@ -13,7 +13,7 @@ use Rattle.mt_dump.specs.Line.{is_word}
 use Rattle.mt_script.specs.Rows.{row_of}
 use Rattle.mt_script.specs.Shape.{shape_fault}
 use Rattle.mt_script.specs.Stages.{stands}
-use Rattle.mt_script.specs.Commands.{Answer, ask_in, command_of, ends_dump, in_section, in_stage, is_end, not_too_long, outside, row_line, verb_answer}
+use Rattle.mt_script.specs.Commands.{ReadCommand, ask_in, command_of, ends_dump, in_section, in_stage, is_end, not_too_long, outside, row_line, verb_answer}
 use Rattle.mt_script.specs.declared.command.Stage.{Stage}
 use Rattle.mt_script.specs.declared.command.Stage.TheVariants.{NeedCpus, NeedDump, InDump, Rams, Commands, InUpdate, InBegin}
 use Rattle.mt_script.specs.declared.command.Command.{Command}
@@ -41,7 +41,7 @@ module _ (now : Situation) (line : ℕ) (words : List (ℕ × List ℕ)) where
   abbrev RowBegins : Row → Type 0
   RowBegins row = IfOk (verb_answer now line words row.verb) Begins
 
-  one : {A : Type 0} (number : Result A ScriptFault) (next : A → Answer) → ((n : A) → IfOk (next n) Begins) → IfOk (with number next) Begins
+  one : {A : Type 0} (number : Result A ScriptFault) (next : A → ReadCommand) → ((n : A) → IfOk (next n) Begins) → IfOk (with number next) Begins
   one number next all = fits_with Begins number next (λ n is. all n)
 
   cpus_begins : IfOk (verb_answer now line words verb.Cpus) Begins
@@ -99,7 +99,7 @@ module _ (now : Situation) (number : ℕ) (line : List ℕ) where
   dump_begins true = tt
   dump_begins false = tt
 
-  short_begins : (answer : Answer) → IfOk answer (LineBegins line) → IfOk (not_too_long number line answer) (LineBegins line)
+  short_begins : (answer : ReadCommand) → IfOk answer (LineBegins line) → IfOk (not_too_long number line answer) (LineBegins line)
   short_begins answer begins = fits_if (LineBegins line) (is_too_long line) _ answer (λ long. tt) (λ short. begins)
 
   stage_begins : (stage : Stage) → IfOk (in_stage now number line stage) (LineBegins line)

@@ -11,7 +11,7 @@ use Rattle.mt_script.specs.Numbers.{fault_at}
 use Rattle.mt_script.specs.declared.fault.ScriptReason.TheVariants.{BadLine}
 use Rattle.mt_script.specs.Rows.{row_of}
 use Rattle.mt_script.specs.Shape.{bad_line, shape_fault}
-use Rattle.mt_script.specs.Commands.{Answer, outside, in_section, is_end, row_line}
+use Rattle.mt_script.specs.Commands.{ReadCommand, outside, in_section, is_end, row_line}
 use Rattle.mt_script.specs.declared.row.Row.{Row}
 use Rattle.mt_script.proofs.Table.{IsShort, rows_short}
 
@@ -28,7 +28,7 @@ too_many number words row short many =
     let more : nat_lt row.most (length words) ≡ true = grind (arith, nat_tests, short) in
     rw (enough, more) refl
 
-abbrev bad_place : ℕ → List (ℕ × List ℕ) → Row → Answer
+abbrev bad_place : ℕ → List (ℕ × List ℕ) → Row → ReadCommand
 bad_place number words row = Err (fault_at BadLine (place_of number words row.most))
 
 bad_row : (now : Situation) (number : ℕ) (words : List (ℕ × List ℕ)) (row : Row) → IsShort row → 7 ≤ length words → row_line now number words (Some row) ≡ bad_place number words row

@@ -16,7 +16,7 @@ use Rattle.mt_script.specs.Numbers.{fault_at, tested, limited, with, any, count_
 use Rattle.mt_script.specs.Rows.{row_of}
 use Rattle.mt_script.specs.Stages.{stands, takes_cpus, takes_windows, takes_commands, takes_registers, takes_end, is_in_dump}
 use Rattle.mt_script.specs.Shape.{shape_fault}
-use Rattle.mt_script.specs.Commands.{Answer, ask_in, verb_answer, row_line, outside, register_line, is_end, in_section, ends_dump, not_too_long, in_stage, command_of}
+use Rattle.mt_script.specs.Commands.{ReadCommand, ask_in, verb_answer, row_line, outside, register_line, is_end, in_section, ends_dump, not_too_long, in_stage, command_of}
 use Rattle.mt_script.specs.Accept.{Fits, FitsAsk, IsAligned}
 use Rattle.mt_dump.proofs.OneLine.{decimal_within}
 use Rattle.mt_script.proofs.Table.{row_all}
@@ -40,11 +40,11 @@ pub fits_with : {A B : Type 0} (P : B → Type 0) (value : Result A ScriptFault)
 fits_with P (Err fault) next all = tt
 fits_with P (Ok n) next all = all n refl
 
-pub fits_unless : (P : Command → Type 0) (fault : Option ScriptFault) (answer : Answer) → IfOk answer P → IfOk (option_map_or (λ fault. Err fault) fault answer) P
+pub fits_unless : (P : Command → Type 0) (fault : Option ScriptFault) (answer : ReadCommand) → IfOk answer P → IfOk (option_map_or (λ fault. Err fault) fault answer) P
 fits_unless P (Some fault) answer fits = tt
 fits_unless P None answer fits = fits
 
-pub fits_if : (P : Command → Type 0) (test : Bool) (yes_answer no_answer : Answer) → (test ≡ true → IfOk yes_answer P) → (test ≡ false → IfOk no_answer P) → IfOk (if test then yes_answer else no_answer) P
+pub fits_if : (P : Command → Type 0) (test : Bool) (yes_answer no_answer : ReadCommand) → (test ≡ true → IfOk yes_answer P) → (test ≡ false → IfOk no_answer P) → IfOk (if test then yes_answer else no_answer) P
 fits_if P true yes_answer no_answer good bad = good refl
 fits_if P false yes_answer no_answer good bad = bad refl
 
@@ -74,7 +74,7 @@ count_fact line words i first last n is =
     (leb-true first n parts.1, decimal_within (text_of words i) last n (limited_fact place (decimal_number (text_of words i) last) n parts.0))
 
 module _ (now : Situation) (line : ℕ) (words : List (ℕ × List ℕ)) where
-  for_processor : (next : ℕ → Answer) → ((k : ℕ) → k < most_processors now → IfOk (next k) (Fits now)) → IfOk (with (processor_in now line words 1) next) (Fits now)
+  for_processor : (next : ℕ → ReadCommand) → ((k : ℕ) → k < most_processors now → IfOk (next k) (Fits now)) → IfOk (with (processor_in now line words 1) next) (Fits now)
   for_processor next all = fits_with (Fits now) (processor_in now line words 1) next
       (λ k is. all k (ltb-true k (most_processors now)
       (tested_fact (limited (place_of line words 1) (decimal_number (text_of words 1) 0xffffffffffffffff)) OutOfRange (place_of line words 1) (λ k. nat_lt k (most_processors now)) k is).1))
@@ -162,7 +162,7 @@ module _ (now : Situation) (line : ℕ) (bytes : List ℕ) where
   dump_fits stage ends true = ends
   dump_fits stage ends false = stage
 
-  short_fits : (answer : Answer) → IfOk answer (Fits now) → IfOk (not_too_long line bytes answer) (Fits now)
+  short_fits : (answer : ReadCommand) → IfOk answer (Fits now) → IfOk (not_too_long line bytes answer) (Fits now)
   short_fits answer fits = fits_if (Fits now) (is_too_long bytes) _ _ (λ long. tt) (λ short. fits)
 
   pub command_fits : IfOk (command_of now line bytes) (Fits now)

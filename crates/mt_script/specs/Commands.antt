@@ -30,8 +30,8 @@ use Rattle.mt_script.specs.declared.row.AskVerb.TheVariants as ask_verb
 use Rattle.mt_script.specs.declared.fault.ScriptReason.TheVariants.{BadLine, UnknownRegister, OutOfRange, NoEnd, NotNow, Repeated}
 use Rattle.mt_script.specs.declared.fault.ScriptFault.{ScriptFault}
 
-abbrev pub Answer : Type 0
-Answer = Result Command ScriptFault
+abbrev pub ReadCommand : Type 0
+ReadCommand = Result Command ScriptFault
 
 -- what is asked of a processor, by the words behind its number
 abbrev pub ask_in : Situation → ℕ → List (ℕ × List ℕ) → AskVerb → Result Ask ScriptFault
@@ -49,7 +49,7 @@ ask_in now line words ask_verb.Step = Ok ask.Step
 ask_in now line words ask_verb.Msr = with (register_in now line words 2) (λ register. Ok (ask.Msr register))
 
 -- the numbers of a line of each verb, from left to right, and the command that it asks for
-abbrev pub verb_answer : Situation → ℕ → List (ℕ × List ℕ) → Verb → Answer
+abbrev pub verb_answer : Situation → ℕ → List (ℕ × List ℕ) → Verb → ReadCommand
 verb_answer now line words verb.Cpus = with (count_in line words 1 1 16) (λ n. Ok (command.Cpus n))
 verb_answer now line words verb.Dump = Ok command.Dump
 verb_answer now line words verb.Ram =
@@ -68,20 +68,20 @@ verb_answer now line words verb.Report = Ok command.Report
 verb_answer now line words verb.Word = with (physical_in now line words 1 8) (λ address. Ok (command.Word address))
 
 -- a line of a row: its words, its stage, its numbers
-abbrev pub row_line : Situation → ℕ → List (ℕ × List ℕ) → Option Row → Answer
+abbrev pub row_line : Situation → ℕ → List (ℕ × List ℕ) → Option Row → ReadCommand
 row_line now line words None = Err (fault_at BadLine (place_of line words 0))
 row_line now line words (Some row) =
     option_map_or (λ fault. Err fault) (shape_fault line words row)
     (if stands row.turn now.stage then verb_answer now line words row.verb else Err (fault_at NotNow (place_of line words 0)))
 
 -- a line outside the sections
-abbrev pub outside : Situation → ℕ → List (ℕ × List ℕ) → Answer
+abbrev pub outside : Situation → ℕ → List (ℕ × List ℕ) → ReadCommand
 outside now line words =
     if length words == 0 then Ok command.Blank
     else row_line now line words (row_of (text_of words 0))
 
 -- One `:` at the end of the first word is no part of it.
-abbrev pub register_line : Situation → ℕ → List (ℕ × List ℕ) → Answer
+abbrev pub register_line : Situation → ℕ → List (ℕ × List ℕ) → ReadCommand
 register_line now line words =
     with (any (place_of line words 0) (hex_number (without_ending 58 (text_of words 0)))) (λ number. with (value_in line words 1) (λ value.
     if is_writable (file_of now) number then
@@ -93,7 +93,7 @@ abbrev pub is_end : List (ℕ × List ℕ) → Bool
 is_end words = if length words == 1 then is_word (codes "end") (text_of words 0) else false
 
 -- a line of a section of `update` or `begin`
-abbrev pub in_section : Situation → ℕ → List (ℕ × List ℕ) → Answer
+abbrev pub in_section : Situation → ℕ → List (ℕ × List ℕ) → ReadCommand
 in_section now line words =
     if length words == 0 then Ok command.Blank
     else if is_end words then Ok (command.Section End)
@@ -106,17 +106,17 @@ abbrev pub ends_dump : List ℕ → Bool
 ends_dump line = if is_too_long line then false else is_end (words_of line)
 
 -- a line that isn't one of the dump
-abbrev pub not_too_long : ℕ → List ℕ → Answer → Answer
+abbrev pub not_too_long : ℕ → List ℕ → ReadCommand → ReadCommand
 not_too_long line bytes answer = if is_too_long bytes then Err (fault_at BadLine (past_limit line)) else answer
 
 -- A line of the dump has no fault here.
-abbrev pub in_stage : Situation → ℕ → List ℕ → Stage → Answer
+abbrev pub in_stage : Situation → ℕ → List ℕ → Stage → ReadCommand
 in_stage now line bytes InDump = Ok (if ends_dump bytes then command.Section End else command.DumpLine)
 in_stage now line bytes InUpdate = not_too_long line bytes (in_section now line (words_of bytes))
 in_stage now line bytes InBegin = not_too_long line bytes (in_section now line (words_of bytes))
 in_stage now line bytes other = not_too_long line bytes (outside now line (words_of bytes))
 
-abbrev pub command_of : Situation → ℕ → List ℕ → Answer
+abbrev pub command_of : Situation → ℕ → List ℕ → ReadCommand
 command_of now line bytes = in_stage now line bytes now.stage
 
 abbrev pub end_fault : Stage → Place → Option ScriptFault

@@ -49,20 +49,20 @@ head_line now before says = record { now = now; before = before; says = says }
 
 -- A line of the dump has no offence after those before it. The end of the dump comes where its lines show a dump with a file for each
 -- processor, or in version 1 one for all.
-abbrev pub GoesOn : HeadLine → (Situation → List Reading → Type 0) → Bool → Type 0
-GoesOn here rest true =
+abbrev pub HeadGoesOn : HeadLine → (Situation → List Reading → Type 0) → Bool → Type 0
+HeadGoesOn here rest true =
     (dump : Dump) × ShownBy (onto here.before []) dump × (has_each here.now.cpus dump ≡ true) × rest (finished here.now dump) []
-GoesOn here rest false = (offence_of here.before here.says ≡ None) × rest here.now (here.says ∷ here.before)
+HeadGoesOn here rest false = (offence_of here.before here.says ≡ None) × rest here.now (here.says ∷ here.before)
 
-abbrev pub Follows : HeadLine → (Situation → List Reading → Type 0) → Command → Bool → Type 0
-Follows here rest c true = GoesOn here rest (is_end_command c)
-Follows here rest c false = rest (accepted here.now c) here.before
+abbrev pub LineFollows : HeadLine → (Situation → List Reading → Type 0) → Command → Bool → Type 0
+LineFollows here rest c true = HeadGoesOn here rest (is_end_command c)
+LineFollows here rest c false = rest (accepted here.now c) here.before
 
 -- each of these lines is accepted in its turn, and the text may end after them
 abbrev pub AreGood : ℕ → List (List ℕ) → Situation → List Reading → Type 0
 AreGood number [] now before = takes_commands now.stage ≡ true
 AreGood number (line ∷ lines) now before =
-    (c : Command) × (command_of now number line ≡ Ok c) × Follows (head_line now before (said_of number line)) (AreGood (number + 1) lines) c (is_in_dump now.stage)
+    (c : Command) × (command_of now number line ≡ Ok c) × LineFollows (head_line now before (said_of number line)) (AreGood (number + 1) lines) c (is_in_dump now.stage)
 
 abbrev pub IsGoodScript : List ℕ → Type 0
 IsGoodScript text = AreGood 1 (lines_of text) at_start []

@@ -5,11 +5,11 @@ use Rattle.mt_ports.specs.Puts.{AppendsFront}
 use Rattle.mt_ports.specs.declared.status.Failed.{Failed}
 use Rattle.mt_ports.specs.declared.status.Status.{Status}
 use Rattle.mt_ports.specs.declared.status.Status.TheVariants.{NoMemory, TooLong}
-use Rattle.mt_output.specs.Writing.{Passes}
-use Rattle.mt_text.specs.Feed.{Feeding, Moves, is_last, taken}
+use Rattle.mt_output.specs.Writing.{PassesOn}
+use Rattle.mt_text.specs.Feed.{Feeding, FeedMoves, is_last, taken}
 use Rattle.mt_stream.specs.Handling.{ResultsOn}
 use Rattle.mt_stream.specs.Laws.{AreLaws}
-use Rattle.mt_stream.specs.Lines.{Closes, Leaves, Path, Running, Takes, at_line, closed_run, last_line, run_status, tells_of}
+use Rattle.mt_stream.specs.Lines.{Closes, WritesRest, Path, Running, Takes, at_line, closed_run, last_line, run_status, tells_of}
 use Rattle.mt_output.specs.Ports.{change, held, read}
 use Rattle.mt_stream.specs.Results.{RefusedAtLine}
 use Rattle.mt_stream.specs.Transcript.{Telling, transcript}
@@ -21,9 +21,9 @@ use Rattle.mt_stream.proofs.Telling.{HasLine, UnderWay, closes, ends_with_memory
 -- A loop has moved on to a line.
 module _ (R : Running) (start : Path) (laws : AreLaws R) (bytes more : List ℕ) (source left : Option (List ℕ)) (old new : Feeding) (now : R.Run) (waiting later : List ℕ) (a b c : Option (List ℕ))
     (told : UnderWay R start bytes source old now waiting a b) (takes : Consumes source left more)
-    (moved : Bool) (is : moved ≡ true) (next : Moves old new (old.pending ++ more) left moved × Passes waiting [] later b c) where
+    (moved : Bool) (is : moved ≡ true) (next : FeedMoves old new (old.pending ++ more) left moved × PassesOn waiting [] later b c) where
   here : HasLine R start bytes left new now later a c
-  here = moves_line R start laws bytes more source left old new now waiting later a b c told takes (subst (Moves old new (old.pending ++ more) left) is next.0) next.1
+  here = moves_line R start laws bytes more source left old new now waiting later a b c told takes (subst (FeedMoves old new (old.pending ++ more) left) is next.0) next.1
 
   -- what it made of that line, wherever the run stood
   abbrev Does : R.Run → List ℕ → Option (List ℕ) → Result (Option Stop) Failed → Type 0
@@ -42,7 +42,7 @@ module _ (R : Running) (start : Path) (laws : AreLaws R) (bytes more : List ℕ)
 
     -- it ends with that line
     module _ (stop : Stop) (result : Status) (dropped : List ℕ) (source_after e : Option (List ℕ)) (drains : Consumes left source_after dropped) (long : result ≡ TooLong → 16777216 < taken new + length dropped)
-        (leaves : Leaves (last_line stop (is_last new)) (read dropped source_after) after (change d e) result) (does : Does run after d (Ok (Some stop))) where
+        (leaves : WritesRest (last_line stop (is_last new)) (read dropped source_after) after (change d e) result) (does : Does run after d (Ok (Some stop))) where
       pub ends : ResultsOn start (held bytes source_after) (change a e) result
       ends = elim (does here.text here.point here.at) [
         | inl ended ↦ line_ends R start laws bytes left new now later a c here stop result dropped after source_after d e drains long leaves ended

@@ -7,7 +7,7 @@ use Rattle.mt_ports.specs.Causes.{HasCause}
 use Rattle.mt_ports.specs.declared.status.Failed.{Failed}
 use Rattle.mt_ports.specs.declared.status.Status.{Status}
 use Rattle.mt_ports.specs.declared.status.Status.TheVariants.{BadText, Disabled, Done, NoMemory, ReadFault, Refused, TooFew, TooLong, Usage, WriteFault}
-use Rattle.mt_text.specs.Feed.{Feeding, GaveTooMuch, IsFront, IsLong, Moves, Stops, taken, with_end}
+use Rattle.mt_text.specs.Feed.{Feeding, GaveTooMuch, IsFront, IsLong, FeedMoves, Stops, taken, with_end}
 use Rattle.mt_text.specs.declared.fault.FeedFault.{FeedFault}
 use Rattle.mt_text.specs.declared.fault.FeedFault.TheVariants as fault
 use Rattle.mt_text.proofs.Feeding.{front_within}
@@ -29,7 +29,7 @@ front_bounds seen left (count, false) (inl known) = let many : count ≡ 4097 = 
 front_bounds seen left front (inr last) = let is : with_end front ≡ length seen + 0 = ap (λ (f : ℕ × Bool). with_end f) last.3 in (omega (arith, is, last.2), omega (arith, is))
 
 module _ (old new : Feeding) (more : List ℕ) (left : Option (List ℕ)) where
-  pub moved_taken : (moved : Bool) → moved ≡ true → Moves old new (old.pending ++ more) left moved → (taken new ≡ taken old + length more) × (old.offset + 1 ≤ new.offset) × (new.fault ≡ old.fault)
+  pub moved_taken : (moved : Bool) → moved ≡ true → FeedMoves old new (old.pending ++ more) left moved → (taken new ≡ taken old + length more) × (old.offset + 1 ≤ new.offset) × (new.fault ≡ old.fault)
   moved_taken false none moves = absurd (cc none)
   moved_taken true some moves =
       let (front, is, moved) = moves in
@@ -39,7 +39,7 @@ module _ (old new : Feeding) (more : List ℕ) (left : Option (List ℕ)) where
       let seen = length-append old.pending more in
       (omega (arith, bounds.0, bounds.1, offset, pending, seen), omega (arith, bounds.0, offset), ap (λ f. f.fault) moved)
 
-  pub unmoved_taken : Moves old new (old.pending ++ more) left false → (taken new ≡ taken old + length more) × (new.fault ≡ old.fault)
+  pub unmoved_taken : FeedMoves old new (old.pending ++ more) left false → (taken new ≡ taken old + length more) × (new.fault ≡ old.fault)
   unmoved_taken moves = (omega (arith, ap length moves.0, ap length moves.2, moves.3, length-append old.pending more), moves.5)
 
   pub stopped_taken : (why : FeedFault) → Stops old new (old.pending ++ more) why → taken new ≡ taken old + length more

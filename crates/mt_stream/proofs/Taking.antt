@@ -5,7 +5,7 @@ use Rattle.std.specs.Io.KnownBytes.{Appends}
 use Rattle.std.proofs.KnownBytes.{Appends-trans}
 use Rattle.mt_ports.specs.declared.status.Failed.{Failed}
 use Rattle.mt_ports.specs.declared.status.Status.{Status}
-use Rattle.mt_output.specs.Writing.{Adds, Passes}
+use Rattle.mt_output.specs.Writing.{Adds, PassesOn}
 use Rattle.mt_output.proofs.Writing.{adds_after}
 use Rattle.mt_text.specs.declared.place.Place.{Place}
 use Rattle.mt_stream.specs.Laws.{IsLongLed, IsLongTold}
@@ -48,7 +48,7 @@ takes_same At here other writer sink (Err failed) same f = record {
 -- ---- the end
 
 -- a text was passed, and then a last one was written, or a front of it
-pub closes_after : (waiting first middle second : List ℕ) (last : Status) (result : Result End Failed) (a b c : Option (List ℕ)) → Passes waiting first middle a b → Closes (transcript_with second last) middle (change b c) result
+pub closes_after : (waiting first middle second : List ℕ) (last : Status) (result : Result End Failed) (a b c : Option (List ℕ)) → PassesOn waiting first middle a b → Closes (transcript_with second last) middle (change b c) result
     → Closes (transcript_with (first ++ second) last) waiting (change a c) result
 closes_after waiting first middle second last (Ok end) a b c p all =
     let joined : p.front ++ (middle ++ second) ≡ waiting ++ (first ++ second) =

@@ -10,17 +10,17 @@ use Rattle.mt_ports.specs.Puts.{AppendsFront}
 use Rattle.mt_ports.specs.declared.status.Failed.{Failed}
 use Rattle.mt_ports.specs.declared.status.Status.{Status}
 use Rattle.mt_ports.specs.declared.status.Status.TheVariants.{BadText, Done, NoMemory, ReadFault, Refused, TooLong, WriteFault}
-use Rattle.mt_output.specs.Writing.{Passes}
+use Rattle.mt_output.specs.Writing.{PassesOn}
 use Rattle.mt_output.proofs.Writing.{fails_after, passes_both}
 use Rattle.mt_text.specs.Text.{end_of, lines_of}
-use Rattle.mt_text.specs.Feed.{Feeding, IsFront, Moves, is_last, known_front, place_after, taken, with_end, at_start as feed_at_start}
+use Rattle.mt_text.specs.Feed.{Feeding, IsFront, FeedMoves, is_last, known_front, place_after, taken, with_end, at_start as feed_at_start}
 use Rattle.mt_text.specs.declared.fault.FeedFault.TheVariants as fault
 use Rattle.mt_text.specs.declared.place.Place.{Place}
 use Rattle.mt_text.proofs.Feeding.{front_within, unknown_few}
 use Rattle.mt_text.proofs.Fronts.{last_front, long_front, place_of_front}
 use Rattle.mt_stream.specs.Known.{known_part, known_text}
 use Rattle.mt_stream.specs.Laws.{AreLaws, IsLongLed}
-use Rattle.mt_stream.specs.Lines.{AtLine, Closes, CutShort, Ends, Fails, GoesOn, LastLine, Leads, Leaves, Path, Running, Wants, at_line, closed_run, cut_status, early_of, last_line, leads_behind, run_status, stop_status, tells_of}
+use Rattle.mt_stream.specs.Lines.{AtLine, Closes, CutShort, Ends, Fails, GoesOn, LastLine, Leads, WritesRest, Path, Running, Wants, at_line, closed_run, cut_status, early_of, last_line, leads_behind, run_status, stop_status, tells_of}
 use Rattle.mt_stream.specs.Handling.{ResultsOn}
 use Rattle.mt_output.specs.Ports.{Port, Read, change, held, read}
 use Rattle.mt_stream.specs.Results.{RefusedAtLine}
@@ -42,20 +42,20 @@ behind_both : (a b : List ℕ) (t : Leads) → leads_behind a (leads_behind b t)
 behind_both a b t = λ i. record { tells = told_both a b t.tells i; early = t.early }
 
 -- a text was passed, and what waited went to the sink with another
-pub passes_then : (text waiting more : List ℕ) (a b c : Option (List ℕ)) → Passes [] text waiting a b → Appends b c (waiting ++ more) → Appends a c (text ++ more)
+pub passes_then : (text waiting more : List ℕ) (a b c : Option (List ℕ)) → PassesOn [] text waiting a b → Appends b c (waiting ++ more) → Appends a c (text ++ more)
 passes_then text waiting more a b c p put =
     subst (Appends a c) (sym (append_assoc p.front waiting more) ∙ ap (λ l. l ++ more) (sym p.cut)) (Appends-trans a b c p.front (waiting ++ more) p.taken put)
 
 -- or a front of them
-pub fails_then : (text waiting more rest : List ℕ) (a b c : Option (List ℕ)) → Passes [] text waiting a b → AppendsFront b c (waiting ++ more) → AppendsFront a c (text ++ (more ++ rest))
+pub fails_then : (text waiting more rest : List ℕ) (a b c : Option (List ℕ)) → PassesOn [] text waiting a b → AppendsFront b c (waiting ++ more) → AppendsFront a c (text ++ (more ++ rest))
 fails_then text waiting more rest a b c p put = subst (AppendsFront a c) (append_assoc text more rest) (fails_after [] text waiting more rest a b c p put)
 
 -- all that waited went to the sink
-pub passes_out : (text waiting : List ℕ) (a b c : Option (List ℕ)) → Passes [] text waiting a b → Appends b c waiting → Appends a c text
+pub passes_out : (text waiting : List ℕ) (a b c : Option (List ℕ)) → PassesOn [] text waiting a b → Appends b c waiting → Appends a c text
 passes_out text waiting a b c p put =
     subst (Appends a c) (append-nil text) (passes_then text waiting [] a b c p (subst (Appends b c) (sym (append-nil waiting)) put))
 
-pub fails_out : (text waiting rest : List ℕ) (a b c : Option (List ℕ)) → Passes [] text waiting a b → AppendsFront b c waiting → AppendsFront a c (text ++ rest)
+pub fails_out : (text waiting rest : List ℕ) (a b c : Option (List ℕ)) → PassesOn [] text waiting a b → AppendsFront b c waiting → AppendsFront a c (text ++ rest)
 fails_out text waiting rest a b c p put = fails_then text waiting [] rest a b c p (subst (AppendsFront b c) (sym (append-nil waiting)) put)
 
 -- a text that a sink took is a front of a longer one
@@ -76,7 +76,7 @@ wants_memory stopped.Refused is = cc is
 wants_memory stopped.BadText is = cc is
 wants_memory stopped.NoMemory is = refl
 
-pub refused_line : (line : LastLine) (source : Read) (waiting : List ℕ) (sink : Port) (result : Status) → Leaves line source waiting sink result → result ≡ NoMemory → line.stop ≡ stopped.NoMemory
+pub refused_line : (line : LastLine) (source : Read) (waiting : List ℕ) (sink : Port) (result : Status) → WritesRest line source waiting sink result → result ≡ NoMemory → line.stop ≡ stopped.NoMemory
 refused_line line source waiting sink result (inl unwritten) is = let e : NoMemory ≡ WriteFault = sym is ∙ unwritten.0 in absurd (cc e)
 refused_line line source waiting sink result (inr (put, inl kept)) is = wants_memory line.stop (sym kept.0 ∙ is)
 refused_line line source waiting sink result (inr (put, inr (going, other, inl all))) is = wants_memory line.stop (sym all.0 ∙ is)
@@ -84,7 +84,7 @@ refused_line line source waiting sink result (inr (put, inr (going, other, inr (
 refused_line line source waiting sink result (inr (put, inr (going, other, inr (inr much)))) is = let e : NoMemory ≡ TooLong = sym is ∙ much in absurd (cc e)
 
 -- all that waited went to the sink then, and nothing more was read
-refused_leaves : (line : LastLine) (source : Read) (waiting : List ℕ) (sink : Port) (result : Status) → Leaves line source waiting sink result → result ≡ NoMemory → line.stop ≡ stopped.NoMemory
+refused_leaves : (line : LastLine) (source : Read) (waiting : List ℕ) (sink : Port) (result : Status) → WritesRest line source waiting sink result → result ≡ NoMemory → line.stop ≡ stopped.NoMemory
     → Appends sink.old sink.new waiting × (source.more ≡ [])
 refused_leaves line source waiting sink result (inl unwritten) is wants = let e : NoMemory ≡ WriteFault = sym is ∙ unwritten.0 in absurd (cc e)
 refused_leaves line source waiting sink result (inr (put, inl kept)) is wants = (put, kept.2)
@@ -121,7 +121,7 @@ pub record UnderWay (R : Running) (start : Path) (bytes : List ℕ) (source : Op
   pub offset : feed.offset ≡ length lent
   pub whole : (tail : List ℕ) → known_part (lent ++ tail) ≡ lent ++ known_part tail
   pub led : (end : Option Place) (tail : List ℕ) → told_of start end (lent ++ tail) ≡ leads_behind text (point end feed.place.line (lines_of tail))
-  pub passed : Passes [] text waiting before after
+  pub passed : PassesOn [] text waiting before after
   pub is_left : source ≡ Some rest
   pub cut : bytes ≡ lent ++ (feed.pending ++ rest)
 
@@ -143,7 +143,7 @@ pub record HasLine (R : Running) (start : Path) (bytes : List ℕ) (source : Opt
   pub offset : feed.offset ≡ length lent + with_end front
   pub whole : (tail : List ℕ) → known_part (lent ++ tail) ≡ lent ++ known_part tail
   pub led : (end : Option Place) (tail : List ℕ) → told_of start end (lent ++ tail) ≡ leads_behind text (point end feed.line.number (lines_of tail))
-  pub passed : Passes [] text waiting before after
+  pub passed : PassesOn [] text waiting before after
   pub is_left : source ≡ Some rest
   pub cut : bytes ≡ lent ++ (seen ++ rest)
 
@@ -151,7 +151,7 @@ pub record HasLine (R : Running) (start : Path) (bytes : List ℕ) (source : Opt
 pub record AtEnd (R : Running) (start : Path) (bytes : List ℕ) (source : Option (List ℕ)) (place : Place) (now : R.Run) (waiting : List ℕ) (before after : Option (List ℕ)) : Type 0 where
   pub text : List ℕ
   pub tells : transcript (tells_of start) bytes ≡ behind text (R.ends now place)
-  pub passed : Passes [] text waiting before after
+  pub passed : PassesOn [] text waiting before after
   pub is_left : source ≡ Some []
 
 module _ (R : Running) (start : Path) (laws : AreLaws R) where
@@ -172,11 +172,11 @@ module _ (R : Running) (start : Path) (laws : AreLaws R) where
     cut = refl;
   }
 
-  passes_on : (text waiting left : List ℕ) (a b c : Option (List ℕ)) → Passes [] text waiting a b → Passes waiting [] left b c → Passes [] text left a c
-  passes_on text waiting left a b c p q = subst (λ l. Passes [] l left a c) (append-nil text) (passes_both [] text waiting [] left a b c p q)
+  passes_on : (text waiting left : List ℕ) (a b c : Option (List ℕ)) → PassesOn [] text waiting a b → PassesOn waiting [] left b c → PassesOn [] text left a c
+  passes_on text waiting left a b c p q = subst (λ l. PassesOn [] l left a c) (append-nil text) (passes_both [] text waiting [] left a b c p q)
 
   pub moves_line : (bytes more : List ℕ) (source left : Option (List ℕ)) (old new : Feeding) (now : R.Run) (waiting later : List ℕ) (a b c : Option (List ℕ)) → UnderWay R start bytes source old now waiting a b → Consumes source left more
-      → Moves old new (old.pending ++ more) left true → Passes waiting [] later b c → HasLine R start bytes left new now later a c
+      → FeedMoves old new (old.pending ++ more) left true → PassesOn waiting [] later b c → HasLine R start bytes left new now later a c
   moves_line bytes more source left old new now waiting later a b c h takes moves passed =
       let (front, is, moved) = moves in
       let (rest, is_left, cut) = consumed h.rest more left (subst (λ o. Consumes o left more) h.is_left takes) in
@@ -387,7 +387,7 @@ module _ (R : Running) (start : Path) (laws : AreLaws R) where
     ]
 
   pub no_line : (bytes more : List ℕ) (source left : Option (List ℕ)) (old new : Feeding) (now : R.Run) (waiting later : List ℕ) (a b c : Option (List ℕ)) → UnderWay R start bytes source old now waiting a b → Consumes source left more
-      → Moves old new (old.pending ++ more) left false → Passes waiting [] later b c → AtEnd R start bytes left new.place now later a c
+      → FeedMoves old new (old.pending ++ more) left false → PassesOn waiting [] later b c → AtEnd R start bytes left new.place now later a c
   no_line bytes more source left old new now waiting later a b c h takes moves passed =
       let (rest, is_left, cut) = consumed h.rest more left (subst (λ o. Consumes o left more) h.is_left takes) in
       let none : rest ≡ [] = none_left left rest is_left moves.1 in
@@ -442,7 +442,7 @@ module _ (R : Running) (start : Path) (laws : AreLaws R) where
         subst (AppendsFront a c) (ap (λ l. h.text ++ l) (sym cut) ∙ sym (ap (λ (x : Leads). x.tells.text) from.1)) (fails_then h.text waiting f.text rest a b c h.passed f.failed)
 
     module _ (stop : Stop) (result : Status) (more left : List ℕ) (source_after c d : Option (List ℕ)) (takes : Consumes source source_after more) (long : result ≡ TooLong → 16777216 < taken feed + length more)
-        (leaves : Leaves (last_line stop (is_last feed)) (read more source_after) left (change c d) result) where
+        (leaves : WritesRest (last_line stop (is_last feed)) (read more source_after) left (change c d) result) where
       took : (rest : List ℕ) × (source_after ≡ Some rest) × (h.rest ≡ more ++ rest)
       took = consumed h.rest more source_after (subst (λ o. Consumes o source_after more) h.is_left takes)
 
@@ -473,8 +473,8 @@ module _ (R : Running) (start : Path) (laws : AreLaws R) where
         ]
       ]
         where
-          passed : Passes [] h.text left a c
-          passed = subst (λ l. Passes [] h.text l a c) (sym w.waits) (subst (λ o. Passes [] h.text waiting a o) (sym w.kept) h.passed)
+          passed : PassesOn [] h.text left a c
+          passed = subst (λ l. PassesOn [] h.text l a c) (sym w.waits) (subst (λ o. PassesOn [] h.text waiting a o) (sym w.kept) h.passed)
 
           before_early : Appends a d h.text → AppendsFront a d (early_of start bytes)
           before_early put =
@@ -503,7 +503,7 @@ module _ (R : Running) (start : Path) (laws : AreLaws R) where
                 front = h.front;
                 is = subst (λ (s : Option (List ℕ)). IsFront h.seen s h.front) (h.is_left ∙ sym is_left) h.is;
                 asks = subst (λ (n : ℕ). Asks (tells_of h.point) n (take h.front.0 h.seen)) h.number (subst (Asks (tells_of h.point) feed.line.number) h.line asks);
-                taken = passes_out h.text left a c d (subst (λ (l : List ℕ). Passes [] h.text l a c) (sym waits) (subst (λ (o : Option (List ℕ)). Passes [] h.text waiting a o) (sym kept) h.passed)) put;
+                taken = passes_out h.text left a c d (subst (λ (l : List ℕ). PassesOn [] h.text l a c) (sym waits) (subst (λ (o : Option (List ℕ)). PassesOn [] h.text waiting a o) (sym kept) h.passed)) put;
               }
 
       -- an offence or a refused dump
@@ -514,7 +514,7 @@ module _ (R : Running) (start : Path) (laws : AreLaws R) where
         is : transcript (tells_of start) bytes ≡ behind h.text t
         is = let from = all_from bytes source feed now waiting a b h (Some (end_of bytes)) in ap (λ (x : Leads). x.tells) from.1 ∙ ap (behind h.text) (e.stops (Some (end_of bytes)) from.0)
 
-        passed : Passes [] (h.text ++ t.text) left a c
+        passed : PassesOn [] (h.text ++ t.text) left a c
         passed = passes_both [] h.text waiting t.text left a b c h.passed e.passed
 
         unwritten : AppendsFront c d left → AppendsFront a d (transcript (tells_of start) bytes).text

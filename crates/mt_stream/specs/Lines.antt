@@ -2,7 +2,7 @@
 use Rattle.std.specs.Prelude.{ℕ, ◌+◌, ◌≡◌, ◌≢◌, ◌⊎◌, Bool, true, false, List, [], ◌∷◌, ◌++◌, Option, Some, Result, Ok, Err, MatchOption, MatchResult}
 use Rattle.std.specs.Io.KnownBytes.{Appends, IsAtEnd}
 use Rattle.mt_text.specs.Text.{end_of, lines_of}
-use Rattle.mt_text.specs.Feed.{Feeding, Moves, Stops}
+use Rattle.mt_text.specs.Feed.{Feeding, FeedMoves, Stops}
 use Rattle.mt_text.specs.declared.place.Place.{Place}
 use Rattle.mt_text.specs.declared.fault.FeedFault.TheVariants as feed_fault
 use Rattle.mt_ports.specs.Causes.{Rose}
@@ -10,7 +10,7 @@ use Rattle.mt_ports.specs.Puts.{AppendsFront}
 use Rattle.mt_ports.specs.declared.status.Failed.{Failed}
 use Rattle.mt_ports.specs.declared.status.Status.{Status}
 use Rattle.mt_ports.specs.declared.status.Status.TheVariants.{BadText, Done, NoMemory, ReadFault, Refused, TooLong, WriteFault}
-use Rattle.mt_output.specs.Writing.{Passes}
+use Rattle.mt_output.specs.Writing.{PassesOn}
 use Rattle.mt_output.specs.Ports.{Change, Port, Read, Waiting}
 use Rattle.mt_stream.specs.Transcript.{Telling, Transcript, behind}
 use Rattle.mt_stream.specs.declared.ending.End.{End}
@@ -79,7 +79,7 @@ pub record GoesOn (At : List ℕ → Path → Type 0) (here : AtLine) (writer : 
   pub text : List ℕ
   pub at : At (here.so_far ++ text) next
   pub goes : (end : Option Place) (lines : List (List ℕ)) → here.leads end lines ≡ leads_behind text (next end here.next_number lines)
-  pub passed : Passes writer.old text writer.new sink.old sink.new
+  pub passed : PassesOn writer.old text writer.new sink.old sink.new
 
 -- the status of a run that a line ends so
 abbrev pub stop_status : Stop → Status
@@ -93,7 +93,7 @@ pub record Ends (here : AtLine) (writer : Waiting) (sink : Port) (stop : Stop) :
   pub stops : (end : Option Place) (lines : List (List ℕ)) → (here.leads end lines).tells ≡ telling
   pub status_is : stop_status stop ≡ telling.status
   pub last : stop ≢ stopped.NoMemory
-  pub passed : Passes writer.old telling.text writer.new sink.old sink.new
+  pub passed : PassesOn writer.old telling.text writer.new sink.old sink.new
 
 -- Memory was refused, where it may be, and nothing was written.
 pub record Wants (here : AtLine) (writer : Waiting) (sink : Port) (stop : Stop) : Type 0 where
@@ -131,7 +131,7 @@ CutShort feed source writer sink cut.Write =
 abbrev pub Next : Change Feeding → Read → Waiting → Port → Result Bool Cut → Type 0
 Next feed source writer sink result =
     MatchResult result
-    (λ moved. Moves feed.old feed.new (feed.old.pending ++ source.more) source.left moved × Passes writer.old [] writer.new sink.old sink.new)
+    (λ moved. FeedMoves feed.old feed.new (feed.old.pending ++ source.more) source.left moved × PassesOn writer.old [] writer.new sink.old sink.new)
     (CutShort feed source writer sink)
 
 -- A port that failed did so once, and the cut is its fault.
@@ -192,6 +192,6 @@ Drops line source result =
     ⊎ ((line.is_last ≡ false) × (line.stop ≢ stopped.NoMemory) × (((result ≡ stop_status line.stop) × IsAtEnd source.left) ⊎ (result ≡ ReadFault) ⊎ (result ≡ TooLong)))
 
 -- All that waits is written, or a front of it.
-abbrev pub Leaves : LastLine → Read → List ℕ → Port → Status → Type 0
-Leaves line source waiting sink result =
+abbrev pub WritesRest : LastLine → Read → List ℕ → Port → Status → Type 0
+WritesRest line source waiting sink result =
     ((result ≡ WriteFault) × AppendsFront sink.old sink.new waiting) ⊎ (Appends sink.old sink.new waiting × Drops line source result)

@@ -5,7 +5,7 @@ ghost use Rattle.mt_ports.specs.Causes.{HasCause, StatusHasCause};
 ghost use Rattle.mt_output.specs.Writing.{Adds};
 ghost use Rattle.mt_stream.specs.Handling.{MayTake, RefusesFrom, ResultsFrom, TakesEach};
 ghost use Rattle.mt_stream.specs.Laws.{AreLaws};
-ghost use Rattle.mt_stream.specs.Lines.{Closes, Leaves, Next, Path, SinkHasCause, SourceHasCause, closed_run, end_status, last_line, run_status, running};
+ghost use Rattle.mt_stream.specs.Lines.{Closes, WritesRest, Next, Path, SinkHasCause, SourceHasCause, closed_run, end_status, last_line, run_status, running};
 ghost use Rattle.mt_output.specs.Ports.{change, port, read};
 ghost use Rattle.mt_stream.specs.Transcript.{transcript_with};
 
@@ -124,7 +124,7 @@ fn leave<S: Source, K: Sink>(
     requires { feed.old.fault ≡ None }
     ensures bytes { TakesMore (drawn S.left S.given source.old source.new)
         (λ more. (taken feed.new ≡ taken feed.old + length more)
-        × Leaves (last_line stop last) (read more (S.left source.new)) writer.old (port K.taken sink.old sink.new) (run_status result)) }
+        × WritesRest (last_line stop last) (read more (S.left source.new)) writer.old (port K.taken sink.old sink.new) (run_status result)) }
     ensures long { (run_status result ≡ Status.TooLong) ↔ (longest_input < taken feed.new) }
     ensures source { SourceHasCause (S.faults source.old) (S.faults source.new) result }
     ensures sink { SinkHasCause (K.faults sink.old) (K.faults sink.new) result }

@@ -7,7 +7,7 @@ use Rattle.std.proofs.lemmas.List.{append-nil, length-drop}
 use Rattle.mt_text.specs.Text.{is_line_end}
 use Rattle.std.specs.Io.KnownBytes.{IsAtEnd}
 use Rattle.mt_text.specs.declared.place.Place.{Place}
-use Rattle.mt_text.specs.Feed.{Feeding, Moves, Stops, known_at, known_front, moved_on, place_after, taken, with_end}
+use Rattle.mt_text.specs.Feed.{Feeding, FeedMoves, Stops, known_at, known_front, moved_on, place_after, taken, with_end}
 use Rattle.mt_text.specs.declared.fault.FeedFault.{FeedFault}
 use Rattle.mt_text.specs.declared.fault.FeedFault.TheVariants.{ReadFault}
 
@@ -63,7 +63,7 @@ moved_same old now seen front pending offset place fault = rw (pending, offset, 
 
 -- a call that lends the front of the bytes that it has seen
 pub lends_known : (old now new : Feeding) (more : List ℕ) (left : Option (List ℕ)) (front : ℕ × Bool) → now.pending ≡ old.pending ++ more → now.offset ≡ old.offset → now.place ≡ old.place → old.fault ≡ None → now.fault ≡ None
-    → known_front now.pending ≡ Some front → new ≡ moved_on now front → Moves old new (old.pending ++ more) left true
+    → known_front now.pending ≡ Some front → new ≡ moved_on now front → FeedMoves old new (old.pending ++ more) left true
 lends_known old now new more left front pending offset place none still known is =
     (front, inl (ap known_front (sym pending) ∙ known), is ∙ moved_same old now (old.pending ++ more) front pending offset place (still ∙ sym none))
 
@@ -93,7 +93,7 @@ drop-nil (suc n) = refl
 -- a call that comes to the end
 pub lends_last : (old now after new : Feeding) (more piece : List ℕ) (left : Option (List ℕ)) → now.pending ≡ old.pending ++ more → now.offset ≡ old.offset → now.place ≡ old.place → old.fault ≡ None → known_front now.pending ≡ None
     → after.pending ≡ now.pending ++ piece → after.offset ≡ now.offset → after.place ≡ now.place → after.fault ≡ None → length piece ≡ 0 → IsAtEnd left → new ≡ moved_on after (length after.pending, false)
-    → Moves old new (old.pending ++ (more ++ piece)) left (nat_lt 0 (length after.pending))
+    → FeedMoves old new (old.pending ++ (more ++ piece)) left (nat_lt 0 (length after.pending))
 lends_last old now after new more (x ∷ piece) left pending offset place none unknown more_pending same_offset same_place still empty end is = absurd (omega arith)
 lends_last old now after new more [] left pending offset place none unknown more_pending same_offset same_place still empty end is =
     rw (append-nil more) (by (nat_lt 0 (length after.pending)) refl)
@@ -101,7 +101,7 @@ lends_last old now after new more [] left pending offset place none unknown more
     seen_is : after.pending ≡ old.pending ++ more
     seen_is = more_pending ∙ append-nil now.pending ∙ pending
 
-    by : (some : Bool) → nat_lt 0 (length after.pending) ≡ some → Moves old new (old.pending ++ more) left some
+    by : (some : Bool) → nat_lt 0 (length after.pending) ≡ some → FeedMoves old new (old.pending ++ more) left some
     by true test =
         let count : length after.pending ≡ length (old.pending ++ more) = ap length seen_is in
         let unknown_seen : known_front (old.pending ++ more) ≡ None = ap known_front (sym pending) ∙ unknown in

@@ -85,9 +85,9 @@ IsFront seen left front =
     (known_front seen ≡ Some front) ⊎ ((known_front seen ≡ None) × IsAtEnd left × (1 ≤ length seen) × (front ≡ (length seen, false)))
 
 -- a call has lent a line of the bytes that it has seen, or there is none
-abbrev pub Moves : Feeding → Feeding → List ℕ → Option (List ℕ) → Bool → Type 0
-Moves old new seen left true = (front : ℕ × Bool) × IsFront seen left front × (new ≡ moved_on (record old { pending = seen }) front)
-Moves old new seen left false = (seen ≡ []) × IsAtEnd left × (new.pending ≡ []) × (new.offset ≡ old.offset) × (new.place ≡ old.place) × (new.fault ≡ old.fault)
+abbrev pub FeedMoves : Feeding → Feeding → List ℕ → Option (List ℕ) → Bool → Type 0
+FeedMoves old new seen left true = (front : ℕ × Bool) × IsFront seen left front × (new ≡ moved_on (record old { pending = seen }) front)
+FeedMoves old new seen left false = (seen ≡ []) × IsAtEnd left × (new.pending ≡ []) × (new.offset ≡ old.offset) × (new.place ≡ old.place) × (new.fault ≡ old.fault)
 
 -- a call has moved on by a line whose end is pending, or there is none
 abbrev pub MovesPending : Feeding → Feeding → Bool → Type 0
@@ -106,7 +106,7 @@ Stops old new seen fault =
 
 -- after a call that took more bytes
 abbrev pub Advances : Feeding → Feeding → List ℕ → Option (List ℕ) → Result Bool FeedFault → Type 0
-Advances old new more left result = MatchResult result (Moves old new (old.pending ++ more) left) (Stops old new (old.pending ++ more))
+Advances old new more left result = MatchResult result (FeedMoves old new (old.pending ++ more) left) (Stops old new (old.pending ++ more))
 
 -- the line that a call lends is the one that the feed has moved on to
 abbrev pub IsLent : Feeding → Line → Type 0
@@ -114,7 +114,7 @@ IsLent feed line = (line.bytes.now ≡ feed.line.bytes) × (line.offset ≡ feed
 
 abbrev pub LinesAre : Feeding → Feeding → List ℕ → Option (List ℕ) → Result (Option Line) FeedFault → Type 0
 LinesAre old new seen left result = MatchResult result
-    (λ answer. MatchOption answer (Moves old new seen left false) (λ line. Moves old new seen left true × IsLent new line))
+    (λ answer. MatchOption answer (FeedMoves old new seen left false) (λ line. FeedMoves old new seen left true × IsLent new line))
     (Stops old new seen)
 
 -- what a source has left, where it tells it, and how many bytes it has given, before a call and after it
@@ -156,7 +156,7 @@ LendsLines old new before after result = MatchResult result
     (λ _. new.pending ++ after ≡ old.pending ++ before)
 
 -- These are all bytes that a feed has taken: those that it has lent, each line with the LF behind it, and those that are pending.
-pub record HasTaken (feed : Feeding) (gone bytes : List ℕ) : Type 0 where
+pub record HasTakenBytes (feed : Feeding) (gone bytes : List ℕ) : Type 0 where
   pub offset : feed.offset ≡ length gone
   pub bytes_are : bytes ≡ gone ++ feed.pending
 
@@ -166,11 +166,11 @@ pub record LendsSlice (new : Feeding) (gone bytes : List ℕ) (line : Line) : Ty
   pub slice : line.bytes.now ≡ take (length line.bytes.now) (drop line.offset bytes)
   pub passed : List ℕ  -- the line and the LF behind it, where there is one
   pub next : line.next ≡ length (gone ++ passed)
-  pub after : HasTaken new (gone ++ passed) bytes
+  pub after : HasTakenBytes new (gone ++ passed) bytes
 
 -- what a call lends of all bytes that the feed has taken by then; without a line what was lent stays as it was
 abbrev pub LendsSlices : Feeding → List ℕ → List ℕ → Result (Option Line) FeedFault → Type 0
-LendsSlices new gone bytes result = MatchResult result (λ answer. MatchOption answer (HasTaken new gone bytes) (LendsSlice new gone bytes)) (λ _. HasTaken new gone bytes)
+LendsSlices new gone bytes result = MatchResult result (λ answer. MatchOption answer (HasTakenBytes new gone bytes) (LendsSlice new gone bytes)) (λ _. HasTakenBytes new gone bytes)
 
 -- a read has put more bytes behind the pending ones, none only at the end, or nothing where it failed
 abbrev pub Reads : {E : Type 0} → List ℕ → List ℕ → Option (List ℕ) → Option (List ℕ) → Result ℕ E → Type 0

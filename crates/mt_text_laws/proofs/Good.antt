@@ -20,7 +20,7 @@ use Rattle.mt_script.specs.Numbers.{fault_at}
 use Rattle.mt_script.specs.Commands.{command_of}
 use Rattle.mt_script.specs.Accept.{accepted, finished}
 use Rattle.mt_script.specs.Head.{goes_on, shows, offends, end_step, step_in_dump, is_end_command, step_of_answer}
-use Rattle.mt_script.specs.Script.{Rest, head_line, offence_after, offence_in, script_offence, GoesOn, Follows, AreGood, IsGoodScript}
+use Rattle.mt_script.specs.Script.{Rest, head_line, offence_after, offence_in, script_offence, HeadGoesOn, LineFollows, AreGood, IsGoodScript}
 use Rattle.mt_script.specs.declared.command.Command.{Command}
 use Rattle.mt_script.specs.declared.fault.ScriptFault.{ScriptFault}
 use Rattle.mt_script.specs.declared.fault.ScriptReason.TheVariants.{NoEnd, OutOfRange}
@@ -33,30 +33,30 @@ module _ (rest : Rest) (Good : Situation → List Reading → Type 0) (later : (
   abbrev place : Place
   place = place_of number (words_of line) 0
 
-  end_good : (answer : Result Dump DumpFault) → read_from place before [] ≡ answer → offence_after now rest (end_step now.cpus place answer) ≡ None → GoesOn (head_line now before (said_of number line)) Good true
+  end_good : (answer : Result Dump DumpFault) → read_from place before [] ≡ answer → offence_after now rest (end_step now.cpus place answer) ≡ None → HeadGoesOn (head_line now before (said_of number line)) Good true
   end_good (Err fault) is none = absurd (cc none)
   end_good (Ok dump) is none = by (has_each now.cpus dump) refl none
     where
       by : (each : Bool) → has_each now.cpus dump ≡ each → offence_after now rest (if each then shows dump else offends (offence.Script (fault_at OutOfRange place))) ≡ None
-          → GoesOn (head_line now before (said_of number line)) Good true
+          → HeadGoesOn (head_line now before (said_of number line)) Good true
       by true each none = (dump, shows_all place before [] dump clean tt is, each, later (finished now dump) [] tt none)
       by false each none = absurd (cc none)
 
   line_good : (fault : Option DumpFault) → offence_of before (said_of number line) ≡ fault
-      → offence_after now rest (option_map_or (λ fault. offends (offence.Dump fault)) fault (goes_on now (said_of number line ∷ before))) ≡ None → GoesOn (head_line now before (said_of number line)) Good false
+      → offence_after now rest (option_map_or (λ fault. offends (offence.Dump fault)) fault (goes_on now (said_of number line ∷ before))) ≡ None → HeadGoesOn (head_line now before (said_of number line)) Good false
   line_good (Some fault) is none = absurd (cc none)
   line_good None is none = (is, later now (said_of number line ∷ before) (is_sane number line, is, clean) none)
 
-  dump_good : (end : Bool) → offence_after now rest (step_in_dump now before number line end) ≡ None → GoesOn (head_line now before (said_of number line)) Good end
+  dump_good : (end : Bool) → offence_after now rest (step_in_dump now before number line end) ≡ None → HeadGoesOn (head_line now before (said_of number line)) Good end
   dump_good true none = end_good (read_from place before []) refl none
   dump_good false none = line_good (offence_of before (said_of number line)) refl none
 
-  command_good : (c : Command) (dump : Bool) → offence_after now rest (if dump then step_in_dump now before number line (is_end_command c) else goes_on (accepted now c) before) ≡ None → Follows (head_line now before (said_of number line)) Good c dump
+  command_good : (c : Command) (dump : Bool) → offence_after now rest (if dump then step_in_dump now before number line (is_end_command c) else goes_on (accepted now c) before) ≡ None → LineFollows (head_line now before (said_of number line)) Good c dump
   command_good c true none = dump_good (is_end_command c) none
   command_good c false none = later (accepted now c) before clean none
 
   step_good : (answer : Result Command ScriptFault) → command_of now number line ≡ answer → offence_after now rest (step_of_answer now before number line answer) ≡ None
-      → (c : Command) × (command_of now number line ≡ Ok c) × Follows (head_line now before (said_of number line)) Good c (is_in_dump now.stage)
+      → (c : Command) × (command_of now number line ≡ Ok c) × LineFollows (head_line now before (said_of number line)) Good c (is_in_dump now.stage)
   step_good (Err fault) is none = absurd (cc none)
   step_good (Ok c) is none = (c, is, command_good c (is_in_dump now.stage) none)
 
@@ -76,7 +76,7 @@ module _ (rest : Rest) (Good : Situation → List Reading → Type 0) (later : (
       → offence_after now rest (option_map_or (λ fault. offends (offence.Dump fault)) fault (goes_on now (said_of number line ∷ before))) ≡ None
   line_none fault is none = rw is none
 
-  dump_none : (end : Bool) → GoesOn (head_line now before (said_of number line)) Good end → offence_after now rest (step_in_dump now before number line end) ≡ None
+  dump_none : (end : Bool) → HeadGoesOn (head_line now before (said_of number line)) Good end → offence_after now rest (step_in_dump now before number line end) ≡ None
   dump_none true (dump, shown, each, good) =
       let place = place_of number (words_of line) 0 in
       ap (λ answer. offence_after now rest (end_step now.cpus place answer)) (complete place before [] dump clean tt shown)
@@ -84,7 +84,7 @@ module _ (rest : Rest) (Good : Situation → List Reading → Type 0) (later : (
   dump_none false (is, good) =
       line_none (offence_of before (said_of number line)) is (later now (said_of number line ∷ before) (is_sane number line, is, clean) good)
 
-  command_none : (c : Command) (dump : Bool) → Follows (head_line now before (said_of number line)) Good c dump → offence_after now rest (if dump then step_in_dump now before number line (is_end_command c) else goes_on (accepted now c) before) ≡ None
+  command_none : (c : Command) (dump : Bool) → LineFollows (head_line now before (said_of number line)) Good c dump → offence_after now rest (if dump then step_in_dump now before number line (is_end_command c) else goes_on (accepted now c) before) ≡ None
   command_none c true good = dump_none (is_end_command c) good
   command_none c false good = later (accepted now c) before clean good
 

@@ -4,7 +4,7 @@ use Rattle.std.specs.Prelude.{Result, Ok, Err}
 use Rattle.std.specs.Io.KnownBytes.{Consumes}
 use Rattle.std.proofs.Math.Seq.{drop-append_seam}
 use Rattle.std.proofs.lemmas.List.{length-append, length-take-le, take-append-drop}
-use Rattle.mt_text.specs.Feed.{Feeding, HasTaken, IsFront, IsLent, LendsSlice, LendsSlices, Lines, LinesAre, Moves, draw, taken, with_end}
+use Rattle.mt_text.specs.Feed.{Feeding, HasTakenBytes, IsFront, IsLent, LendsSlice, LendsSlices, Lines, LinesAre, FeedMoves, draw, taken, with_end}
 use Rattle.mt_text.specs.Text.{StandInOrder, words_at}
 use Rattle.mt_text.specs.declared.fault.FeedFault.{FeedFault}
 use Rattle.mt_text.specs.declared.line.Line.{Line}
@@ -12,7 +12,7 @@ use Rattle.mt_text.proofs.Lent.{front_inside, moved}
 use Rattle.mt_text.proofs.Order.{stand_in_source}
 
 -- the bytes that were seen are taken, and stand behind those that were lent
-seen_are : (old : Feeding) (gone bytes more : List ℕ) → HasTaken old gone bytes → bytes ++ more ≡ gone ++ (old.pending ++ more)
+seen_are : (old : Feeding) (gone bytes more : List ℕ) → HasTakenBytes old gone bytes → bytes ++ more ≡ gone ++ (old.pending ++ more)
 seen_are old gone bytes more has = ap (λ l. l ++ more) has.bytes_are ∙ append_assoc gone old.pending more
 
 slice_of : (old new : Feeding) (gone bytes seen : List ℕ) (left : Option (List ℕ)) (line : Line) (front : ℕ × Bool) → old.offset ≡ length gone → bytes ≡ gone ++ seen → IsFront seen left front
@@ -37,20 +37,20 @@ slice_of old new gone bytes seen left line front at all is moved_is lent =
       after = record { offset = reach; bytes_are = all ∙ parts ∙ ap (λ f. (gone ++ passed) ++ f.pending) (sym moved_is) };
     }
 
-pub moved_slice : (old new : Feeding) (gone bytes more : List ℕ) (left : Option (List ℕ)) (line : Line) → HasTaken old gone bytes → Moves old new (old.pending ++ more) left true → IsLent new line → LendsSlice new gone (bytes ++ more) line
+pub moved_slice : (old new : Feeding) (gone bytes more : List ℕ) (left : Option (List ℕ)) (line : Line) → HasTakenBytes old gone bytes → FeedMoves old new (old.pending ++ more) left true → IsLent new line → LendsSlice new gone (bytes ++ more) line
 moved_slice old new gone bytes more left line has moves lent =
     slice_of old new gone (bytes ++ more) (old.pending ++ more) left line moves.0 has.offset (seen_are old gone bytes more has) moves.1 moves.2 lent
 
 -- nothing more was lent
-stays : (old new : Feeding) (gone bytes more : List ℕ) → HasTaken old gone bytes → new.pending ≡ old.pending ++ more → new.offset ≡ old.offset → HasTaken new gone (bytes ++ more)
+stays : (old new : Feeding) (gone bytes more : List ℕ) → HasTakenBytes old gone bytes → new.pending ≡ old.pending ++ more → new.offset ≡ old.offset → HasTakenBytes new gone (bytes ++ more)
 stays old new gone bytes more has pending offset = record { offset = offset ∙ has.offset; bytes_are = seen_are old gone bytes more has ∙ ap (λ l. gone ++ l) (sym pending) }
 
-slices : (old new : Feeding) (gone bytes more : List ℕ) (left : Option (List ℕ)) (result : Result (Option Line) FeedFault) → HasTaken old gone bytes → LinesAre old new (old.pending ++ more) left result → LendsSlices new gone (bytes ++ more) result
+slices : (old new : Feeding) (gone bytes more : List ℕ) (left : Option (List ℕ)) (result : Result (Option Line) FeedFault) → HasTakenBytes old gone bytes → LinesAre old new (old.pending ++ more) left result → LendsSlices new gone (bytes ++ more) result
 slices old new gone bytes more left (Ok None) has are = stays old new gone bytes more has (are.2 ∙ sym are.0) are.3
 slices old new gone bytes more left (Ok (Some line)) has are = moved_slice old new gone bytes more left line has are.0 are.1
 slices old new gone bytes more left (Err fault) has are = stays old new gone bytes more has are.0 are.1
 
-pub lends_slices : (old new : Feeding) (gone bytes : List ℕ) (before left : Option (List ℕ)) (given_before given_after : ℕ) (result : Result (Option Line) FeedFault) → HasTaken old gone bytes → Lines old new (draw before left given_before given_after) result
+pub lends_slices : (old new : Feeding) (gone bytes : List ℕ) (before left : Option (List ℕ)) (given_before given_after : ℕ) (result : Result (Option Line) FeedFault) → HasTakenBytes old gone bytes → Lines old new (draw before left given_before given_after) result
     → (more : List ℕ) × Consumes before left more × (given_after ≡ given_before + length more) × LendsSlices new gone (bytes ++ more) result
 lends_slices old new gone bytes before left given_before given_after result has lines = (lines.0, lines.1, lines.2, slices old new gone bytes lines.0 left result has lines.3.0)
 
@@ -60,5 +60,5 @@ slice_words new gone bytes line lent =
     omega (arith, lent.offset, ap length lent.after.bytes_are, length-append (gone ++ lent.passed) new.pending, length-append gone lent.passed) in
     stand_in_source bytes line.bytes.now line.offset within lent.slice
 
-pub count_taken : (feed : Feeding) (gone bytes : List ℕ) → HasTaken feed gone bytes → taken feed ≡ length bytes
+pub count_taken : (feed : Feeding) (gone bytes : List ℕ) → HasTakenBytes feed gone bytes → taken feed ≡ length bytes
 count_taken feed gone bytes has = omega (arith, has.offset, ap length has.bytes_are, length-append gone feed.pending)

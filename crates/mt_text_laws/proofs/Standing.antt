@@ -19,7 +19,7 @@ use Rattle.mt_script.specs.Rows.{row_of, fits}
 use Rattle.mt_script.specs.Shape.{bad_line, shape_fault}
 use Rattle.mt_script.specs.Stages.{stands}
 use Rattle.mt_text_laws.specs.Places.{StandsIn}
-use Rattle.mt_script.specs.Commands.{Answer, ask_in, verb_answer, row_line, outside, is_end, in_section, not_too_long, in_stage, command_of}
+use Rattle.mt_script.specs.Commands.{ReadCommand, ask_in, verb_answer, row_line, outside, is_end, in_section, not_too_long, in_stage, command_of}
 use Rattle.mt_script.specs.declared.command.Stage.{Stage}
 use Rattle.mt_script.specs.declared.command.Stage.TheVariants.{NeedCpus, NeedDump, InDump, Rams, Commands, InUpdate, InBegin}
 use Rattle.mt_script.specs.declared.row.Row.{Row}
@@ -36,7 +36,7 @@ fails_with : {A B : Type 0} (P : ScriptFault → Type 0) (value : Result A Scrip
 fails_with P (Err fault) next here later = here
 fails_with P (Ok n) next here later = later n
 
-fails_if : (P : ScriptFault → Type 0) (test : Bool) (yes_answer no_answer : Answer) → (test ≡ true → IfErr yes_answer P) → (test ≡ false → IfErr no_answer P) → IfErr (if test then yes_answer else no_answer) P
+fails_if : (P : ScriptFault → Type 0) (test : Bool) (yes_answer no_answer : ReadCommand) → (test ≡ true → IfErr yes_answer P) → (test ≡ false → IfErr no_answer P) → IfErr (if test then yes_answer else no_answer) P
 fails_if P true yes_answer no_answer good bad = good refl
 fails_if P false yes_answer no_answer good bad = bad refl
 
@@ -156,7 +156,7 @@ module _ (line : ℕ) (words : List (ℕ × List ℕ)) where
       bare has = tt
 
   -- the words of a row, and then what follows
-  shape_fails : (row : Row) (answer : Answer) → 1 ≤ length words → (row.least ≤ length words → IfErr answer AtWord) → IfErr (option_map_or (λ fault. Err fault) (shape_fault line words row) answer) AtWord
+  shape_fails : (row : Row) (answer : ReadCommand) → 1 ≤ length words → (row.least ≤ length words → IfErr answer AtWord) → IfErr (option_map_or (λ fault. Err fault) (shape_fault line words row) answer) AtWord
   shape_fails row answer has later = by (nat_lt (length words) row.least) (nat_lt row.most (length words)) (length words == row.most) (fits row.last (text_of words (row.most - 1))) refl refl refl
     where
       by : (few many full fit : Bool) → nat_lt (length words) row.least ≡ few → nat_lt row.most (length words) ≡ many → (length words == row.most) ≡ full
@@ -191,11 +191,11 @@ module _ (now : Situation) (number : ℕ) (line : List ℕ) where
   Stands fault = StandsIn number line fault.place
 
   -- a word by its number
-  word_stands : (answer : Answer) → IfErr answer (AtWord number (words_of line)) → IfErr answer Stands
+  word_stands : (answer : ReadCommand) → IfErr answer (AtWord number (words_of line)) → IfErr answer Stands
   word_stands (Ok c) at = tt
   word_stands (Err fault) at = inl (word_of (words_of line) at.0, (at.0, word_found (words_of line) at.0 at.1), at.2)
 
-  short_stands : (answer : Answer) → IfErr answer (AtWord number (words_of line)) → IfErr (not_too_long number line answer) Stands
+  short_stands : (answer : ReadCommand) → IfErr answer (AtWord number (words_of line)) → IfErr (not_too_long number line answer) Stands
   short_stands answer at = fails_if Stands (is_too_long line) _ _ (λ long. inr (ltb-true 4096 (length line) long, refl)) (λ short. word_stands answer at)
 
   stage_stands : (stage : Stage) → IfErr (in_stage now number line stage) Stands

@@ -1,6 +1,6 @@
 // Relations that laws alone cite: what meets one, and for each part what fails in that alone.
 ghost use Rattle.std.specs.Prelude.{◌≡◌, ◌∷◌, [], codes, None, Ok, Err};
-ghost use Rattle.mt_text.specs.Feed.{HasTaken, LendsFirst, LendsLines, LendsSlice, at_offset, at_start, behind_a_line};
+ghost use Rattle.mt_text.specs.Feed.{HasTakenBytes, LendsFirst, LendsLines, LendsSlice, at_offset, at_start, behind_a_line};
 ghost use Rattle.mt_text.specs.declared.fault.FeedFault.TheVariants.{ReadFault};
 ghost use Rattle.mt_text.specs.declared.line.Line.{Line};
 ghost use Rattle.mt_text.specs.Text.{HasWord, StandInOrder, words_of};
@@ -25,9 +25,9 @@ pub fn worked_slices()
 
 /// The bytes that a feed has taken.
 pub fn worked_taken()
-    ensures later { HasTaken (at_offset 3 (codes "cd")) (codes "ab\n") (codes "ab\ncd") }
-    ensures other_offset { HasTaken (at_offset 2 (codes "cd")) (codes "ab\n") (codes "ab\ncd") → ⊥ }
-    ensures other_bytes { HasTaken (at_offset 3 (codes "cd")) (codes "ab\n") (codes "ab\nce") → ⊥ }
+    ensures later { HasTakenBytes (at_offset 3 (codes "cd")) (codes "ab\n") (codes "ab\ncd") }
+    ensures other_offset { HasTakenBytes (at_offset 2 (codes "cd")) (codes "ab\n") (codes "ab\ncd") → ⊥ }
+    ensures other_bytes { HasTakenBytes (at_offset 3 (codes "cd")) (codes "ab\n") (codes "ab\nce") → ⊥ }
 {}
 
 /// What a call lends that lends no line.

@@ -10,7 +10,7 @@ use Rattle.mt_rendezvous.specs.declared.view.View.{View}
 use Rattle.mt_rendezvous.specs.declared.view.Key.{Key}
 use Rattle.mt_rendezvous.specs.Station.{Meets, held, order_of}
 use Rattle.mt_rendezvous.specs.Plays.{GoesTo, Sat, arrive, arrive_again, does, late, own_event, work, written}
-use Rattle.mt_rendezvous.specs.Laws.{ArriveAgainFollows, ArriveFollows, CancelFollows, Follows, GoFollows, JoinFollows, PassFollows, ReleaseFollows, SplitFollows, Station, WorkFollows, loaded, raised}
+use Rattle.mt_rendezvous.specs.Laws.{ArriveAgainFollows, ArriveFollows, CancelFollows, StationFollows, GoFollows, JoinFollows, PassFollows, ReleaseFollows, SplitFollows, Station, WorkFollows, loaded, raised}
 use Rattle.mt_rendezvous.proofs.Local.{due_alone}
 use Rattle.mt_rendezvous.proofs.Steps.{Arrival, IsDue, Passing, Releasing, Storing, arrival, arriving_again, moved, moved_shown, passing, phase_stored, releasing, shown_only, unmoved, word_stored}
 use Rattle.mt_rendezvous.specs.declared.view.Added.TheVariants.{Never, Once, Twice}
@@ -18,8 +18,8 @@ use Rattle.mt_rendezvous.proofs.RootSteps.{cancelling, giving, joining, splittin
 
 -- the view is the one that the play told
 told : (key : Key) (s : Station) (m : Meets key s) (id i n : ℕ) (e : Option MachineEvent) (v : View) (new : Sat) → new.0 ≡ v
-    → Follows key s (record { words = set s.words i n; homes = s.homes; views = set s.views id v }) m e → Follows key s (stepped s i n id new.1 new.0 keeps) m e
-told key s m id i n e v new same f = subst (λ (u : View). Follows key s (record { words = set s.words i n; homes = s.homes; views = set s.views id u }) m e) (sym same) f
+    → StationFollows key s (record { words = set s.words i n; homes = s.homes; views = set s.views id v }) m e → StationFollows key s (stepped s i n id new.1 new.0 keeps) m e
+told key s m id i n e v new same f = subst (λ (u : View). StationFollows key s (record { words = set s.words i n; homes = s.homes; views = set s.views id u }) m e) (sym same) f
 
 pub split_follows : SplitFollows
 split_follows key s m id v h hs at is = splitting key s m id v h hs at is
@@ -37,7 +37,7 @@ pub arrive_follows : ArriveFollows
 arrive_follows key s m id k c me new p taken says = by_case (arrival key s m id me.0 (held k c Never) p.at p.holds refl taken)
   where
     by_case : Arrival key s m id me.0 (held k c Never)
-        → (slice_index s.words 0 < 4294967296 → Follows key s (raised s id new 0 1) m (Some (Steps k Arrive))) × (4294967296 ≤ slice_index s.words 0 → Follows key s (raised s id new 0 1) m None)
+        → (slice_index s.words 0 < 4294967296 → StationFollows key s (raised s id new 0 1) m (Some (Steps k Arrive))) × (4294967296 ≤ slice_index s.words 0 → StationFollows key s (raised s id new 0 1) m None)
     by_case (inl x) = (
       (λ (below : slice_index s.words 0 < 4294967296). absurd (let above = x.0 in omega arith)),
       (λ above. told key s m id 0 _ _ _ new ((says.4 above).0 ∙ sym (moved me.0 late (held k c Never) p.holds)) x.1.follows),
@@ -51,9 +51,9 @@ pub pass_follows : PassFollows
 pass_follows key s m id k c me new p waits says = by_case (passing key s m id me.0 (held k c Once) p.at p.holds refl waits)
   where
     by_case : Passing key s m id me.0 (held k c Once)
-        → (slice_index s.words 0 ≡ length me.0.start.cpus + 1 → Follows key s (loaded s id new 0) m (Some (Steps k Pass)))
-        × (4294967296 ≤ slice_index s.words 0 → Follows key s (loaded s id new 0) m (Some (Steps k Leave)))
-        × (slice_index s.words 0 < 4294967296 → slice_index s.words 0 ≢ length me.0.start.cpus + 1 → Follows key s (loaded s id new 0) m None)
+        → (slice_index s.words 0 ≡ length me.0.start.cpus + 1 → StationFollows key s (loaded s id new 0) m (Some (Steps k Pass)))
+        × (4294967296 ≤ slice_index s.words 0 → StationFollows key s (loaded s id new 0) m (Some (Steps k Leave)))
+        × (slice_index s.words 0 < 4294967296 → slice_index s.words 0 ≢ length me.0.start.cpus + 1 → StationFollows key s (loaded s id new 0) m None)
     by_case (inl x) = (
       (λ full. absurd (x.3 full)),
       (λ above. told key s m id 0 _ _ _ new ((says.2 above).0 ∙ sym (moved me.0 (does me.0.start Leave) (held k c Once) p.holds)) x.1.follows),
@@ -90,8 +90,8 @@ pub release_follows : ReleaseFollows
 release_follows key s m id k c me new p waits says = by_case (releasing key s m id me.0 (held k c Twice) p.at p.holds refl waits)
   where
     by_case : Releasing key s m id me.0 (held k c Twice)
-        → (slice_index s.words 1 ≡ length me.0.start.cpus → Follows key s (loaded s id new 1) m (Some (Steps k Release)))
-        × (slice_index s.words 1 ≢ length me.0.start.cpus → Follows key s (loaded s id new 1) m None)
+        → (slice_index s.words 1 ≡ length me.0.start.cpus → StationFollows key s (loaded s id new 1) m (Some (Steps k Release)))
+        × (slice_index s.words 1 ≢ length me.0.start.cpus → StationFollows key s (loaded s id new 1) m None)
     by_case (inl x) = (
       (λ full. told key s m id 1 _ _ _ new ((says.2 full).0 ∙ sym (moved_shown me.0 (does me.0.start Release) (held k c Twice) (slice_index s.words 1) p.holds)) x.1.follows),
       (λ n. absurd (n x.0)),

@@ -15,7 +15,7 @@ use Rattle.mt_cpu.specs.Steps.{is_local}
 use Rattle.mt_rendezvous.specs.declared.view.Key.{Key}
 use Rattle.mt_rendezvous.specs.Station.{Meets, added_of, again_of, held, order_of, in_first, in_second}
 use Rattle.mt_rendezvous.specs.Plays.{Arrives, Cancels, IsPass, IsUndecided, IsWaiting, Passes, Releases, Sat, TellsAt, TellsSecond, own_event}
-use Rattle.mt_rendezvous.specs.Laws.{ComesOf, EachStepFollows, Follows, HasPass, IsOneStep, OfStep, ShownIsFound, Station, loaded, seat_step}
+use Rattle.mt_rendezvous.specs.Laws.{ComesOf, EachStepFollows, StationFollows, HasPass, IsOneStep, OfStep, ShownIsFound, Station, loaded, seat_step}
 use Rattle.mt_rendezvous.proofs.Keeps.{total_small, weight_small}
 use Rattle.mt_rendezvous.proofs.Local.{due_alone}
 use Rattle.mt_rendezvous.proofs.Steps.{Arrival, Passing, Releasing, arrival, go_small, passing, releasing}
@@ -71,11 +71,11 @@ module _ (key : Key) (s : Station) (m : Meets key s) (id : ℕ) (me new : Sat) (
       let small = total_small again_of (λ g. weight_small (in_second g.added)) m.all in
       omega arith
 
-  of_load : (e : Option MachineEvent) → Follows key s (loaded s id new 0) m e → ComesOf 0 0 e → IsOneStep key s m (seat_step id 0 0 new)
-  of_load e f comes = record { event = e; follows = subst (λ (n : ℕ). Follows key s (stepped s 0 n id new.1 new.0 keeps) m e) first_stays f; comes = comes }
+  of_load : (e : Option MachineEvent) → StationFollows key s (loaded s id new 0) m e → ComesOf 0 0 e → IsOneStep key s m (seat_step id 0 0 new)
+  of_load e f comes = record { event = e; follows = subst (λ (n : ℕ). StationFollows key s (stepped s 0 n id new.1 new.0 keeps) m e) first_stays f; comes = comes }
 
-  of_second_load : (e : Option MachineEvent) → Follows key s (loaded s id new 1) m e → ComesOf 1 0 e → IsOneStep key s m (seat_step id 1 0 new)
-  of_second_load e f comes = record { event = e; follows = subst (λ (n : ℕ). Follows key s (stepped s 1 n id new.1 new.0 keeps) m e) second_stays f; comes = comes }
+  of_second_load : (e : Option MachineEvent) → StationFollows key s (loaded s id new 1) m e → ComesOf 1 0 e → IsOneStep key s m (seat_step id 1 0 new)
+  of_second_load e f comes = record { event = e; follows = subst (λ (n : ℕ). StationFollows key s (stepped s 1 n id new.1 new.0 keeps) m e) second_stays f; comes = comes }
 
   by_load : IsPass me Once IsWaiting → Passes (step 0 0 0 0 none) me (slice_index s.words 0) new → IsOneStep key s m (seat_step id 0 0 new)
   by_load p t = by_case (passing key s m id me.0 (held p.number p.cpu Once) at p.holds refl p.phase)

@@ -13,7 +13,7 @@ use Rattle.mt_laws.proofs.Steps.StepCounts.{count_more}
 use Rattle.mt_private.specs.declared.view.Resident.{Resident}
 use Rattle.mt_private.specs.OneByOne.{at_rest}
 use Rattle.mt_private.specs.Pages.{IsPrivate, names, naming}
-use Rattle.mt_private.specs.Residents.{Follows, Opens, Yard, stepped_by, system_of, with_stored, scene, move_of}
+use Rattle.mt_private.specs.Residents.{ResidentFollows, Opens, Yard, stepped_by, system_of, with_stored, scene, move_of}
 use Rattle.mt_thread_laws.specs.WorkedWay.{changed, guest, released}
 use Rattle.mt_thread_laws.specs.WorkedYard.{alone, lodger}
 use Rattle.mt_thread_laws.proofs.JobOnWorked.{is_memory}
@@ -49,7 +49,7 @@ opens = record { quiet = quiet; enabled = callable; unshared = unshared; some = 
 abbrev pub IsYard : Go → ℕ → ℕ → Resident → Type 0
 IsYard go first second y = (s : System) × Yard alone (scene (y ∷ []) go s) first second
 
-followed : (go : Go) (s : System) (y w : Resident) (e : Option MachineEvent) (first second : ℕ) → Follows alone (scene (y ∷ []) go s) (move_of 0 w e) first second → IsYard go first second w
+followed : (go : Go) (s : System) (y w : Resident) (e : Option MachineEvent) (first second : ℕ) → ResidentFollows alone (scene (y ∷ []) go s) (move_of 0 w e) first second → IsYard go first second w
 followed go s y w e first second f = (f.moves.system, record { resides = f.moves.kept; first_count = f.first_count; second_count = f.second_count })
 
 pub at_rest_yard : IsYard Pending 0 0 (guest Running Never)

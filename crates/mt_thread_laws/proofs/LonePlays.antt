@@ -8,7 +8,7 @@ use Rattle.mt_machine.specs.declared.go.Go.TheVariants.{Given, Pending}
 use Rattle.mt_machine.specs.declared.phase.Phase.TheVariants.{Arrived}
 use Rattle.mt_machine.specs.Machine.{Steps, common_era}
 use Rattle.mt_machine.specs.Update.{led_start}
-use Rattle.mt_rendezvous.specs.Plays.{Arrives, ArrivesAgain, PassSteps, Passes, Releases, Stands, Works, arrive, arrive_again, does, own_event, work, word_step}
+use Rattle.mt_rendezvous.specs.Plays.{Arrives, ArrivesAgain, PassSteps, Passes, Releases, StandsInUpdate, Works, arrive, arrive_again, does, own_event, work, word_step}
 use Rattle.mt_thread_laws.specs.WorkedLone.{again, back, both_written, come, fills, free, gone, lone, new, pass_of, sits}
 use Rattle.mt_thread_laws.specs.WorkedStations.{bare, zeros}
 use Rattle.mt_thread_laws.proofs.OnLone.{begins_lone, led_by, one_held}
@@ -33,7 +33,7 @@ passes = (
     refl,
     one_held (λ h. PassSteps lone (word_step 0 2 2) (Some (Steps h.number Pass)) h (does lone Pass h)) come
         (record { all = come ∷ []; go = Given; words = 2 ∷ 0 ∷ 0 ∷ zeros; led = led_by 2; at = refl; first = refl; second = refl; word = refl; enabled = refl; becomes = refl }),
-    one_held (λ h. (h.cpu.phase ≡ Arrived) × Stands lone Given h.number (does lone Pass h).cpu) come (refl, record { machine = _; led = led_by 3; order = refl; at = refl }),
+    one_held (λ h. (h.cpu.phase ≡ Arrived) × StandsInUpdate lone Given h.number (does lone Pass h).cpu) come (refl, record { machine = _; led = led_by 3; order = refl; at = refl }),
   )),
   (λ above. absurd (omega (arith, above))),
   (λ below other. absurd (other refl)),
@@ -45,7 +45,7 @@ works = (
   refl,
   one_held (λ h. (was : ℕ) × PassSteps lone (word_step 2 was 1) (Some (Steps h.number (own_event lone h.cpu))) h (work lone h)) gone
       (0, record { all = gone ∷ []; go = Given; words = 2 ∷ 0 ∷ 0 ∷ zeros; led = led_by 3; at = refl; first = refl; second = refl; word = refl; enabled = refl; becomes = refl }),
-  one_held (λ h. Stands lone Given h.number (work lone h).cpu) gone (record { machine = _; led = led_by 4; order = refl; at = refl }),
+  one_held (λ h. StandsInUpdate lone Given h.number (work lone h).cpu) gone (record { machine = _; led = led_by 4; order = refl; at = refl }),
 )
 
 pub arrives_again : ArrivesAgain (step 0 1 1 0 none) (sits lone back) 0 (sits lone again)

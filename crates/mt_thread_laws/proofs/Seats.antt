@@ -18,7 +18,7 @@ use Rattle.mt_rendezvous.specs.declared.view.Held.{Held}
 use Rattle.mt_rendezvous.specs.declared.view.Start.{Start}
 use Rattle.mt_rendezvous.specs.declared.view.View.{View}
 use Rattle.mt_rendezvous.specs.declared.view.Key.{Key}
-use Rattle.mt_rendezvous.specs.Station.{Fits, FitsHeld, Meets, again_of, added_of, broadcast, cpu_of, go_weight, held, joined, order_of, rise, start_of, total, weight, in_second}
+use Rattle.mt_rendezvous.specs.Station.{FitsPhase, FitsHeld, Meets, again_of, added_of, broadcast, cpu_of, go_weight, held, joined, order_of, rise, start_of, total, weight, in_second}
 use Rattle.mt_rendezvous.specs.Laws.{LeftWhereCancelled, ReleasedWhereFull}
 use Rattle.mt_rendezvous.specs.declared.view.Added.TheVariants.{Once, Twice}
 use Rattle.mt_rendezvous.specs.declared.view.Added.{Added}
@@ -34,7 +34,7 @@ again_released n e false Running is less = absurd (not_less n e (omega arith) le
 again_released n e false other is less = absurd (not_less n e (omega arith) less)
 
 -- and so has one in Arrived2
-again_arrived : (go : Go) (added : Added) (released : Bool) (p : Phase) → Fits go added p → (released ≡ true → in_second added ≡ true) → (is_arrived_again p || released) ≡ true → in_second added ≡ true
+again_arrived : (go : Go) (added : Added) (released : Bool) (p : Phase) → FitsPhase go added p → (released ≡ true → in_second added ≡ true) → (is_arrived_again p || released) ≡ true → in_second added ≡ true
 again_arrived go added released Arrived2 f by is = ap in_second f.0
 again_arrived go added released other f by is = by is
 
@@ -45,10 +45,10 @@ all_count (x ∷ xs) each =
     let one : weight (in_second x.added) ≡ 1 = ap weight (each 0 x refl) in
     omega arith
 
-once : (go : Go) → Fits go Once Running → go ≡ Cancelled
+once : (go : Go) → FitsPhase go Once Running → go ≡ Cancelled
 once go f = ⊎_elim (λ t. t.1) (λ t. absurd (let e : Once ≡ Twice = t.0 in cc)) f
 
-twice : (go : Go) → Fits go Twice Running → go ≡ Given
+twice : (go : Go) → FitsPhase go Twice Running → go ≡ Given
 twice go f = ⊎_elim (λ t. absurd (let e : Twice ≡ Once = t.0 in cc)) (λ t. t.1) f
 
 module _ (key : Key) (s : State (Unit {0}) View) (m : Meets key s) (j : ℕ) (v : View) (h : Held) (at : get_elem? s.views j ≡ some v) (is : v.held ≡ h ∷ []) where
@@ -86,13 +86,13 @@ module _ (key : Key) (s : State (Unit {0}) View) (m : Meets key s) (j : ℕ) (v 
 
 pub left_where_cancelled : LeftWhereCancelled
 left_where_cancelled key s m j k v c at is runs =
-    let go : m.go ≡ Cancelled = once m.go (subst (Fits m.go Once) runs (fits key s m j v (held k c Once) at is).fits) in
+    let go : m.go ≡ Cancelled = once m.go (subst (FitsPhase m.go Once) runs (fits key s m j v (held k c Once) at is).fits) in
     (go, (let e : slice_index s.words 0 ≡ total added_of m.all + 4294967296 = m.first ∙ ap (λ (g : Go). total added_of m.all + go_weight g) go in omega arith))
 
 pub released_where_full : ReleasedWhereFull
 released_where_full key s m j k v c at is runs =
     let f = fits key s m j v (held k c Twice) at is in
-    let go : m.go ≡ Given = twice m.go (subst (Fits m.go Twice) runs f.fits) in
+    let go : m.go ≡ Given = twice m.go (subst (FitsPhase m.go Twice) runs f.fits) in
     let up : rise true c.phase ≡ 1 = ap (rise true) runs in
     let era : c.era ≡ common_era key.cpus.value.items + rise true c.phase = f.era in
     let released = lt-ltb (common_era key.cpus.value.items) c.era (omega arith) in

@@ -13,7 +13,7 @@ use Rattle.mt_rendezvous.specs.declared.view.Start.{Start}
 use Rattle.mt_rendezvous.specs.declared.view.View.{View}
 use Rattle.mt_rendezvous.specs.declared.view.Key.{Key}
 use Rattle.mt_rendezvous.specs.Station.{Meets, both, held, spent, start_of}
-use Rattle.mt_rendezvous.specs.Laws.{Follows, Station}
+use Rattle.mt_rendezvous.specs.Laws.{StationFollows, Station}
 use Rattle.mt_rendezvous.specs.Plays.{Sat}
 use Rattle.mt_rendezvous.specs.Calls.{gathered}
 use Rattle.mt_rendezvous.specs.declared.view.Added.TheVariants.{Never, Once, Twice}
@@ -132,5 +132,5 @@ taken_back key = record {
 }
 
 -- one station meets the rule, and the next follows on it by this event
-abbrev pub Moves : Key → Station → Station → Option MachineEvent → Type 0
-Moves key s after e = (m : Meets key s) × Follows key s after m e
+abbrev pub StationMoves : Key → Station → Station → Option MachineEvent → Type 0
+StationMoves key s after e = (m : Meets key s) × StationFollows key s after m e

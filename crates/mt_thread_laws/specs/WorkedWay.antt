@@ -21,10 +21,10 @@ use Rattle.mt_private.specs.declared.job.JobAnswers.{JobAnswers}
 use Rattle.mt_private.specs.declared.view.Resident.{Resident}
 use Rattle.mt_private.specs.declared.view.YardView.{YardView}
 use Rattle.mt_private.specs.Own.{own_memory}
-use Rattle.mt_private.specs.Residents.{Follows, Yard, pages_at, scene, move_of}
+use Rattle.mt_private.specs.Residents.{ResidentFollows, Yard, pages_at, scene, move_of}
 use Rattle.mt_thread_laws.specs.WorkedYard.{alone, first_taken, lodger, lodging, no_counts}
 use Rattle.mt_private.specs.YardLaws.{IsOneEvent, IsOneStep, YardState, yard_step}
-use Rattle.mt_private.specs.YardPlays.{LeftAs, Tells, YardSat, left_as}
+use Rattle.mt_private.specs.YardPlays.{LeftAs, TellsYardStep, YardSat, left_as}
 use Rattle.mt_rendezvous.specs.declared.view.Added.TheVariants.{Once, Twice}
 use Rattle.mt_rendezvous.specs.declared.view.Added.{Added}
 use Rattle.mt_private.specs.YardRule.{MeetsYard, first_yard_view, with_one, with_decision, yard_both, yard_left, yard_right, yard_spent}
@@ -59,9 +59,9 @@ abbrev pub counted : Resident → ℕ → ℕ → Counted
 counted y first second = record { resident = y; first = first; second = second }
 
 -- some system makes a yard of the one, and on that the other follows by this event
-abbrev pub GoesOn : Go → Counted → Counted → Option MachineEvent → Type 0
-GoesOn go x w e =
-    (s : System) × Yard alone (scene (x.resident ∷ []) go s) x.first x.second × Follows alone (scene (x.resident ∷ []) go s) (move_of 0 w.resident e) w.first w.second
+abbrev pub YardGoesOn : Go → Counted → Counted → Option MachineEvent → Type 0
+YardGoesOn go x w e =
+    (s : System) × Yard alone (scene (x.resident ∷ []) go s) x.first x.second × ResidentFollows alone (scene (x.resident ∷ []) go s) (move_of 0 w.resident e) w.first w.second
 
 -- the seat of its pass, which was shown this count and whether there is a cancel
 abbrev pub seat_shown : Option ℕ → Bool → Resident → YardSat
@@ -107,7 +107,7 @@ LoadsFirst key s = (m : MeetsYard key s) × (new : YardSat) × IsOneStep key s m
 
 -- a load of the first count is a step of its first guest, and shows it nothing of the second
 abbrev pub TakesUnshown : Key → Type 0
-TakesUnshown key = (new : YardSat) × Tells (step 0 0 0 0 none) (yard_right (first_yard_view key), []) 0 new × (new.0.shown ≡ None)
+TakesUnshown key = (new : YardSat) × TellsYardStep (step 0 0 0 0 none) (yard_right (first_yard_view key), []) 0 new × (new.0.shown ≡ None)
 
 -- ---- the end of a yard
 

@@ -17,11 +17,11 @@ ghost use Rattle.mt_rendezvous.specs.Station.{broadcast, start_of};
 ghost use Rattle.mt_private.specs.declared.job.Job.{Job as YardJob};
 ghost use Rattle.mt_private.specs.declared.job.JobAnswers.{JobAnswers as YardTold};
 ghost use Rattle.mt_private.specs.Alone.{JobsAlone, JobsRunAlone, UpdatesAlone, UpdatesRunAlone};
-ghost use Rattle.mt_private.specs.Left.{Leaves};
+ghost use Rattle.mt_private.specs.Left.{YardEnds};
 ghost use Rattle.mt_private.specs.OneByOne.{jobs_one_by_one};
-ghost use Rattle.mt_private.specs.Residents.{Decides, Follows, Yard, accessed_by, move_of, own_of, scene, system_of, with_stored};
+ghost use Rattle.mt_private.specs.Residents.{Decides, ResidentFollows, Yard, accessed_by, move_of, own_of, scene, system_of, with_stored};
 ghost use Rattle.mt_private.specs.Visitors.{EndsOneByOne, Returned};
-ghost use Rattle.mt_thread_laws.specs.WorkedWay.{Becomes, GoesOn, HasNoAnswers, IsEmptyJob, LoadsFirst, TakesUnshown, changed, counted, fills_not, given, guest, joined, last_seat, left, lone_host, released, settled, split_taken};
+ghost use Rattle.mt_thread_laws.specs.WorkedWay.{Becomes, YardGoesOn, HasNoAnswers, IsEmptyJob, LoadsFirst, TakesUnshown, changed, counted, fills_not, given, guest, joined, last_seat, left, lone_host, released, settled, split_taken};
 ghost use Rattle.mt_thread_laws.specs.WorkedYard.{alone, first_state, lodged, lodging, split_state};
 ghost use Rattle.mt_private.specs.YardLaws.{AdditionArrives, AdditionArrivesAgain, AdditionDecides, LoadLeaves, LoadPasses, LoadReleases, LoadStays, LoadTakes, StoreAccesses, StoreWorks};
 ghost use Rattle.mt_private.specs.YardLaws.{EachStepFollows, IsOneMachine, IsReached, JoinIsNone, LeftWhereCancelled, MoveIsOneEvent, ReleasedWhereFull, DecisionIsOneEvent, Settles, ShownIsFound, SplitIsNone, StartMeetsRule, YardsSettle};
@@ -29,27 +29,27 @@ ghost use Rattle.mt_private.specs.YardRule.{MeetsYard, its_machine};
 
 /// Loads of the counts.
 pub fn worked_laws_of_loads()
-    ensures takes { LoadTakes → GoesOn Pending (counted (guest Running Never) 0 0) (counted (guest Taken Never) 0 0) (Some (Steps 0 Take)) }
-    ensures stays { LoadStays → GoesOn Pending (counted (guest Arrived Once) 1 0) (counted (guest Arrived Once) 1 0) None }
-    ensures passes { LoadPasses → GoesOn Given (counted (guest Arrived Once) 2 0) (counted (guest Passed Once) 2 0) (Some (Steps 0 Pass)) }
-    ensures leaves { LoadLeaves → GoesOn Cancelled (counted (guest Taken Once) 0x100000001 0) (counted (guest Running Once) 0x100000001 0) (Some (Steps 0 Leave)) }
-    ensures releases { LoadReleases → GoesOn Given (counted (changed Arrived2 Twice) 2 1) (counted released 2 1) (Some (Steps 0 Release)) }
+    ensures takes { LoadTakes → YardGoesOn Pending (counted (guest Running Never) 0 0) (counted (guest Taken Never) 0 0) (Some (Steps 0 Take)) }
+    ensures stays { LoadStays → YardGoesOn Pending (counted (guest Arrived Once) 1 0) (counted (guest Arrived Once) 1 0) None }
+    ensures passes { LoadPasses → YardGoesOn Given (counted (guest Arrived Once) 2 0) (counted (guest Passed Once) 2 0) (Some (Steps 0 Pass)) }
+    ensures leaves { LoadLeaves → YardGoesOn Cancelled (counted (guest Taken Once) 0x100000001 0) (counted (guest Running Once) 0x100000001 0) (Some (Steps 0 Leave)) }
+    ensures releases { LoadReleases → YardGoesOn Given (counted (changed Arrived2 Twice) 2 1) (counted released 2 1) (Some (Steps 0 Release)) }
 {}
 
 /// Additions to the counts, by the pass and by the coordinator.
 pub fn worked_laws_of_additions()
-    ensures arrives { AdditionArrives → GoesOn Pending (counted (guest Taken Never) 0 0) (counted (guest Arrived Once) 1 0) (Some (Steps 0 Arrive)) }
+    ensures arrives { AdditionArrives → YardGoesOn Pending (counted (guest Taken Never) 0 0) (counted (guest Arrived Once) 1 0) (Some (Steps 0 Arrive)) }
     ensures decides { AdditionDecides → (s : MachineSystem) × Yard alone (scene (guest Arrived Once ∷ []) Pending s) 1 0
         × Decides alone (scene (guest Arrived Once ∷ []) Given s) 2 0 Goes × Decides alone (scene (guest Arrived Once ∷ []) Cancelled s) 0x100000001 0 Cancels }
-    ensures arrives_again { AdditionArrivesAgain → GoesOn Given (counted (changed Restored Once) 2 0) (counted (changed Arrived2 Twice) 2 1) (Some (Steps 0 ArriveAgain)) }
+    ensures arrives_again { AdditionArrivesAgain → YardGoesOn Given (counted (changed Restored Once) 2 0) (counted (changed Arrived2 Twice) 2 1) (Some (Steps 0 ArriveAgain)) }
 {}
 
 /// Stores of the own event word: an access before the update, and the event that is due behind the first barrier.
 pub fn worked_laws_of_own_words()
     ensures accesses { StoreAccesses → (s : MachineSystem) × Yard alone (scene (guest Running Never ∷ []) Pending s) 0 0
-        × Follows alone (scene (guest Running Never ∷ []) Pending s) (move_of 0 (with_stored (accessed_by (Store 0x1000 7) (guest Running Never)) 1) (Some (Accesses 0 (Store 0x1000 7)))) 0 0
+        × ResidentFollows alone (scene (guest Running Never ∷ []) Pending s) (move_of 0 (with_stored (accessed_by (Store 0x1000 7) (guest Running Never)) 1) (Some (Accesses 0 (Store 0x1000 7)))) 0 0
         × ((access s 0 (Store 0x1000 7)).answer ≡ Stored WB) }
-    ensures works { StoreWorks → GoesOn Given (counted (guest Passed Once) 2 0) (counted (with_stored fills_not 1) 2 0) (Some (Steps 0 SetNoFill)) }
+    ensures works { StoreWorks → YardGoesOn Given (counted (guest Passed Once) 2 0) (counted (with_stored fills_not 1) 2 0) (Some (Steps 0 SetNoFill)) }
 {}
 
 /// A yard of two at its start, and steps of its seats; and a yard of one, whose resident left or is released.
@@ -70,7 +70,7 @@ pub fn worked_laws_of_tables()
 
 /// A yard whose one guest came back, with a job without accesses: it leaves what the update leaves.
 pub fn worked_laws_of_ends()
-    ensures { EndsOneByOne → (table : TableId) (job : YardJob) (told : YardTold) → IsEmptyJob job → HasNoAnswers told → (s : MachineSystem) × Leaves alone last_seat.0 s
+    ensures { EndsOneByOne → (table : TableId) (job : YardJob) (told : YardTold) → IsEmptyJob job → HasNoAnswers told → (s : MachineSystem) × YardEnds alone last_seat.0 s
         × Returned (lone_host table) (job ∷ []) (Some (own_of released) ∷ []) (told ∷ [])
         × (s ≡ (jobs_one_by_one (system_of alone) alone.goal (job ∷ [])).left.system) }
 {}

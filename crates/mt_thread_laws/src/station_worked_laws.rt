@@ -13,29 +13,29 @@ ghost use Rattle.mt_rendezvous.specs.Station.{Begins, Meets, broadcast, first_vi
 ghost use Rattle.mt_rendezvous.specs.Plays.{with_go};
 ghost use Rattle.mt_rendezvous.specs.Laws.{ArriveAgainFollows, ArriveFollows, CancelFollows, GoFollows, JoinFollows, PassFollows, ReleaseFollows, SplitFollows, WorkFollows};
 ghost use Rattle.mt_rendezvous.specs.Laws.{BroadcastBegins, EachStepFollows, HoldsWhereFull, IsLedTo, IsOneStep, LeftWhereCancelled, ReleasedWhereFull, ShownIsFound, StandsForOne, machine_of, raised, seat_step};
-ghost use Rattle.mt_thread_laws.specs.WorkedLone.{Moves, arrived, arrived_again, cancelled, ended, fills_not, free, left, lone, out, pass_of, passed, restored, sits, taken, taken_back, waits};
+ghost use Rattle.mt_thread_laws.specs.WorkedLone.{StationMoves, arrived, arrived_again, cancelled, ended, fills_not, free, left, lone, out, pass_of, passed, restored, sits, taken, taken_back, waits};
 ghost use Rattle.mt_thread_laws.specs.WorkedStations.{at_start, bare, split_once, start};
 
 /// The root's steps: it gives a processor away, says go, cancels, and takes a processor back.
 pub fn worked_laws_of_the_root()
-    ensures split { SplitFollows → (key : Key) → start_of key ≡ start → Moves key (at_start key) (split_once key) None }
-    ensures go { GoFollows → (key : Key) → start_of key ≡ start → Moves key (at_start key) (raised (at_start key) 0 (with_go (first_view key) Given, []) 0 1) (Some Goes) }
+    ensures split { SplitFollows → (key : Key) → start_of key ≡ start → StationMoves key (at_start key) (split_once key) None }
+    ensures go { GoFollows → (key : Key) → start_of key ≡ start → StationMoves key (at_start key) (raised (at_start key) 0 (with_go (first_view key) Given, []) 0 1) (Some Goes) }
     ensures cancel { CancelFollows → (key : Key) → start_of key ≡ start
-        → Moves key (at_start key) (raised (at_start key) 0 (with_go (first_view key) Cancelled, []) 0 0x100000000) (Some CancelsUpdate) }
-    ensures join { JoinFollows → (key : Key) → start_of key ≡ lone → Moves key (left key) (taken_back key) None }
+        → StationMoves key (at_start key) (raised (at_start key) 0 (with_go (first_view key) Cancelled, []) 0 0x100000000) (Some CancelsUpdate) }
+    ensures join { JoinFollows → (key : Key) → start_of key ≡ lone → StationMoves key (left key) (taken_back key) None }
 {}
 
 /// A pass's steps at the first barrier: it arrives, and passes.
 pub fn worked_laws_of_the_first_barrier()
-    ensures arrive { ArriveFollows → (key : Key) → start_of key ≡ lone → Moves key (taken key) (waits key) (Some (Steps 0 Arrive)) }
-    ensures pass { PassFollows → (key : Key) → start_of key ≡ lone → Moves key (arrived key) (passed key) (Some (Steps 0 Pass)) }
+    ensures arrive { ArriveFollows → (key : Key) → start_of key ≡ lone → StationMoves key (taken key) (waits key) (Some (Steps 0 Arrive)) }
+    ensures pass { PassFollows → (key : Key) → start_of key ≡ lone → StationMoves key (arrived key) (passed key) (Some (Steps 0 Pass)) }
 {}
 
 /// The store of its own phase between the barriers, and its steps at the second barrier.
 pub fn worked_laws_of_the_change()
-    ensures phase { WorkFollows → (key : Key) → start_of key ≡ lone → Moves key (passed key) (fills_not key) (Some (Steps 0 SetNoFill)) }
-    ensures arrive_again { ArriveAgainFollows → (key : Key) → start_of key ≡ lone → Moves key (restored key) (arrived_again key) (Some (Steps 0 ArriveAgain)) }
-    ensures release { ReleaseFollows → (key : Key) → start_of key ≡ lone → Moves key (arrived_again key) (ended key) (Some (Steps 0 Release)) }
+    ensures phase { WorkFollows → (key : Key) → start_of key ≡ lone → StationMoves key (passed key) (fills_not key) (Some (Steps 0 SetNoFill)) }
+    ensures arrive_again { ArriveAgainFollows → (key : Key) → start_of key ≡ lone → StationMoves key (restored key) (arrived_again key) (Some (Steps 0 ArriveAgain)) }
+    ensures release { ReleaseFollows → (key : Key) → start_of key ≡ lone → StationMoves key (arrived_again key) (ended key) (Some (Steps 0 Release)) }
 {}
 
 /// The last step at the second barrier, as one of every step.

@@ -9,8 +9,8 @@ ghost use Rattle.mt_machine.specs.Machine.{Cancels as CancelsUpdate, Goes, Steps
 ghost use Rattle.mt_rendezvous.specs.declared.view.Added.TheVariants.{Once};
 ghost use Rattle.mt_rendezvous.specs.declared.view.Key.{Key};
 ghost use Rattle.mt_rendezvous.specs.Station.{Meets, first_view, held, root_left, start_of};
-ghost use Rattle.mt_rendezvous.specs.Plays.{GoesTo, Sat, Tells};
-ghost use Rattle.mt_rendezvous.specs.Laws.{ComesOf, Follows};
+ghost use Rattle.mt_rendezvous.specs.Plays.{GoesTo, Sat, TellsSeatStep};
+ghost use Rattle.mt_rendezvous.specs.Laws.{ComesOf, StationFollows};
 ghost use Rattle.mt_rendezvous.specs.Calls.{opening_words};
 ghost use Rattle.mt_thread_laws.specs.WorkedStations.{at_start, but_word, first, start, zeros};
 
@@ -36,9 +36,9 @@ pub fn worked_places()
 
 /// What doesn't follow on the words and views at the start.
 pub fn worked_follows()
-    ensures not_kept { (key : Key) → start_of key ≡ start → (m : Meets key (at_start key)) → Follows key (at_start key) (but_word key 0 1) m None → ⊥ }
-    ensures not_enabled { (key : Key) → start_of key ≡ start → (m : Meets key (at_start key)) → Follows key (at_start key) (at_start key) m (Some (Steps 7 Arrive)) → ⊥ }
-    ensures not_gone_on { (key : Key) → start_of key ≡ start → (m : Meets key (at_start key)) → Follows key (at_start key) (at_start key) m (Some Goes) → ⊥ }
+    ensures not_kept { (key : Key) → start_of key ≡ start → (m : Meets key (at_start key)) → StationFollows key (at_start key) (but_word key 0 1) m None → ⊥ }
+    ensures not_enabled { (key : Key) → start_of key ≡ start → (m : Meets key (at_start key)) → StationFollows key (at_start key) (at_start key) m (Some (Steps 7 Arrive)) → ⊥ }
+    ensures not_gone_on { (key : Key) → start_of key ≡ start → (m : Meets key (at_start key)) → StationFollows key (at_start key) (at_start key) m (Some Goes) → ⊥ }
 {}
 
 /// Of which steps an event comes, and of which it doesn't.
@@ -56,5 +56,5 @@ pub fn worked_steps_of_events()
 
 /// No seat adds more to the second count than 1.
 pub fn worked_addition()
-    ensures { (me new : Sat) (found : ℕ) → Tells (step 0 1 2 0 none) me found new → ⊥ }
+    ensures { (me new : Sat) (found : ℕ) → TellsSeatStep (step 0 1 2 0 none) me found new → ⊥ }
 {}

@@ -30,7 +30,7 @@ use Rattle.mt_types.specs.declared.run.Run.{Run}
 use Rattle.mt_types.specs.Runs.{kind_at}
 use Rattle.mt_tidy.specs.declared.range.Range.{Range}
 use Rattle.mt_tidy.specs.Ranges.{holds_page, types_at}
-use Rattle.mt_tidy.specs.Sound.{Passes}
+use Rattle.mt_tidy.specs.Sound.{IsPairValue}
 use Rattle.mt_tidy.specs.Wanted.{IsBlock, IsRangeOf, IsWanted, Gives, is_free}
 use Rattle.mt_tidy.specs.declared.rules.Rules.{Rules}
 use Rattle.mt_tidy.specs.Cost.{rules_of}
@@ -131,7 +131,7 @@ pages_to_bytes width wide =
     let whole : 2 ^ (width - 12 + 12) ≡ 2 ^ width = ap (λ n. 2 ^ n) e in
     omega (arith, split, whole)
 
-range_passes : (f : RegisterFile) → 32 ≤ f.width → f.width ≤ 52 → (r : Range) → IsRangeOf f r → Passes f (pair_for f.width r)
+range_passes : (f : RegisterFile) → 32 ≤ f.width → f.width ≤ 52 → (r : Range) → IsRangeOf f r → IsPairValue f (pair_for f.width r)
 unfolding block_of_range
 range_passes f wide narrow r is =
     let byte : byte_of_type r.kind < 256 = small_byte r.kind in
@@ -151,7 +151,7 @@ range_passes f wide narrow r is =
     sound true b e = rw e refl
     sound false b e = refl
 
-pub zeros_no_fault : (f : RegisterFile) → Passes f (0, 0)
+pub zeros_no_fault : (f : RegisterFile) → IsPairValue f (0, 0)
 zeros_no_fault f =
     let high : 0 / 2 ^ f.width ≡ 0 = div-eq_of_lt (pow_pos f.width) in
     record { base_bits = no_bits 0 (0 / 2 ^ f.width) 0 refl high; base_type = refl; mask_bits = no_bits 0 (0 / 2 ^ f.width) 0 refl high; mask_run = refl }
@@ -167,17 +167,17 @@ pair_passes P zeros pair (r ∷ rs) all count (suc n) = pair_passes P zeros pair
 pub no_reason : (a b c : Bool) → a ≡ false → b ≡ false → c ≡ false → (if a then Some ReservedBit else if b then Some UnsupportedType else if c then Some BrokenMask else None) ≡ None
 no_reason a b c x y z = rw (x, y, z) refl
 
-pub base_sound : (f : RegisterFile) (n : ℕ) → Passes f (pair_at f.pairs n) → reason_of f (PhysBase n) ≡ None
+pub base_sound : (f : RegisterFile) (n : ℕ) → IsPairValue f (pair_at f.pairs n) → reason_of f (PhysBase n) ≡ None
 base_sound f n passes = no_reason (has_reserved_bit f (PhysBase n) (value_of f (PhysBase n))) (has_unsupported_type f (PhysBase n) (value_of f (PhysBase n))) false passes.base_bits passes.base_type refl
 
-pub mask_sound : (f : RegisterFile) (n : ℕ) → Passes f (pair_at f.pairs n) → reason_of f (PhysMask n) ≡ None
+pub mask_sound : (f : RegisterFile) (n : ℕ) → IsPairValue f (pair_at f.pairs n) → reason_of f (PhysMask n) ≡ None
 mask_sound f n passes = no_reason (has_reserved_bit f (PhysMask n) (value_of f (PhysMask n))) false (has_broken_mask f (PhysMask n) (value_of f (PhysMask n))) passes.mask_bits refl passes.mask_run
 
 pub fault_free : (r : Register) (why : Option Reason) (rest : Option Fault) → why ≡ None → option_or (fault_at r why) rest ≡ rest
 fault_free r why rest e = rw e refl
 
 -- sound pairs leave the first fault to the registers after them
-pub pairs_first : (f : RegisterFile) → ((n : ℕ) → Passes f (pair_at f.pairs n)) → (first count : ℕ) (others : List Register)
+pub pairs_first : (f : RegisterFile) → ((n : ℕ) → IsPairValue f (pair_at f.pairs n)) → (first count : ℕ) (others : List Register)
     → first_of f (pair_registers first count ++ others) ≡ first_of f others
 pairs_first f sound first zero others = refl
 pairs_first f sound first (suc count) others =
@@ -210,9 +210,9 @@ no_fault : (f : RegisterFile) → 32 ≤ f.width → f.width ≤ 52 → register
     → register_fault (with_ranges f ranges) ≡ None
 unfolding other_registers
 no_fault f wide narrow checked ranges of =
-    let sound : (n : ℕ) → Passes f (pair_at (with_ranges f ranges).pairs n) =
-    λ n. pair_passes (Passes f) (zeros_no_fault f) (pair_for f.width) ranges
-    (each_is (IsRangeOf f) (λ r. Passes f (pair_for f.width r)) (λ r is. range_passes f wide narrow r is) ranges of) (pair_count f - length ranges) n in
+    let sound : (n : ℕ) → IsPairValue f (pair_at (with_ranges f ranges).pairs n) =
+    λ n. pair_passes (IsPairValue f) (zeros_no_fault f) (pair_for f.width) ranges
+    (each_is (IsRangeOf f) (λ r. IsPairValue f (pair_for f.width r)) (λ r is. range_passes f wide narrow r is) ranges of) (pair_count f - length ranges) n in
     let parts : (pair_registers 0 (pair_count f) ++ fixed_part_of f) ++ Pat ∷ DefaultType ∷ [] ≡ pair_registers 0 (pair_count f) ++ other_registers f =
     append_assoc (pair_registers 0 (pair_count f)) (fixed_part_of f) (Pat ∷ DefaultType ∷ []) in
     ap (first_of (with_ranges f ranges)) parts

@@ -8,14 +8,14 @@ use Rattle.mt_regs.specs.declared.registers.Register.TheVariants.{DefaultType, F
 use Rattle.mt_regs.specs.RegisterFile.{RegisterFile, has_fixed, has_write_combining, pair_at, pair_count}
 use Rattle.mt_regs.specs.Registers.{fixed_part_of, fixed_registers, pair_registers}
 use Rattle.mt_regs.specs.Faults.{any_byte, first_of, is_pat_byte, reason_of, register_fault}
-use Rattle.mt_tidy.specs.Sound.{Passes, has_types}
+use Rattle.mt_tidy.specs.Sound.{IsPairValue, has_types}
 use Rattle.mt_tidy.proofs.Fitted.{fault_free, other_registers, pairs_first, zeros_no_fault}
 
 -- a pair that the file doesn't have is zeros
-each_passes : (f : RegisterFile) → ((n : ℕ) → n < length f.pairs → Passes f (pair_at f.pairs n)) → (n : ℕ) → Passes f (pair_at f.pairs n)
+each_passes : (f : RegisterFile) → ((n : ℕ) → n < length f.pairs → IsPairValue f (pair_at f.pairs n)) → (n : ℕ) → IsPairValue f (pair_at f.pairs n)
 each_passes f passes n = elim (cases_lt n (length f.pairs)) [
   | inl within ↦ passes n within
-  | inr past ↦ subst (Passes f) (sym (get_or_past f.pairs n (0, 0) past)) (zeros_no_fault f)
+  | inr past ↦ subst (IsPairValue f) (sym (get_or_past f.pairs n (0, 0) past)) (zeros_no_fault f)
 ]
 
 fixed_free : (f : RegisterFile) → ((place : ℕ) → place < 11 → reason_of f (FixedRange place) ≡ None)
@@ -45,7 +45,7 @@ no_byte false h = refl
 fixed_sound : (f : RegisterFile) (place : ℕ) → has_types (has_write_combining f) (slice_index f.fixed place) ≡ true → reason_of f (FixedRange place) ≡ None
 fixed_sound f place h = rw (no_byte _ h) refl
 
-pub none_at_fault : (f : RegisterFile) → ((n : ℕ) → n < length f.pairs → Passes f (pair_at f.pairs n))
+pub none_at_fault : (f : RegisterFile) → ((n : ℕ) → n < length f.pairs → IsPairValue f (pair_at f.pairs n))
     → (has_fixed f ≡ true → (place : ℕ) → place < 11 → has_types (has_write_combining f) (slice_index f.fixed place) ≡ true)
     → reason_of f Pat ≡ None → reason_of f DefaultType ≡ None → register_fault f ≡ None
 unfolding other_registers

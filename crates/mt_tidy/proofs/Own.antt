@@ -29,7 +29,7 @@ use Rattle.mt_types.proofs.Reading.{kind_is, no_undefined}
 use Rattle.mt_tidy.specs.declared.range.Range.{Range}
 use Rattle.mt_tidy.specs.Ranges.{types_at}
 use Rattle.mt_tidy.specs.Wanted.{Gives, IsLeastFor, IsWanted, is_free}
-use Rattle.mt_tidy.specs.Keeps.{IsLeast, Keeps}
+use Rattle.mt_tidy.specs.Keeps.{IsLeast, KeepsTypes}
 use Rattle.mt_tidy.specs.Kept.{IsTidy, NeedsMore}
 use Rattle.mt_tidy.specs.Tidied.{IsTidied, IsTooFew, tidying}
 use Rattle.mt_tidy.specs.declared.fits.Tidied.{Tidied}
@@ -246,7 +246,7 @@ module _ (f : RegisterFile) (accepted : IsAccepted f) (enabled : is_enabled f �
   free_kind : (types : List MemType) (page : ℕ) → is_free f page ≡ true → page_type_among f types page ≡ Kind (fixed_type f page)
   free_kind types page free = rw (enabled, free) refl
 
-  keeps_of : (ranges : List Range) → Gives f runs ranges → Keeps f ranges
+  keeps_of : (ranges : List Range) → Gives f runs ranges → KeepsTypes f ranges
   keeps_of ranges gives = record {
     ranges_of = gives.ranges_of;
     same_types = λ page below. elim (cases_Bool (is_free f page)) [
@@ -256,7 +256,7 @@ module _ (f : RegisterFile) (accepted : IsAccepted f) (enabled : is_enabled f �
     defined = no_undefined f accepted;
   }
 
-  gives_of : (ranges : List Range) → Keeps f ranges → Gives f runs ranges
+  gives_of : (ranges : List Range) → KeepsTypes f ranges → Gives f runs ranges
   gives_of ranges keeps = record {
     ranges_of = keeps.ranges_of;
     wanted_kinds = λ page below nonfree. own_kind page below nonfree ∙ sym (keeps.same_types page below);
@@ -311,7 +311,7 @@ pub tidy_file : (f : RegisterFile) → IsAccepted f → is_enabled f ≡ true �
 tidy_file f accepted enabled runs are = tidy_of f accepted enabled runs (own_kinds f runs are)
 
 pub keeps_is_gives : (f : RegisterFile) → IsAccepted f → is_enabled f ≡ true → (runs : List Run) → IsRunsOf f runs
-    → (ranges : List Range) → Keeps f ranges ↔ Gives f runs ranges
+    → (ranges : List Range) → KeepsTypes f ranges ↔ Gives f runs ranges
 keeps_is_gives f accepted enabled runs are ranges = (gives_of f accepted enabled runs (own_kinds f runs are) ranges, keeps_of f accepted enabled runs (own_kinds f runs are) ranges)
 
 pub least_is_least_for : (f : RegisterFile) → IsAccepted f → is_enabled f ≡ true → (runs : List Run) → IsRunsOf f runs

@@ -6,7 +6,7 @@ use Rattle.mt_regs.specs.RegisterFile.{RegisterFile, has_write_combining, low_by
 use Rattle.mt_regs.specs.Faults.{any_byte, is_supported}
 
 -- the values of a pair
-pub record Passes (f : RegisterFile) (pair : ℕ × ℕ) : Type 0 where
+pub record IsPairValue (f : RegisterFile) (pair : ℕ × ℕ) : Type 0 where
   pub base_bits : (not (bits pair.0 8 4 == 0) || not (pair.0 / 2 ^ f.width == 0)) ≡ false
   pub base_type : not (is_supported (has_write_combining f) (low_byte pair.0)) ≡ false
   pub mask_bits : (not (pair.1 % 2 ^ 11 == 0) || not (pair.1 / 2 ^ f.width == 0)) ≡ false

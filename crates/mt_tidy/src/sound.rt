@@ -2,7 +2,7 @@ ghost use Rattle.std.specs.Prelude.{◌≡◌, ◌<◌, ℕ, None, length, slice
 ghost use Rattle.mt_regs.specs.Faults.{is_supported, reason_of, register_fault};
 ghost use Rattle.mt_regs.specs.RegisterFile.{has_write_combining, pair_at};
 ghost use Rattle.mt_regs.specs.declared.registers.Register.TheVariants.{DefaultType, Pat};
-ghost use Rattle.mt_tidy.specs.Sound.{Passes, has_types};
+ghost use Rattle.mt_tidy.specs.Sound.{IsPairValue, has_types};
 
 use mt_kinds::{MemType, PatType, bits, byte_at, is_bit_set};
 use mt_ranges::block_of;
@@ -28,7 +28,7 @@ fn has_types(has_combining: bool, value: u64) -> bool
 
 // Whether the values of a pair are sound.
 fn is_pair_sound(f: &RegFile, pair: (u64, u64)) -> bool
-    ensures { result ≡ true → Passes f.now pair }
+    ensures { result ≡ true → IsPairValue f.now pair }
 {
     if bits(pair.0, 8, 4) != 0 || pair.0 >> f.maxphy != 0 {
         return false;
@@ -43,7 +43,7 @@ fn is_pair_sound(f: &RegFile, pair: (u64, u64)) -> bool
 }
 
 fn are_pairs_sound(f: &RegFile) -> bool
-    ensures { result ≡ true → (n : ℕ) → n < length f.now.pairs → Passes f.now (pair_at f.now.pairs n) }
+    ensures { result ≡ true → (n : ℕ) → n < length f.now.pairs → IsPairValue f.now (pair_at f.now.pairs n) }
 {
     for pair in f.pairs.as_slice() {
         if !is_pair_sound(f, *pair) {

@@ -16,14 +16,14 @@ use Rattle.mt_types.proofs.PartRuns.{CoversBlock, covers_block}
 use Rattle.mt_trie.specs.declared.wish.Wish.{Wish}
 use Rattle.mt_trie.specs.declared.wish.Wish.TheVariants.{Any, Only}
 use Rattle.mt_trie.specs.RunWishes.{EndsInTime, first_page, wish_in, wish_over}
-use Rattle.mt_trie.specs.Wishes.{InBlock, IsDefined, IsPart, IsWish, both, is_free_page, type_of_kind, wanted_type}
+use Rattle.mt_trie.specs.Wishes.{InBlock, IsDefined, IsCutFor, IsWish, both, is_free_page, type_of_kind, wanted_type}
 use Rattle.mt_trie.proofs.WishLaws.{MakeUp, both_mean, same_pages}
 
 ends_in_time : (runs : List Run) → IsChain 0 runs → pages_end 0 runs ≤ 2 ^ 40 → All EndsInTime runs
 ends_in_time runs chain bound k d within = let inner = within_chain 0 runs k d chain within in omega (arith, inner.2, bound)
 
 -- each run of a part ends below the largest number of pages
-pub part_in_time : (runs : List Run) (b : Block) → IsPart runs b → All EndsInTime runs
+pub part_in_time : (runs : List Run) (b : Block) → IsCutFor runs b → All EndsInTime runs
 part_in_time runs b part =
     let all : All EndsInTime part.map = ends_in_time part.map part.is_map.chain part.is_map.bound in
     subst (λ rs. All EndsInTime rs) (sym part.lent) (All-filter (shares_page b) EndsInTime part.map all)
@@ -32,7 +32,7 @@ part_in_time runs b part =
 pub part_defined : (runs part : List Run) (b : Block) → All IsDefined runs → part ≡ filter (shares_page b) runs → All IsDefined part
 part_defined runs part b all is = subst (λ rs. All IsDefined rs) (sym is) (All-filter (shares_page b) IsDefined runs all)
 
-part_covers : (runs : List Run) (b : Block) → IsPart runs b → CoversBlock b runs
+part_covers : (runs : List Run) (b : Block) → IsCutFor runs b → CoversBlock b runs
 part_covers runs b part =
     subst (λ rs. CoversBlock b rs) (sym part.lent) (covers_block b 0 part.map part.is_map.chain (omega arith) part.covered)
 
@@ -174,7 +174,7 @@ module _ (fixed : Bool) (runs : List Run) (first end : ℕ) where
       over_means from runs Any chain (recursion_from_All (λ r. r.kind ≢ Undefined) runs kinds) (λ page above. refl) (λ page p. none_before from page low p)
 
 -- the wish that goes over the runs is the wish of the block's pages
-pub wish_found : (fixed : Bool) (runs : List Run) (b : Block) (start end : ℕ) (found : Wish) → IsPart runs b → All (λ r. r.kind ≢ Undefined) runs
+pub wish_found : (fixed : Bool) (runs : List Run) (b : Block) (start end : ℕ) (found : Wish) → IsCutFor runs b → All (λ r. r.kind ≢ Undefined) runs
     → start ≡ first_page fixed b.first → end ≡ block_end b → found ≡ wish_over start end runs → IsWish (wanted_type fixed runs) (InBlock b) found
 unfolding wanted start
 wish_found fixed runs b from until found part kinds is_start is_end e =

@@ -62,7 +62,7 @@ abbrev pub IsDefined : Run → Type 0
 IsDefined r = r.kind ≢ Undefined
 
 -- the runs are those that a type map lends for the block
-pub record IsPart (runs : List Run) (b : Block) : Type 0 where
+pub record IsCutFor (runs : List Run) (b : Block) : Type 0 where
   pub map : List Run
   pub is_map : IsTypeMap map
   pub covered : block_end b ≤ pages_end 0 map

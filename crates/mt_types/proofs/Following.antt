@@ -3,12 +3,12 @@ use Rattle.std.proofs.Common.{ℕ, ◌^◌, ◌<◌, ◌≤◌, Option, Some, No
 use Rattle.mt_regs.specs.declared.page_type.PageType.{PageType}
 use Rattle.mt_types.specs.declared.run.Run.{Run}
 use Rattle.mt_types.specs.Runs.{IsChain, IsTypeMap, NeighboursDiffer, pages_end, run_end}
-use Rattle.mt_types.specs.Follow.{DiffersFrom, Follows}
+use Rattle.mt_types.specs.Follow.{DiffersFrom, MayStandNext}
 
 -- each run follows the runs before it
 abbrev pub AllFollow : ℕ → Option PageType → List Run → Type 0
 AllFollow next before [] = Unit {0}
-AllFollow next before (r ∷ rs) = Follows next before r × AllFollow (run_end r) (Some r.kind) rs
+AllFollow next before (r ∷ rs) = MayStandNext next before r × AllFollow (run_end r) (Some r.kind) rs
 
 abbrev pub FirstDiffers : Option PageType → List Run → Type 0
 FirstDiffers before [] = Unit {0}
@@ -48,7 +48,7 @@ all_of next before [] chain bound differ first = tt
 all_of next before (r ∷ rs) chain bound differ first =
     let later = rest_differs r rs differ in
     let grows = chain_end (run_end r) rs chain.2 in
-    let follows : Follows next before r = record { first = chain.0; some = chain.1; bound = omega arith; differs = first } in
+    let follows : MayStandNext next before r = record { first = chain.0; some = chain.1; bound = omega arith; differs = first } in
     (follows, all_of (run_end r) (Some r.kind) rs chain.2 bound later.1 later.0)
 
 pub all_of_map : (rs : List Run) → IsTypeMap rs → AllFollow 0 None rs
@@ -67,7 +67,7 @@ pub record LeadsTo (list : List Run) (next : ℕ) (before : Option PageType) (re
 pub leads_start : (list : List Run) → 0 < length list → LeadsTo list 0 None list
 leads_start list some = record { bound = omega arith; down = all_of_map list; up = map_of_all list some }
 
-pub leads_on : (list : List Run) (next : ℕ) (before : Option PageType) (r : Run) (rs : List Run) → LeadsTo list next before (r ∷ rs) → Follows next before r
+pub leads_on : (list : List Run) (next : ℕ) (before : Option PageType) (r : Run) (rs : List Run) → LeadsTo list next before (r ∷ rs) → MayStandNext next before r
     → LeadsTo list (run_end r) (Some r.kind) rs
 leads_on list next before r rs leads follows = record {
   bound = follows.bound;

@@ -9,7 +9,7 @@ DiffersFrom None kind = Unit {0}
 DiffersFrom (Some before) kind = before ≢ kind
 
 -- the run may stand where the runs before it end at a page, the last of them with a type
-pub record Follows (next : ℕ) (before : Option PageType) (r : Run) : Type 0 where
+pub record MayStandNext (next : ℕ) (before : Option PageType) (r : Run) : Type 0 where
   pub first : r.first ≡ next
   pub some : 0 < r.count
   pub bound : r.first + r.count ≤ 2 ^ 40

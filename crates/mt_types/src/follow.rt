@@ -1,6 +1,6 @@
 ghost use Rattle.std.specs.Prelude.{◌≤◌, ◌^◌, ◌↔◌, IsTrue};
 ghost use Rattle.mt_types.specs.Runs.{IsTypeMap};
-ghost use Rattle.mt_types.specs.Follow.{Follows};
+ghost use Rattle.mt_types.specs.Follow.{MayStandNext};
 
 use crate::Run;
 use mt_regs::PageType;
@@ -11,7 +11,7 @@ const MOST_PAGES: u64 = 1 << 40;
 // Whether a run may stand where the runs before it end at a page, the last of them with a type.
 fn follows(run: &Run, next: u64, before: Option<PageType>) -> bool
     requires { next ≤ 2 ^ 40 }
-    ensures { IsTrue result ↔ Follows next before run.now }
+    ensures { IsTrue result ↔ MayStandNext next before run.now }
 {
     let differs = match before {
         None => true,

@@ -7,17 +7,17 @@ use Rattle.mt_regs.specs.declared.page_type.PageType.TheVariants.{Kind}
 use Rattle.mt_types.specs.declared.run.Run.{Run}
 use Rattle.mt_types.specs.Runs.{run_end}
 use Rattle.mt_gran.specs.Granules.{TypedPages, loses}
-use Rattle.mt_gran.specs.Parts.{ArePartsOf, Ascend, IsInSome, IsPart}
+use Rattle.mt_gran.specs.Parts.{ArePartsOf, Ascend, IsInSome, IsLostRun}
 use Rattle.mt_gran.proofs.Counts.{lost_by, mark_of}
 
 module _ (m : TypedPages) (g : ℕ) where
   -- all parts from a page on
   record Are (from : ℕ) (parts : List Run) : Type 0 where
-    each : AllByRecursion (IsPart m g) parts
+    each : AllByRecursion (IsLostRun m g) parts
     in_order : Ascend from parts
     all : (page : ℕ) → from ≤ page → page < m.count → (t : MemType) → loses m g t page ≡ true → IsInSome page parts
 
-  above : (from page : ℕ) (parts : List Run) → AllByRecursion (IsPart m g) parts → Ascend from parts → IsInSome page parts → from ≤ page
+  above : (from page : ℕ) (parts : List Run) → AllByRecursion (IsLostRun m g) parts → Ascend from parts → IsInSome page parts → from ≤ page
   above from page [] each order is = absurd is
   above from page (r ∷ rs) each order (inl here) = omega (arith, order.0, here.0)
   above from page (r ∷ rs) each order (inr later) = let h = above (run_end r) page rs each.1 order.1 later in omega (arith, h, order.0)
@@ -26,7 +26,7 @@ module _ (m : TypedPages) (g : ℕ) where
   from_first r rs from page are (inl here) = here.0
   from_first r rs from page are (inr later) = let h = above (run_end r) page rs are.each.1 are.in_order.1 later in omega (arith, h)
 
-  lost_first : (r : Run) → (part : IsPart m g r) → loses m g part.type r.first ≡ true
+  lost_first : (r : Run) → (part : IsLostRun m g r) → loses m g part.type r.first ≡ true
   lost_first r part = part.pages r.first (omega arith, omega (arith, part.some))
 
   no_later : (from : ℕ) (r s : Run) (rs ss : List Run) → Are from (r ∷ rs) → Are from (s ∷ ss) → s.first ≤ r.first
@@ -42,7 +42,7 @@ module _ (m : TypedPages) (g : ℕ) where
   same_type : (t u : MemType) → Kind t ≡ Kind u → t ≡ u
   same_type t u e = cc
 
-  no_longer : (r s : Run) → (part : IsPart m g r) → (other : IsPart m g s) → r.first ≡ s.first → part.type ≡ other.type → run_end s ≤ run_end r
+  no_longer : (r s : Run) → (part : IsLostRun m g r) → (other : IsLostRun m g s) → r.first ≡ s.first → part.type ≡ other.type → run_end s ≤ run_end r
   no_longer r s part other first type = elim (cases_lt (run_end r) (run_end s)) [
     | inr within ↦ within
     | inl longer ↦

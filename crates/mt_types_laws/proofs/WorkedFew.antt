@@ -8,7 +8,7 @@ use Rattle.mt_regs.specs.declared.page_type.PageType.TheVariants.{Kind}
 use Rattle.mt_regs.specs.PageTypes.{page_type, page_type_among}
 use Rattle.mt_regs.specs.Faults.{IsAccepted}
 use Rattle.mt_tidy.specs.declared.range.Range.{Range}
-use Rattle.mt_tidy.specs.Keeps.{Keeps}
+use Rattle.mt_tidy.specs.Keeps.{KeepsTypes}
 use Rattle.mt_tidy.specs.Kept.{NeedsMore}
 use Rattle.mt_tidy.specs.Ranges.{types_at}
 use Rattle.mt_tidy.specs.Tidied.{IsTooFew, tidying}
@@ -48,14 +48,14 @@ whole_by_one = record {
   least = record { some = (range 0 24 WB ∷ [], gives, (tt, tt), refl); none_shorter = λ ranges g a. given_range ranges g };
 }
 
-keeps : Keeps written_back (range 0 24 WB ∷ [])
+keeps : KeepsTypes written_back (range 0 24 WB ∷ [])
 keeps = record {
   ranges_of = ranges_of;
   same_types = λ page within. sym (among page within);
   defined = λ page within undefined. absurd (cc (sym (kind page within) ∙ undefined));
 }
 
-kept_range : (ranges : List Range) → Keeps written_back ranges → 1 ≤ length ranges
+kept_range : (ranges : List Range) → KeepsTypes written_back ranges → 1 ≤ length ranges
 kept_range [] k = absurd (cc (k.same_types 0 (omega arith) ∙ kind 0 (omega arith)))
 kept_range (r ∷ rs) k = omega arith
 

@@ -13,7 +13,7 @@ use Rattle.mt_regs.specs.PageTypes.{page_type, page_type_among}
 use Rattle.mt_types.specs.declared.run.Run.{Run}
 use Rattle.mt_types.specs.Runs.{HasKind, IsRunsOf, kind_at}
 use Rattle.mt_tidy.specs.Cost.{cost, whole_cost, wish}
-use Rattle.mt_tidy.specs.Keeps.{IsLeast, Keeps}
+use Rattle.mt_tidy.specs.Keeps.{IsLeast, KeepsTypes}
 use Rattle.mt_tidy.specs.Ranges.{InOrder, IsAllowed, types_at}
 use Rattle.mt_tidy.specs.Tidied.{with_ranges}
 use Rattle.mt_tidy.specs.Wanted.{IsLeastFor, IsRangeOf, IsWanted, is_supported_type}
@@ -78,7 +78,7 @@ new_accepted = λ page within undefined. some_type page within (new_type page wi
 ranges_of : All (IsRangeOf apart) holed
 ranges_of = search rules
 
-pub keeps : Keeps apart holed
+pub keeps : KeepsTypes apart holed
 keeps = record {
   ranges_of = ranges_of;
   same_types = λ page within. sym (given_type page within) ∙ own_type page within;

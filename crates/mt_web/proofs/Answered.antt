@@ -16,13 +16,13 @@ use Rattle.mt_answers.specs.Help.{own_text}
 use Rattle.mt_answers.specs.Lines.{usage_line}
 use Rattle.mt_output.specs.Ports.{change, held}
 use Rattle.mt_answers.specs.Written.{AnswersInput, Makes, bad_input, good_input, no_input, writes, no_memory}
-use Rattle.mt_web.specs.Outcome.{Outcome, told_number, told_text}
+use Rattle.mt_web.specs.Outcome.{PageOutcome, told_number, told_text}
 use Rattle.mt_web.specs.Answering.{AnswersFor, SerialOutput, answers, no_words, offends, own, serial, threaded, usage}
 use Rattle.mt_web.specs.Placed.{on_threads}
 use Rattle.mt_web.proofs.Outcomes.{of_nothing, of_unread, of_writes}
 
 of_input : (words : List (List ℕ)) (bytes taken : List ℕ) (left : Option (List ℕ)) (asked : DumpCommand) (result : Status) → command_of words ≡ Some (Serial (Dump asked))
-    → StatusHasCause ReadFault 0 0 result → AnswersInput asked (held bytes left) (change (Some []) (Some taken)) result → Outcome (SerialOutput words bytes) bytes (told_text result taken) (told_number result)
+    → StatusHasCause ReadFault 0 0 result → AnswersInput asked (held bytes left) (change (Some []) (Some taken)) result → PageOutcome (SerialOutput words bytes) bytes (told_text result taken) (told_number result)
 of_input words bytes taken left asked result is cause (bad_input fault found end wrote) = of_writes (SerialOutput words bytes) bytes _ taken _ result (offends asked fault is found) wrote
 of_input words bytes taken left asked result is cause (good_input dump shown end (writes text status answer wrote)) =
     of_writes (SerialOutput words bytes) bytes text taken status result (answers asked dump text status is shown answer) wrote
@@ -30,13 +30,13 @@ of_input words bytes taken left asked result is cause (good_input dump shown end
 of_input words bytes taken left asked result is cause (no_input same why) = of_unread (SerialOutput words bytes) bytes taken result cause same why
 
 of_own : (words : List (List ℕ)) (bytes taken text : List ℕ) (command : SerialCommand) (result : Status) → command_of words ≡ Some (Serial command) → own_text command ≡ Some text
-    → Makes text (Some []) (Some taken) result → Outcome (SerialOutput words bytes) bytes (told_text result taken) (told_number result)
+    → Makes text (Some []) (Some taken) result → PageOutcome (SerialOutput words bytes) bytes (told_text result taken) (told_number result)
 of_own words bytes taken text command result is owns (inl wrote) = of_writes (SerialOutput words bytes) bytes text taken Done result (own command text is owns) wrote
 of_own words bytes taken text command result is owns (inr (none, same)) = of_nothing (SerialOutput words bytes) bytes taken result none same
 
 pub of_serial : (words : List (List ℕ)) (bytes taken : List ℕ) (left : Option (List ℕ)) (command : SerialCommand) (result : Status) → command_of words ≡ Some (Serial command)
     → StatusHasCause ReadFault 0 0 result → ((asked : DumpCommand) → command ≡ Dump asked → AnswersInput asked (held bytes left) (change (Some []) (Some taken)) result)
-    → IfSome (own_text command) (λ text. Makes text (Some []) (Some taken) result) → Outcome (SerialOutput words bytes) bytes (told_text result taken) (told_number result)
+    → IfSome (own_text command) (λ text. Makes text (Some []) (Some taken) result) → PageOutcome (SerialOutput words bytes) bytes (told_text result taken) (told_number result)
 of_serial words bytes taken left (Dump asked) result is cause answer makes = of_input words bytes taken left asked result is cause (answer asked refl)
 of_serial words bytes taken left (Make n) result is cause answer makes = of_own words bytes taken _ (Make n) result is refl makes
 of_serial words bytes taken left Help result is cause answer makes = of_own words bytes taken _ Help result is refl makes

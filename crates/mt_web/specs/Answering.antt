@@ -18,7 +18,7 @@ use Rattle.mt_answers.specs.Answer.{Answer}
 use Rattle.mt_answers.specs.CommandLine.{command_of, threaded_of}
 use Rattle.mt_answers.specs.Help.{own_text}
 use Rattle.mt_answers.specs.Lines.{usage_line}
-use Rattle.mt_web.specs.Outcome.{Outcome}
+use Rattle.mt_web.specs.Outcome.{PageOutcome}
 use Rattle.mt_web.specs.Placed.{on_threads}
 
 -- the line for words that are no command line, a text that reads nothing, the line of the first offence, or an answer about the dump
@@ -31,6 +31,6 @@ pub data SerialOutput (words : List (List ℕ)) (bytes : List ℕ) : List ℕ �
       → Answer dump command text status → SerialOutput words bytes text status
 
 pub data AnswersFor (words : List (List ℕ)) (bytes : List ℕ) : List ℕ → ℕ → Type 0 where
-  serial : (text : List ℕ) (number : ℕ) → threaded_of (command_of words) ≡ None → Outcome (SerialOutput words bytes) bytes text number → AnswersFor words bytes text number
+  serial : (text : List ℕ) (number : ℕ) → threaded_of (command_of words) ≡ None → PageOutcome (SerialOutput words bytes) bytes text number → AnswersFor words bytes text number
   threaded : (command : ThreadedCommand) → threaded_of (command_of words) ≡ Some command → AnswersFor words bytes [] on_threads
   no_words : AnswersFor words bytes [] (code NoMemory)  -- the words found no memory

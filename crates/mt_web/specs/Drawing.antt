@@ -3,7 +3,7 @@
 use Rattle.std.specs.Prelude.{ℕ, List}
 use Rattle.mt_map.specs.Asked.{asked_by}
 use Rattle.mt_map.specs.Map.{Output}
-use Rattle.mt_web.specs.Outcome.{Outcome}
+use Rattle.mt_web.specs.Outcome.{PageOutcome}
 
 abbrev pub DrawsFor : List (List ℕ) → List ℕ → List ℕ → ℕ → Type 0
-DrawsFor words bytes = Outcome (Output (asked_by words) bytes) bytes
+DrawsFor words bytes = PageOutcome (Output (asked_by words) bytes) bytes

@@ -6,10 +6,10 @@ use Rattle.mt_ports.specs.declared.status.Status.{Status}
 use Rattle.mt_ports.specs.declared.status.Status.TheVariants.{Done, Refused, Usage, BadText, ReadFault, WriteFault, NoMemory, TooLong, TooFew, Disabled}
 use Rattle.mt_text.specs.Text.{longest_input}
 
-pub data Outcome (output : List ℕ → Status → Type 0) (bytes : List ℕ) : List ℕ → ℕ → Type 0 where
-  told : (text : List ℕ) (status : Status) → output text status → Outcome output bytes text (code status)
-  too_long : longest_input < length bytes → Outcome output bytes [] (code TooLong)
-  no_memory : Outcome output bytes [] (code NoMemory)
+pub data PageOutcome (output : List ℕ → Status → Type 0) (bytes : List ℕ) : List ℕ → ℕ → Type 0 where
+  told : (text : List ℕ) (status : Status) → output text status → PageOutcome output bytes text (code status)
+  too_long : longest_input < length bytes → PageOutcome output bytes [] (code TooLong)
+  no_memory : PageOutcome output bytes [] (code NoMemory)
 
 -- The sink grows, so a write fails only if memory is refused. What it took by then isn't told.
 abbrev pub told_text : Status → List ℕ → List ℕ

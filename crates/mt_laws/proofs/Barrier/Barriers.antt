@@ -20,7 +20,7 @@ use Rattle.mt_machine.specs.Access.{is_running}
 use Rattle.mt_machine.specs.Machine.{Machine, Order, MachineEvent, Accesses, Controls, Calls, Goes, Cancels, Steps, IsEnabled, next, Reached, at_start, after, is_given, is_cancelled, is_waiting_to_pass, has_released, first_barrier_open, second_barrier_open, due, write_back_event, write_back_or_drop, own_step, before_own, step, flush_tlb, after_flush, after_drop, is_over, remaining_order, common_era}
 use Rattle.mt_machine.proofs.Rows.{first_flush_case}
 use Rattle.mt_laws.proofs.Barrier.Stages.{Stage, stage_of, stages_of, stages, access_stages, control_stages, drain_stages}
-use Rattle.mt_laws.proofs.Barrier.Ranks.{rank, rank_of, is_ahead, At, Guarded, Moves, moved, processor_at, stage_at, all_at, not_both}
+use Rattle.mt_laws.proofs.Barrier.Ranks.{rank, rank_of, is_ahead, At, Guarded, MovesStage, moved, processor_at, stage_at, all_at, not_both}
 
 option_case : {X Y : Type 0} → (o : Option X) (f : X → Y) (d : Y) (P : Y → Type 0) → P d → ((x : X) → P (f x)) → P (option_map_or f o d)
 option_case None f d P none some = none
@@ -38,9 +38,9 @@ flush_era other p = in_case p.page_global
 
 module _ (o : Order) (ps : List Processor) (p : Processor) (era : (p.era ≡ o.from_era) ⊎ (p.era ≡ o.from_era + 1)) where
   Moved : Phase → Event → Type 0
-  Moved ph e = Moves o ps (ph, p.era) (stage_of (own_step o.goal e p))
+  Moved ph e = MovesStage o ps (ph, p.era) (stage_of (own_step o.goal e p))
 
-  climb : (ph to : Phase) (a b : ℕ) → ((c : Bool) → rank_of ph c ≡ a) → ((c : Bool) → rank_of to c ≡ b) → a ≤ b → (3 ≤ b → 3 ≤ a) → b < 5 → nat_lt o.from_era p.era ≡ false → Moves o ps (ph, p.era) (to, p.era)
+  climb : (ph to : Phase) (a b : ℕ) → ((c : Bool) → rank_of ph c ≡ a) → ((c : Bool) → rank_of to c ≡ b) → a ≤ b → (3 ≤ b → 3 ≤ a) → b < 5 → nat_lt o.from_era p.era ≡ false → MovesStage o ps (ph, p.era) (to, p.era)
   climb ph to a b at_a at_b up cross low behind =
       let ra : rank o (ph, p.era) ≡ a = at_a (nat_lt o.from_era p.era) in
       let rb : rank o (to, p.era) ≡ b = at_b (nat_lt o.from_era p.era) in
@@ -52,10 +52,10 @@ module _ (o : Order) (ps : List Processor) (p : Processor) (era : (p.era ≡ o.f
         era = era;
       }
 
-  inner : (ph to : Phase) → ((c : Bool) → rank_of ph c ≡ 3) → ((c : Bool) → rank_of to c ≡ 3) → nat_lt o.from_era p.era ≡ false → Moves o ps (ph, p.era) (to, p.era)
+  inner : (ph to : Phase) → ((c : Bool) → rank_of ph c ≡ 3) → ((c : Bool) → rank_of to c ≡ 3) → nat_lt o.from_era p.era ≡ false → MovesStage o ps (ph, p.era) (to, p.era)
   inner ph to at_a at_b behind = climb ph to 3 3 at_a at_b (lit≤ tt) (λ h. h) (lit< tt) behind
 
-  takes : (a c : Bool) (e : Event) → (p.era == o.from_era) ≡ a → (if a && not c then Some Take else None) ≡ Some e → Moves o ps (Running, p.era) (stage_of (own_step o.goal e p))
+  takes : (a c : Bool) (e : Event) → (p.era == o.from_era) ≡ a → (if a && not c then Some Take else None) ≡ Some e → MovesStage o ps (Running, p.era) (stage_of (own_step o.goal e p))
   takes false c e is h = absurd (cc)
   takes true true e is h = absurd (cc)
   takes true false e is h =
@@ -63,7 +63,7 @@ module _ (o : Order) (ps : List Processor) (p : Processor) (era : (p.era ≡ o.f
       let same = eqb-true p.era o.from_era is in
       let behind : nat_lt o.from_era p.era ≡ false = le-ltb o.from_era p.era (omega arith) in
       let ra : rank o (Running, p.era) ≡ 0 = ap (rank_of Running) behind in
-      subst (λ v. Moves o ps (Running, p.era) (stage_of (own_step o.goal v p))) take
+      subst (λ v. MovesStage o ps (Running, p.era) (stage_of (own_step o.goal v p))) take
       (record { to_third = λ h. absurd (lit_low h); to_fifth = λ h. absurd (lit_lower h); up = inl (omega arith); in_step = λ _. behind; era = era })
     where
       lit_low : 3 ≤ 1 → ⊥
@@ -72,64 +72,64 @@ module _ (o : Order) (ps : List Processor) (p : Processor) (era : (p.era ≡ o.f
       lit_lower : 5 ≤ 1 → ⊥
       lit_lower h = omega arith
 
-  leaves : (ph : Phase) (e : Event) → Leave ≡ e → is_cancelled o.go ≡ true → nat_lt o.from_era p.era ≡ false → Moves o ps (ph, p.era) (stage_of (own_step o.goal e p))
+  leaves : (ph : Phase) (e : Event) → Leave ≡ e → is_cancelled o.go ≡ true → nat_lt o.from_era p.era ≡ false → MovesStage o ps (ph, p.era) (stage_of (own_step o.goal e p))
   leaves ph e is cancelled behind =
       let rb : rank o (Running, p.era) ≡ 0 = ap (rank_of Running) behind in
-      subst (λ v. Moves o ps (ph, p.era) (stage_of (own_step o.goal v p))) is
+      subst (λ v. MovesStage o ps (ph, p.era) (stage_of (own_step o.goal v p))) is
       (record { to_third = λ h. absurd (omega arith); to_fifth = λ h. absurd (omega arith); up = inr cancelled; in_step = λ _. behind; era = era })
 
-  from_taken : (c : Bool) (e : Event) → is_cancelled o.go ≡ c → Some (if c then Leave else Arrive) ≡ Some e → nat_lt o.from_era p.era ≡ false → Moves o ps (Taken, p.era) (stage_of (own_step o.goal e p))
+  from_taken : (c : Bool) (e : Event) → is_cancelled o.go ≡ c → Some (if c then Leave else Arrive) ≡ Some e → nat_lt o.from_era p.era ≡ false → MovesStage o ps (Taken, p.era) (stage_of (own_step o.goal e p))
   from_taken true e is h behind = leaves Taken e (cc) is behind
   from_taken false e is h behind =
       let arrive : Arrive ≡ e = cc in
-      subst (λ v. Moves o ps (Taken, p.era) (stage_of (own_step o.goal v p))) arrive
+      subst (λ v. MovesStage o ps (Taken, p.era) (stage_of (own_step o.goal v p))) arrive
       (climb Taken Arrived 1 2 (λ _. refl) (λ _. refl) (lit≤ tt) (λ h. absurd (omega arith)) (lit< tt) behind)
 
-  from_arrived : (c f : Bool) (e : Event) → is_cancelled o.go ≡ c → first_barrier_open o ps ≡ f → (if c then Some Leave else (if f then Some Pass else None)) ≡ Some e → nat_lt o.from_era p.era ≡ false → Moves o ps (Arrived, p.era) (stage_of (own_step o.goal e p))
+  from_arrived : (c f : Bool) (e : Event) → is_cancelled o.go ≡ c → first_barrier_open o ps ≡ f → (if c then Some Leave else (if f then Some Pass else None)) ≡ Some e → nat_lt o.from_era p.era ≡ false → MovesStage o ps (Arrived, p.era) (stage_of (own_step o.goal e p))
   from_arrived true f e is opened h behind = leaves Arrived e (cc) is behind
   from_arrived false false e is opened h behind = absurd (cc)
   from_arrived false true e is opened h behind =
       let pass : Pass ≡ e = cc in
-      subst (λ v. Moves o ps (Arrived, p.era) (stage_of (own_step o.goal v p))) pass
+      subst (λ v. MovesStage o ps (Arrived, p.era) (stage_of (own_step o.goal v p))) pass
       (record { to_third = λ h. inr opened; to_fifth = λ h. absurd (omega arith); up = inl (lit≤ tt); in_step = λ _. behind; era = era })
 
-  from_arrived_again : (f : Bool) (e : Event) → second_barrier_open o ps ≡ f → (if f then Some Release else None) ≡ Some e → nat_lt o.from_era p.era ≡ false → Moves o ps (Arrived2, p.era) (stage_of (own_step o.goal e p))
+  from_arrived_again : (f : Bool) (e : Event) → second_barrier_open o ps ≡ f → (if f then Some Release else None) ≡ Some e → nat_lt o.from_era p.era ≡ false → MovesStage o ps (Arrived2, p.era) (stage_of (own_step o.goal e p))
   from_arrived_again false e opened h behind = absurd (cc)
   from_arrived_again true e opened h behind =
       let release : Release ≡ e = cc in
       let low = ltb-false o.from_era p.era behind in
       let same : p.era ≡ o.from_era = ⊎_elim (λ (q : p.era ≡ o.from_era). q) (λ (q : p.era ≡ o.from_era + 1). absurd (omega arith)) era in
-      subst (λ v. Moves o ps (Arrived2, p.era) (stage_of (own_step o.goal v p))) release
+      subst (λ v. MovesStage o ps (Arrived2, p.era) (stage_of (own_step o.goal v p))) release
       (record { to_third = λ h. inl (lit≤ tt); to_fifth = λ h. inr opened; up = inl (let r : rank o (Running, p.era + 1) ≡ 5 = ap (rank_of Running) (lt-ltb o.from_era (p.era + 1) (omega arith)) in omega arith); in_step = λ h. absurd (cc); era = inr (omega arith) })
 
-  drains : (ph : Phase) (e : Event) → p.phase ≡ ph → rank_of ph false ≡ 3 → ((c : Bool) → rank_of ph c ≡ 3) → ((c : Bool) → rank_of (after_drop ph) c ≡ 3) → Some (write_back_or_drop p) ≡ Some e → nat_lt o.from_era p.era ≡ false → Moves o ps (ph, p.era) (stage_of (own_step o.goal e p))
+  drains : (ph : Phase) (e : Event) → p.phase ≡ ph → rank_of ph false ≡ 3 → ((c : Bool) → rank_of ph c ≡ 3) → ((c : Bool) → rank_of (after_drop ph) c ≡ 3) → Some (write_back_or_drop p) ≡ Some e → nat_lt o.from_era p.era ≡ false → MovesStage o ps (ph, p.era) (stage_of (own_step o.goal e p))
   drains ph e same _ here there h behind =
       let is : write_back_or_drop p ≡ e = cc in
-      let P : Event → Type 0 = λ v. Moves o ps (ph, p.era) (stage_of (own_step o.goal v p)) in
-      let drops : P DropLines = subst (λ (v : Phase). Moves o ps (ph, p.era) (after_drop v, p.era)) (sym same) (inner ph (after_drop ph) here there behind) in
-      let writes : (a v : ℕ) → P (WriteBack a v) = λ a v. subst (λ (u : Phase). Moves o ps (ph, p.era) (u, p.era)) (sym same) (inner ph ph here here behind) in
+      let P : Event → Type 0 = λ v. MovesStage o ps (ph, p.era) (stage_of (own_step o.goal v p)) in
+      let drops : P DropLines = subst (λ (v : Phase). MovesStage o ps (ph, p.era) (after_drop v, p.era)) (sym same) (inner ph (after_drop ph) here there behind) in
+      let writes : (a v : ℕ) → P (WriteBack a v) = λ a v. subst (λ (u : Phase). MovesStage o ps (ph, p.era) (u, p.era)) (sym same) (inner ph ph here here behind) in
       subst P is
       (option_case (first_dirty_line p.lines) write_back_event DropLines P drops
       (λ l. option_case (first_dirty_word l) _ DropLines P drops (λ word. writes (word_address l.number word) (slice_index l.words word))))
 
-  writes_on : (i : ℕ) (b : Bool) (e : Event) → Some (if b then Write i else Enable) ≡ Some e → nat_lt o.from_era p.era ≡ false → Moves o ps (Writing i, p.era) (stage_of (own_step o.goal e p))
+  writes_on : (i : ℕ) (b : Bool) (e : Event) → Some (if b then Write i else Enable) ≡ Some e → nat_lt o.from_era p.era ≡ false → MovesStage o ps (Writing i, p.era) (stage_of (own_step o.goal e p))
   writes_on i true e h behind =
-      let is : Write i ≡ e = cc in subst (λ v. Moves o ps (Writing i, p.era) (stage_of (own_step o.goal v p))) is (inner (Writing i) (Writing (i + 1)) (λ _. refl) (λ _. refl) behind)
+      let is : Write i ≡ e = cc in subst (λ v. MovesStage o ps (Writing i, p.era) (stage_of (own_step o.goal v p))) is (inner (Writing i) (Writing (i + 1)) (λ _. refl) (λ _. refl) behind)
   writes_on i false e h behind =
-      let is : Enable ≡ e = cc in subst (λ v. Moves o ps (Writing i, p.era) (stage_of (own_step o.goal v p))) is (inner (Writing i) Enabled (λ _. refl) (λ _. refl) behind)
+      let is : Enable ≡ e = cc in subst (λ v. MovesStage o ps (Writing i, p.era) (stage_of (own_step o.goal v p))) is (inner (Writing i) Enabled (λ _. refl) (λ _. refl) behind)
 
-  flushes : (ph : Phase) (e : Event) → p.phase ≡ ph → ((c : Bool) → rank_of ph c ≡ 3) → ((c : Bool) → rank_of (after_flush ph) c ≡ 3) → FlushTlb ≡ e → nat_lt o.from_era p.era ≡ false → Moves o ps (ph, p.era) (stage_of (own_step o.goal e p))
+  flushes : (ph : Phase) (e : Event) → p.phase ≡ ph → ((c : Bool) → rank_of ph c ≡ 3) → ((c : Bool) → rank_of (after_flush ph) c ≡ 3) → FlushTlb ≡ e → nat_lt o.from_era p.era ≡ false → MovesStage o ps (ph, p.era) (stage_of (own_step o.goal e p))
   flushes ph e same here there is behind =
       let stage : (after_flush ph, p.era) ≡ stage_of (own_step o.goal FlushTlb p) = λ i. (after_flush (sym same i), sym (flush_era p.phase p) i) in
-      subst (λ v. Moves o ps (ph, p.era) (stage_of (own_step o.goal v p))) is
-      (subst (λ (y : Stage). Moves o ps (ph, p.era) y) stage (inner ph (after_flush ph) here there behind))
+      subst (λ v. MovesStage o ps (ph, p.era) (stage_of (own_step o.goal v p))) is
+      (subst (λ (y : Stage). MovesStage o ps (ph, p.era) y) stage (inner ph (after_flush ph) here there behind))
 
-  inside : (ph to : Phase) (v e : Event) → v ≡ e → (to, p.era) ≡ stage_of (own_step o.goal v p) → ((c : Bool) → rank_of ph c ≡ 3) → ((c : Bool) → rank_of to c ≡ 3) → nat_lt o.from_era p.era ≡ false → Moves o ps (ph, p.era) (stage_of (own_step o.goal e p))
+  inside : (ph to : Phase) (v e : Event) → v ≡ e → (to, p.era) ≡ stage_of (own_step o.goal v p) → ((c : Bool) → rank_of ph c ≡ 3) → ((c : Bool) → rank_of to c ≡ 3) → nat_lt o.from_era p.era ≡ false → MovesStage o ps (ph, p.era) (stage_of (own_step o.goal e p))
   inside ph to v e is stage here there behind =
-      subst (λ u. Moves o ps (ph, p.era) (stage_of (own_step o.goal u p))) is
-      (subst (λ (y : Stage). Moves o ps (ph, p.era) y) stage (inner ph to here there behind))
+      subst (λ u. MovesStage o ps (ph, p.era) (stage_of (own_step o.goal u p))) is
+      (subst (λ (y : Stage). MovesStage o ps (ph, p.era) y) stage (inner ph to here there behind))
 
-  pub step_moves : (ph : Phase) (e : Event) → p.phase ≡ ph → due o ps p ph ≡ Some e → (is_running ph ≡ false → nat_lt o.from_era p.era ≡ false) → Moves o ps (ph, p.era) (stage_of (own_step o.goal e p))
+  pub step_moves : (ph : Phase) (e : Event) → p.phase ≡ ph → due o ps p ph ≡ Some e → (is_running ph ≡ false → nat_lt o.from_era p.era ≡ false) → MovesStage o ps (ph, p.era) (stage_of (own_step o.goal e p))
   step_moves Running e same h behind = takes (p.era == o.from_era) (is_cancelled o.go) e refl h
   step_moves Taken e same h behind = from_taken (is_cancelled o.go) e refl h (behind refl)
   step_moves Arrived e same h behind = from_arrived (is_cancelled o.go) (first_barrier_open o ps) e refl refl h (behind refl)
@@ -145,7 +145,7 @@ module _ (o : Order) (ps : List Processor) (p : Processor) (era : (p.era ≡ o.f
   step_moves Normal e same h behind = inside Normal Restored RestorePge e (cc) refl (λ _. refl) (λ _. refl) (behind refl)
   step_moves Restored e same h behind =
       let is : ArriveAgain ≡ e = cc in
-      subst (λ u. Moves o ps (Restored, p.era) (stage_of (own_step o.goal u p))) is
+      subst (λ u. MovesStage o ps (Restored, p.era) (stage_of (own_step o.goal u p))) is
       (climb Restored Arrived2 3 4 (λ _. refl) (λ _. refl) (lit≤ tt) (λ h. lit≤ tt) (lit< tt) (behind refl))
   step_moves Arrived2 e same h behind = from_arrived_again (second_barrier_open o ps) e refl h (behind refl)
 

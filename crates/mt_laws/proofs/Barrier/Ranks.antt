@@ -37,7 +37,7 @@ pub record Guarded (o : Order) (vs : List Stage) : Type 0 where
   pub eras : (i : ℕ) (x : Stage) → At vs i x → (x.1 ≡ o.from_era) ⊎ (x.1 ≡ o.from_era + 1)
 
 -- what one step of a processor does to its stage, where the barriers are as these processors stand
-pub record Moves (o : Order) (ps : List Processor) (x y : Stage) : Type 0 where
+pub record MovesStage (o : Order) (ps : List Processor) (x y : Stage) : Type 0 where
   pub to_third : 3 ≤ rank o y → (3 ≤ rank o x) ⊎ (first_barrier_open o ps ≡ true)
   pub to_fifth : 5 ≤ rank o y → (5 ≤ rank o x) ⊎ (second_barrier_open o ps ≡ true)
   pub up : (rank o x ≤ rank o y) ⊎ (is_cancelled o.go ≡ true)
@@ -119,7 +119,7 @@ all_fourth o ps g opened j y at =
     let arrived : has_arrived_again o p ≡ true = all_at (has_arrived_again o) ps j p opened found.1 in
     subst (λ (z : Stage). 4 ≤ rank o z) found.2 (again_rank_of p.phase (is_ahead o (stage_of p)) (g.in_step j (stage_of p) here) arrived)
 
-module _ (o : Order) (ps : List Processor) (k : ℕ) (x y : Stage) (g : Guarded o (stages_of ps)) (at : At (stages_of ps) k x) (move : Moves o ps x y) where
+module _ (o : Order) (ps : List Processor) (k : ℕ) (x y : Stage) (g : Guarded o (stages_of ps)) (at : At (stages_of ps) k x) (move : MovesStage o ps x y) where
   -- each processor has arrived, where the moved one is past the first barrier; each has arrived again, where it has released
   others_second : 3 ≤ rank o y → (j : ℕ) (z : Stage) → At (stages_of ps) j z → 2 ≤ rank o z
   others_second h j z there =

@@ -21,7 +21,7 @@ use Rattle.mt_laws.proofs.Clearing.Follows.{FollowsIn, follows_drain}
 use Rattle.mt_laws.proofs.Clearing.Fresh.{stays_fresh}
 use Rattle.mt_laws.proofs.Translations.Views.{drain_views}
 use Rattle.mt_laws.proofs.Words.Agreement.{Agrees}
-use Rattle.mt_laws.proofs.Words.BusLaws.{AllFit, Fits, Word, copies, copies_at, fit_at, fits_placed, stands_drain}
+use Rattle.mt_laws.proofs.Words.BusLaws.{AllFit, FitsMemory, Word, copies, copies_at, fit_at, fits_placed, stands_drain}
 use Rattle.mt_laws.proofs.Words.Copies.{Copy, IsClear, IsOwned, IsShared, Shows, clear_shared, settle, shared_at}
 use Rattle.mt_laws.proofs.Words.LineLaws.{fits, look, write_back_length, write_back_other, write_back_same, write_back_windows}
 use Rattle.mt_laws.proofs.Words.LineLists.{Apart, copy_in}
@@ -129,7 +129,7 @@ module _ (t : System) (k : ℕ) (p : Processor) (h : IsSound t) (at : slice_get 
   parts : Parts ws t
   parts = sound_parts t h
 
-  fit : Fits ws p
+  fit : FitsMemory ws p
   fit = fit_at ws t.processors k p parts.agrees.stands.fit at
 
   word : (a x : ℕ) → a % 8 ≡ 0 → Word true a x t → Word true a x left

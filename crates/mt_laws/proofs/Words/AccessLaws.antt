@@ -16,7 +16,7 @@ use Rattle.mt_laws.proofs.Words.Copies.{Copy, settle, IsShared, Shows, set_same 
 use Rattle.mt_laws.proofs.Words.LineLaws.{fits, is_placed, look, write_back_same, write_back_other, write_back_windows, write_back_length}
 use Rattle.mt_laws.proofs.Words.LineLists.{copy_in, found_passes, find_hit, find_without_other, find_without_same, copy_without_same, copy_without_other}
 use Rattle.mt_laws.proofs.Clearing.Renewed.{at_change}
-use Rattle.mt_laws.proofs.Words.BusLaws.{HasWindows, Stands, copies, unwritten, Stays, Word, Leaves, leaves_word, leaves_same, leaves_then, fits_placed, fits_eight, fits_bits, fits_of, fit_at, stands_change, copies_set, copies_at, writes_set, writes_at, leaves_change, fits_without}
+use Rattle.mt_laws.proofs.Words.BusLaws.{HasWindows, Stands, copies, unwritten, Stays, Word, LeavesWord, leaves_word, leaves_same, leaves_then, fits_placed, fits_eight, fits_bits, fits_of, fit_at, stands_change, copies_set, copies_at, writes_set, writes_at, leaves_change, fits_without}
 use Rattle.mt_laws.proofs.Words.Lengths.{oldest_none, oldest_some}
 
 -- ---- lines that are written
@@ -234,7 +234,7 @@ module _ (ws : List Window) (aligned : AllAligned ws) where
             (ap (λ v. is_placed v l.number) st.memory.windows ∙ fits_placed ws l (found_passes (fits ws) l.number p.lines l (fit_at ws s.processors k p st.fit at).lines_fit found))
             (st.memory.counted ∙ ap word_count (sym st.memory.windows))
 
-    evict_other : (a : ℕ) (l : CacheLine) → line_of a ≢ l.number → Leaves a s (change (with_lines (without_line l.number)) k (record s { memory = write_back s.memory l }))
+    evict_other : (a : ℕ) (l : CacheLine) → line_of a ≢ l.number → LeavesWord a s (change (with_lines (without_line l.number)) k (record s { memory = write_back s.memory l }))
     evict_other a l other =
         leaves_then a s (record s { memory = write_back s.memory l }) _
         (record { word = write_back_other l a s.memory there other; same = refl; writes = λ h. h })
@@ -255,10 +255,10 @@ module _ (ws : List Window) (aligned : AllAligned ws) where
             two false e = leaves_word may a x s _ (evict_other a l (eqb-false (line_of a) l.number e)) w
 
     -- a line that the cache has not stays as it is
-    pub leaves_room : (n a : ℕ) → line_of a ≡ n → Misses n k s → Leaves a s (make_room k s)
+    pub leaves_room : (n a : ℕ) → line_of a ≡ n → Misses n k s → LeavesWord a s (make_room k s)
     leaves_room n a same misses = one (oldest_of_full 64 (lines_of s k)) refl
       where
-        one : (o : Option CacheLine) → oldest_of_full 64 (lines_of s k) ≡ o → Leaves a s (option_map_or (λ l. change (with_lines (without_line l.number)) k (record s { memory = write_back s.memory l })) o s)
+        one : (o : Option CacheLine) → oldest_of_full 64 (lines_of s k) ≡ o → LeavesWord a s (option_map_or (λ l. change (with_lines (without_line l.number)) k (record s { memory = write_back s.memory l })) o s)
         one None is = leaves_same a s
         one (Some l) is =
             let found : find_line l.number p.lines ≡ Some l = oldest_found 64 p.lines l (ap (oldest_of_full 64) (sym (lines_at k s p at)) ∙ is) in

@@ -19,7 +19,7 @@ use Rattle.mt_laws.proofs.Words.LineLists.{copy_in, Apart, apart_without, apart_
 
 -- ---- what a system keeps of its lines
 
-pub record Fits (ws : List Window) (p : Processor) : Type 0 where
+pub record FitsMemory (ws : List Window) (p : Processor) : Type 0 where
   pub lines_apart : Apart p.lines
   pub lines_fit : list_all (fits ws) p.lines ≡ true
   pub buffers_apart : Apart p.buffers
@@ -29,7 +29,7 @@ pub record Fits (ws : List Window) (p : Processor) : Type 0 where
 
 abbrev pub AllFit : List Window → List Processor → Type 0
 AllFit ws [] = Unit {0}
-AllFit ws (p ∷ ps) = Fits ws p × AllFit ws ps
+AllFit ws (p ∷ ps) = FitsMemory ws p × AllFit ws ps
 
 pub record HasWindows (ws : List Window) (m : Memory) : Type 0 where
   pub windows : m.windows ≡ ws
@@ -76,7 +76,7 @@ pub record Bare (a x : ℕ) (s : System) : Type 0 where
 abbrev pub After : Bool → ℕ → ℕ → System → Type 0
 After may a x s = (y : ℕ) × (may ≡ false → y ≡ x) × Word may a y s
 
-pub record Leaves (a : ℕ) (s t : System) : Type 0 where
+pub record LeavesWord (a : ℕ) (s t : System) : Type 0 where
   pub word : word_at t.memory a ≡ word_at s.memory a
   pub same : copies a t.processors ≡ copies a s.processors
   pub writes : all_unwritten a s.processors ≡ true → all_unwritten a t.processors ≡ true
@@ -95,16 +95,16 @@ clean_word may a x s c w = record { shows = clean_stays may (word_at s.memory a)
 pub bare_clean : (a x : ℕ) (s : System) → Bare a x s → Clean a x s
 bare_clean a x s b = record { at = b.at; shared = clear_shared x (copies a s.processors) b.clear }
 
-pub leaves_word : (may : Bool) (a x : ℕ) (s t : System) → Leaves a s t → Word may a x s → Word may a x t
+pub leaves_word : (may : Bool) (a x : ℕ) (s t : System) → LeavesWord a s t → Word may a x s → Word may a x t
 leaves_word may a x s t l w = record {
   shows = subst (λ (cs : List Copy). Stays may (word_at t.memory a) cs x) (sym l.same) (subst (λ (v : ℕ). Stays may v (copies a s.processors) x) (sym l.word) w.shows);
   writes = λ h. l.writes (w.writes h);
 }
 
-pub leaves_same : (a : ℕ) (s : System) → Leaves a s s
+pub leaves_same : (a : ℕ) (s : System) → LeavesWord a s s
 leaves_same a s = record { word = refl; same = refl; writes = λ h. h }
 
-pub leaves_then : (a : ℕ) (s t u : System) → Leaves a s t → Leaves a t u → Leaves a s u
+pub leaves_then : (a : ℕ) (s t u : System) → LeavesWord a s t → LeavesWord a t u → LeavesWord a s u
 leaves_then a s t u l k = record { word = k.word ∙ l.word; same = k.same ∙ l.same; writes = λ h. k.writes (l.writes h) }
 
 pub after_word : (may : Bool) (a x : ℕ) (s : System) → Word may a x s → After may a x s
@@ -135,24 +135,24 @@ fits_of ws l placed eight bits = and_true _ _ placed (and_true _ _ (eq-eqb (leng
 pub fits_cleaned : (ws : List Window) (l : CacheLine) → fits ws l ≡ true → fits ws (clean_line l) ≡ true
 fits_cleaned ws l h = fits_of ws (clean_line l) (fits_placed ws l h) (fits_eight ws l h) (omega arith)
 
-pub fit_at : (ws : List Window) (ps : List Processor) (k : ℕ) (p : Processor) → AllFit ws ps → slice_get ps k ≡ Some p → Fits ws p
+pub fit_at : (ws : List Window) (ps : List Processor) (k : ℕ) (p : Processor) → AllFit ws ps → slice_get ps k ≡ Some p → FitsMemory ws p
 fit_at ws [] k p h at = absurd (cc)
-fit_at ws (q ∷ ps) zero p h at = let e : q ≡ p = cc in subst (Fits ws) e h.0
+fit_at ws (q ∷ ps) zero p h at = let e : q ≡ p = cc in subst (FitsMemory ws) e h.0
 fit_at ws (q ∷ ps) (suc k) p h at = fit_at ws ps k p h.1 at
 
-pub fit_map : (ws : List Window) (f : Processor → Processor) → ((p : Processor) → Fits ws p → Fits ws (f p)) → (ps : List Processor) → AllFit ws ps → AllFit ws (map f ps)
+pub fit_map : (ws : List Window) (f : Processor → Processor) → ((p : Processor) → FitsMemory ws p → FitsMemory ws (f p)) → (ps : List Processor) → AllFit ws ps → AllFit ws (map f ps)
 fit_map ws f keeps [] h = h
 fit_map ws f keeps (p ∷ ps) h = (keeps p h.0, fit_map ws f keeps ps h.1)
 
-fit_others : (ws : List Window) (f : Processor → Processor) → ((p : Processor) → Fits ws p → Fits ws (f p)) → (i k : ℕ) (ps : List Processor) → AllFit ws ps → AllFit ws (others_from i k f ps)
+fit_others : (ws : List Window) (f : Processor → Processor) → ((p : Processor) → FitsMemory ws p → FitsMemory ws (f p)) → (i k : ℕ) (ps : List Processor) → AllFit ws ps → AllFit ws (others_from i k f ps)
 fit_others ws f keeps i k [] h = h
 fit_others ws f keeps i k (p ∷ ps) h = (one (i == k), fit_others ws f keeps (i + 1) k ps h.1)
   where
-    one : (b : Bool) → Fits ws (if b then p else f p)
+    one : (b : Bool) → FitsMemory ws (if b then p else f p)
     one true = h.0
     one false = keeps p h.0
 
-pub fit_set : (ws : List Window) (ps : List Processor) (k : ℕ) (q : Processor) → Fits ws q → AllFit ws ps → AllFit ws (set ps k q)
+pub fit_set : (ws : List Window) (ps : List Processor) (k : ℕ) (q : Processor) → FitsMemory ws q → AllFit ws ps → AllFit ws (set ps k q)
 fit_set ws [] k q n h = h
 fit_set ws (p ∷ ps) zero q n h = (n, h.1)
 fit_set ws (p ∷ ps) (suc k) q n h = (h.0, fit_set ws ps k q n h.1)
@@ -163,7 +163,7 @@ fit_remove ws [] (suc k) h = h
 fit_remove ws (p ∷ ps) zero h = h.1
 fit_remove ws (p ∷ ps) (suc k) h = (h.0, fit_remove ws ps k h.1)
 
-pub fits_without : (ws : List Window) (n : ℕ) (p : Processor) → Fits ws p → Fits ws (with_lines (without_line n) p)
+pub fits_without : (ws : List Window) (n : ℕ) (p : Processor) → FitsMemory ws p → FitsMemory ws (with_lines (without_line n) p)
 fits_without ws n p h = record {
   lines_apart = apart_without n p.lines h.lines_apart;
   lines_fit = passes_without (fits ws) n p.lines h.lines_fit;
@@ -173,7 +173,7 @@ fits_without ws n p h = record {
   few_buffers = h.few_buffers;
 }
 
-pub fits_changed : (ws : List Window) (n : ℕ) (f : CacheLine → CacheLine) → ((l : CacheLine) → (f l).number ≡ l.number) → ((l : CacheLine) → fits ws l ≡ true → fits ws (f l) ≡ true) → (p : Processor) → Fits ws p → Fits ws (with_lines (change_line n f) p)
+pub fits_changed : (ws : List Window) (n : ℕ) (f : CacheLine → CacheLine) → ((l : CacheLine) → (f l).number ≡ l.number) → ((l : CacheLine) → fits ws l ≡ true → fits ws (f l) ≡ true) → (p : Processor) → FitsMemory ws p → FitsMemory ws (with_lines (change_line n f) p)
 fits_changed ws n f number keeps p h = record {
   lines_apart = apart_change n f number p.lines h.lines_apart;
   lines_fit = passes_changed (fits ws) n f keeps p.lines h.lines_fit;
@@ -192,7 +192,7 @@ change_case P f k s none some = one (slice_get s.processors k) refl
     one None is = none
     one (Some p) is = some p is
 
-pub stands_change : (ws : List Window) (f : Processor → Processor) (k : ℕ) (s : System) → ((p : Processor) → slice_get s.processors k ≡ Some p → Fits ws p → Fits ws (f p)) → Stands ws s → Stands ws (change f k s)
+pub stands_change : (ws : List Window) (f : Processor → Processor) (k : ℕ) (s : System) → ((p : Processor) → slice_get s.processors k ≡ Some p → FitsMemory ws p → FitsMemory ws (f p)) → Stands ws s → Stands ws (change f k s)
 stands_change ws f k s keeps st =
     change_case (Stands ws) f k s st (λ p at. record { memory = st.memory; fit = fit_set ws s.processors k (f p) (keeps p at (fit_at ws s.processors k p st.fit at)) st.fit })
 
@@ -222,9 +222,9 @@ writes_at a (q ∷ ps) zero p h at = let e : q ≡ p = cc in ap (λ (r : Process
 writes_at a (q ∷ ps) (suc k) p h at = writes_at a ps k p (and_right (unwritten a q.buffers) _ h) at
 
 -- a change that leaves the word in the cache, and writes it in no buffer
-pub leaves_change : (a : ℕ) (f : Processor → Processor) (k : ℕ) (s : System) → ((p : Processor) → slice_get s.processors k ≡ Some p → copy_in a (f p).lines ≡ copy_in a p.lines) → ((p : Processor) → slice_get s.processors k ≡ Some p → unwritten a p.buffers ≡ true → unwritten a (f p).buffers ≡ true) → Leaves a s (change f k s)
+pub leaves_change : (a : ℕ) (f : Processor → Processor) (k : ℕ) (s : System) → ((p : Processor) → slice_get s.processors k ≡ Some p → copy_in a (f p).lines ≡ copy_in a p.lines) → ((p : Processor) → slice_get s.processors k ≡ Some p → unwritten a p.buffers ≡ true → unwritten a (f p).buffers ≡ true) → LeavesWord a s (change f k s)
 leaves_change a f k s same writes =
-    change_case (Leaves a s) f k s (leaves_same a s)
+    change_case (LeavesWord a s) f k s (leaves_same a s)
     (λ p at. record {
       word = refl;
       same = copies_set a s.processors k (f p) ∙ ap (set (copies a s.processors) k) (same p at) ∙ set_kept (copies a s.processors) k (copy_in a p.lines) (copies_at a s.processors k p at);
@@ -283,12 +283,12 @@ fold_memory ws n (p ∷ ps) m h =
     fold_memory ws n ps (write_back_of n m p.lines) (record { windows = of_windows n m p.lines ∙ h.windows; counted = of_length n m p.lines ∙ h.counted })
 
 module _ (ws : List Window) (aligned : AllAligned ws) where
-  back_word : (n a : ℕ) → a % 8 ≡ 0 → line_of a ≡ n → (p : Processor) (m : Memory) → HasWindows ws m → Fits ws p → word_at (write_back_of n m p.lines) a ≡ settle (word_at m a) (copy_in a p.lines)
+  back_word : (n a : ℕ) → a % 8 ≡ 0 → line_of a ≡ n → (p : Processor) (m : Memory) → HasWindows ws m → FitsMemory ws p → word_at (write_back_of n m p.lines) a ≡ settle (word_at m a) (copy_in a p.lines)
   back_word n a whole same p m h fit =
       of_word m p.lines (subst AllAligned (sym h.windows) aligned) (h.counted ∙ ap word_count (sym h.windows)) fit.lines_apart
       (subst (λ (v : List Window). list_all (fits v) p.lines ≡ true) (sym h.windows) fit.lines_fit) n a whole same
 
-  back_other : (n a : ℕ) → line_of a ≢ n → (p : Processor) (m : Memory) → HasWindows ws m → Fits ws p → word_at (write_back_of n m p.lines) a ≡ word_at m a
+  back_other : (n a : ℕ) → line_of a ≢ n → (p : Processor) (m : Memory) → HasWindows ws m → FitsMemory ws p → word_at (write_back_of n m p.lines) a ≡ word_at m a
   back_other n a other p m h fit =
       of_other m p.lines (subst AllAligned (sym h.windows) aligned) (h.counted ∙ ap word_count (sym h.windows)) fit.lines_apart
       (subst (λ (v : List Window). list_all (fits v) p.lines ≡ true) (sym h.windows) fit.lines_fit) n a other
@@ -313,7 +313,7 @@ module _ (ws : List Window) (aligned : AllAligned ws) where
     fit = fit_map ws (with_lines (change_line n clean_line)) (λ p h. fits_changed ws n clean_line (λ l. refl) (fits_cleaned ws) p h) s.processors st.fit;
   }
 
-  pub leaves_read : (n a : ℕ) (s : System) → line_of a ≢ n → Stands ws s → Leaves a s (bus_read n s)
+  pub leaves_read : (n a : ℕ) (s : System) → line_of a ≢ n → Stands ws s → LeavesWord a s (bus_read n s)
   leaves_read n a s other st = record {
     word = fold_other n a other s.processors s.memory st.memory st.fit;
     same = copies_map_same a (with_lines (change_line n clean_line)) (λ p. copy_change_other a n clean_line (λ l. refl) p.lines other) s.processors;
@@ -338,7 +338,7 @@ module _ (ws : List Window) (aligned : AllAligned ws) where
   pub stands_invalidate : (n : ℕ) (s : System) → Stands ws s → Stands ws (invalidate n s)
   stands_invalidate n s st = record { memory = st.memory; fit = fit_map ws (with_lines (without_line n)) (fits_without ws n) s.processors st.fit }
 
-  pub leaves_invalidate : (n a : ℕ) (s : System) → line_of a ≢ n → Leaves a s (invalidate n s)
+  pub leaves_invalidate : (n a : ℕ) (s : System) → line_of a ≢ n → LeavesWord a s (invalidate n s)
   leaves_invalidate n a s other = record {
     word = refl;
     same = copies_map_same a (with_lines (without_line n)) (λ p. copy_without_other a n p.lines other) s.processors;
@@ -359,7 +359,7 @@ module _ (ws : List Window) (aligned : AllAligned ws) where
   pub stands_others : (k n : ℕ) (s : System) → Stands ws s → Stands ws (invalidate_others k n s)
   stands_others k n s st = record { memory = st.memory; fit = fit_others ws (with_lines (without_line n)) (fits_without ws n) 0 k s.processors st.fit }
 
-  pub leaves_others : (k n a : ℕ) (s : System) → line_of a ≢ n → Leaves a s (invalidate_others k n s)
+  pub leaves_others : (k n a : ℕ) (s : System) → line_of a ≢ n → LeavesWord a s (invalidate_others k n s)
   leaves_others k n a s other = record {
     word = refl;
     same = copies_others_same a (with_lines (without_line n)) (λ p. copy_without_other a n p.lines other) 0 k s.processors;
@@ -377,7 +377,7 @@ module _ (ws : List Window) (aligned : AllAligned ws) where
   pub stands_back_others : (k n : ℕ) (s : System) → Stands ws s → Stands ws (write_back_others k n s)
   stands_back_others k n s st = record { memory = fold_memory ws n (remove s.processors k) s.memory st.memory; fit = st.fit }
 
-  pub leaves_back_others : (k n a : ℕ) (s : System) → line_of a ≢ n → Stands ws s → Leaves a s (write_back_others k n s)
+  pub leaves_back_others : (k n a : ℕ) (s : System) → line_of a ≢ n → Stands ws s → LeavesWord a s (write_back_others k n s)
   leaves_back_others k n a s other st = record {
     word = fold_other n a other (remove s.processors k) s.memory st.memory (fit_remove ws s.processors k st.fit);
     same = refl;
@@ -423,7 +423,7 @@ module _ (ws : List Window) (aligned : AllAligned ws) where
   pub flush_writes : (n a : ℕ) (s : System) → all_unwritten a s.processors ≡ true → all_unwritten a (invalidate n (bus_read n s)).processors ≡ true
   flush_writes n a s h = invalidate_writes n a (bus_read n s) (read_writes n a s h)
 
-  pub leaves_flush : (n a : ℕ) (s : System) → line_of a ≢ n → Stands ws s → Leaves a s (invalidate n (bus_read n s))
+  pub leaves_flush : (n a : ℕ) (s : System) → line_of a ≢ n → Stands ws s → LeavesWord a s (invalidate n (bus_read n s))
   leaves_flush n a s other st = leaves_then a s (bus_read n s) (invalidate n (bus_read n s)) (leaves_read n a s other st) (leaves_invalidate n a (bus_read n s) other)
 
   settle_unwritten : (b : CacheLine) (a v : ℕ) → has_number (line_of a) b ≡ true → is_unwritten a b ≡ true → settle v (Some (look a b)) ≡ v
@@ -449,7 +449,7 @@ module _ (ws : List Window) (aligned : AllAligned ws) where
       one : (c : Bool) → (line_of a == b.number) ≡ c → After may a x (empty_buffer s b)
       one false is =
           let other : line_of a ≢ b.number = eqb-false (line_of a) b.number is in
-          let l : Leaves a s (empty_buffer s b) = leaves_then a s read (empty_buffer s b) (leaves_flush b.number a s other st) (record { word = write_back_other b a read.memory there other; same = refl; writes = λ h. h }) in
+          let l : LeavesWord a s (empty_buffer s b) = leaves_then a s read (empty_buffer s b) (leaves_flush b.number a s other st) (record { word = write_back_other b a read.memory there other; same = refl; writes = λ h. h }) in
           after_word may a x (empty_buffer s b) (leaves_word may a x s (empty_buffer s b) l w)
       one true is =
           let same : line_of a ≡ b.number = eqb-true (line_of a) b.number is in
@@ -493,7 +493,7 @@ module _ (ws : List Window) (aligned : AllAligned ws) where
       one None is = refl
       one (Some p) is = writes_at a s.processors k p h is
 
-  fits_emptied : (p : Processor) → Fits ws p → Fits ws (with_buffers (λ _. []) p)
+  fits_emptied : (p : Processor) → FitsMemory ws p → FitsMemory ws (with_buffers (λ _. []) p)
   fits_emptied p h = record { lines_apart = h.lines_apart; lines_fit = h.lines_fit; buffers_apart = tt; buffers_fit = refl; few_lines = h.few_lines; few_buffers = omega arith }
 
   pub stands_drain : (k : ℕ) (s : System) → Stands ws s → Stands ws (drain k s)
@@ -507,7 +507,7 @@ module _ (ws : List Window) (aligned : AllAligned ws) where
       (empties_word may a whole (buffers_of s k) s x st (buffers_fit_at k s st) (λ h. buffers_unwritten_at a k s (w.writes h)) w)
       (λ y v. after_word may a y (drain k s) (leaves_word may a y gone (drain k s) (leaves_change a (with_buffers (λ _. [])) k gone (λ p at. refl) (λ p at h. refl)) v))
 
-  fits_less : (n : ℕ) (p : Processor) → Fits ws p → Fits ws (with_buffers (without_line n) p)
+  fits_less : (n : ℕ) (p : Processor) → FitsMemory ws p → FitsMemory ws (with_buffers (without_line n) p)
   fits_less n p h = record {
     lines_apart = h.lines_apart;
     lines_fit = h.lines_fit;

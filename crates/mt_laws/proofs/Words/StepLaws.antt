@@ -24,7 +24,7 @@ use Rattle.mt_laws.proofs.Words.BitLaws.{clear_same, clear_other, clear_below}
 use Rattle.mt_laws.proofs.Words.Copies.{Copy, settle, cleaned, IsShared, shared_at, shared_set, loses, cleans}
 use Rattle.mt_laws.proofs.Words.LineLaws.{fits, is_placed, look, put_windows, put_length, put_same, word_placed}
 use Rattle.mt_laws.proofs.Words.LineLists.{copy_in, Apart, find_hit, found_passes, find_change_same, copy_change_other, copy_change_same}
-use Rattle.mt_laws.proofs.Words.BusLaws.{Stands, copies, Stays, Word, After, Leaves, leaves_word, leaves_then, leaves_change, after_word, after_then, fits_placed, fits_eight, fits_bits, fits_of, fit_at, fits_changed, stands_change, copies_set, copies_at, writes_set, writes_at, stands_drain, drain_word}
+use Rattle.mt_laws.proofs.Words.BusLaws.{Stands, copies, Stays, Word, After, LeavesWord, leaves_word, leaves_then, leaves_change, after_word, after_then, fits_placed, fits_eight, fits_bits, fits_of, fit_at, fits_changed, stands_change, copies_set, copies_at, writes_set, writes_at, stands_drain, drain_word}
 use Rattle.mt_laws.proofs.Words.AccessLaws.{change_at, word_small, same_word}
 use Rattle.mt_laws.proofs.Words.WordLaws.{quiet_stands, quiet_word}
 
@@ -235,7 +235,7 @@ module _ (ws : List Window) (aligned : AllAligned ws) (goal : RegisterFile) (k :
         f)
         (record { memory = record { windows = put_windows s.memory address value ∙ st.memory.windows; counted = put_length s.memory address value ∙ st.memory.counted }; fit = st.fit })
 
-    back_other : (a : ℕ) → a % 8 ≡ 0 → a ≢ address → Leaves a s (step goal (WriteBack address value) k s)
+    back_other : (a : ℕ) → a % 8 ≡ 0 → a ≢ address → LeavesWord a s (step goal (WriteBack address value) k s)
     back_other a whole other =
         leaves_then a s (before_own (WriteBack address value) k s) _
         (record { word = put_other s.memory address a value (subst AllAligned (sym st.memory.windows) aligned) (λ e. other (sym e)); same = refl; writes = λ h. h })

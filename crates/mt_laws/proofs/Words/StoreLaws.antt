@@ -18,7 +18,7 @@ use Rattle.mt_laws.proofs.Words.BitLaws.{no_bit}
 use Rattle.mt_laws.proofs.Words.Copies.{Copy, IsShared, IsOwned, only_from, clear_shared, shared_set, set_same as copy_set, shared_only, owned_only, shared_written}
 use Rattle.mt_laws.proofs.Words.LineLaws.{fits, is_placed, look, put_windows, put_length, put_same, word_placed}
 use Rattle.mt_laws.proofs.Words.LineLists.{copy_in, apart_append, passes_append, found_passes, find_miss, find_hit, find_append, find_change_same, copy_change_other, copy_change_same}
-use Rattle.mt_laws.proofs.Words.BusLaws.{Fits, Stands, copies, all_unwritten, Word, Clean, After, Leaves, clean_word, bare_clean, leaves_word, leaves_then, after_word, fits_eight, fits_of, fit_at, fits_changed, change_case, stands_change, copies_set, copies_at, writes_set, writes_at, leaves_change, stands_read, leaves_read, read_writes, read_same, stands_invalidate, stands_others, leaves_others, others_writes, others_same, stands_back_others, leaves_back_others, over_same, flush_same, flush_writes, leaves_flush}
+use Rattle.mt_laws.proofs.Words.BusLaws.{FitsMemory, Stands, copies, all_unwritten, Word, Clean, After, LeavesWord, clean_word, bare_clean, leaves_word, leaves_then, after_word, fits_eight, fits_of, fit_at, fits_changed, change_case, stands_change, copies_set, copies_at, writes_set, writes_at, leaves_change, stands_read, leaves_read, read_writes, read_same, stands_invalidate, stands_others, leaves_others, others_writes, others_same, stands_back_others, leaves_back_others, over_same, flush_same, flush_writes, leaves_flush}
 use Rattle.mt_laws.proofs.Words.AccessLaws.{fits_dirty, fits_clean, look_dirty, look_clean, look_dirty_other, look_clean_other, word_small, same_word, change_at, changed_at, others_get, Misses, stands_room, misses_room, room_word, leaves_room, room_at, few_room}
 use Rattle.mt_laws.proofs.Words.Lengths.{add_length}
 
@@ -85,7 +85,7 @@ module _ (ws : List Window) (aligned : AllAligned ws) where
     fit = st.fit;
   }
 
-  pub leaves_put : (a address value : ℕ) (s : System) → a ≢ address → Stands ws s → Leaves a s (store_in_memory address value s)
+  pub leaves_put : (a address value : ℕ) (s : System) → a ≢ address → Stands ws s → LeavesWord a s (store_in_memory address value s)
   leaves_put a address value s other st = record {
     word = put_other s.memory address a value (subst AllAligned (sym st.memory.windows) aligned) (λ e. other (sym e));
     same = refl;
@@ -219,7 +219,7 @@ module _ (ws : List Window) (aligned : AllAligned ws) where
 
   -- ---- a write to a line of processor k
 
-  leaves_dirty : (a address value k : ℕ) (s : System) → a % 8 ≡ 0 → address % 8 ≡ 0 → a ≢ address → Leaves a s (change (with_lines (change_line (line_of address) (write_dirty (word_of address) value))) k s)
+  leaves_dirty : (a address value k : ℕ) (s : System) → a % 8 ≡ 0 → address % 8 ≡ 0 → a ≢ address → LeavesWord a s (change (with_lines (change_line (line_of address) (write_dirty (word_of address) value))) k s)
   leaves_dirty a address value k s whole whole' apart =
       leaves_change a (with_lines (change_line (line_of address) (write_dirty (word_of address) value))) k s (λ p at. one p.lines (line_of a == line_of address) refl) (λ p at h. h)
     where
@@ -230,7 +230,7 @@ module _ (ws : List Window) (aligned : AllAligned ws) where
           (λ l. ap (λ (c : ℕ × Bool). Some c) (look_dirty_other a (word_of address) value l (λ e. apart (same_word a address whole whole' same e)))) ls same
       one ls false is = copy_change_other a (line_of address) (write_dirty (word_of address) value) (λ l. refl) ls (eqb-false (line_of a) (line_of address) is)
 
-  leaves_clean_write : (a address value k : ℕ) (s : System) → a % 8 ≡ 0 → address % 8 ≡ 0 → a ≢ address → Leaves a s (change (with_lines (change_line (line_of address) (write_clean (word_of address) value))) k s)
+  leaves_clean_write : (a address value k : ℕ) (s : System) → a % 8 ≡ 0 → address % 8 ≡ 0 → a ≢ address → LeavesWord a s (change (with_lines (change_line (line_of address) (write_clean (word_of address) value))) k s)
   leaves_clean_write a address value k s whole whole' apart =
       leaves_change a (with_lines (change_line (line_of address) (write_clean (word_of address) value))) k s (λ p at. one p.lines (line_of a == line_of address) refl) (λ p at h. h)
     where
@@ -340,7 +340,7 @@ module _ (ws : List Window) (aligned : AllAligned ws) where
             })
             (λ h. absurd (cc))))
           where
-            two : (o : Option CacheLine) → find_line (line_of address) (change_line (line_of address) clean_line p.lines) ≡ o → Fits ws (with_lines (change_line (line_of address) clean_line) p) → IsShared value (option_map (look address) (option_map (write_clean (word_of address) value) o) ∷ [])
+            two : (o : Option CacheLine) → find_line (line_of address) (change_line (line_of address) clean_line p.lines) ≡ o → FitsMemory ws (with_lines (change_line (line_of address) clean_line) p) → IsShared value (option_map (look address) (option_map (write_clean (word_of address) value) o) ∷ [])
             two None is fit = tt
             two (Some l) is fit =
                 let eight = fits_eight ws l (found_passes (fits ws) (line_of address) _ l fit.lines_fit is) in

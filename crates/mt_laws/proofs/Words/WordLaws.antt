@@ -26,7 +26,7 @@ use Rattle.mt_laws.proofs.Words.MemoryLaws.{AllAligned}
 use Rattle.mt_laws.proofs.Words.BitLaws.{no_bit, set_other}
 use Rattle.mt_laws.proofs.Words.LineLaws.{fits, is_placed}
 use Rattle.mt_laws.proofs.Words.LineLists.{copy_in, Apart, apart_change, apart_append, passes_changed, passes_append, found_passes}
-use Rattle.mt_laws.proofs.Words.BusLaws.{Fits, Stands, is_unwritten, unwritten, Word, After, leaves_word, leaves_change, after_word, after_then, fits_of, stands_change, stands_read, leaves_read, read_writes, read_same, clean_word, buffers_fit_at, buffers_unwritten_at, stands_drain, drain_word, stands_one, one_word, stands_drain_line, drain_line_word, fit_at, stands_empty}
+use Rattle.mt_laws.proofs.Words.BusLaws.{FitsMemory, Stands, is_unwritten, unwritten, Word, After, leaves_word, leaves_change, after_word, after_then, fits_of, stands_change, stands_read, leaves_read, read_writes, read_same, clean_word, buffers_fit_at, buffers_unwritten_at, stands_drain, drain_word, stands_one, one_word, stands_drain_line, drain_line_word, fit_at, stands_empty}
 use Rattle.mt_laws.proofs.Words.AccessLaws.{fits_dirty, word_small, same_word, word_buffers, oldest_found, line_placed, lines_at, changed_at, Misses, misses_of}
 use Rattle.mt_laws.proofs.Words.StoreLaws.{Has, has_after, Put, put_after, none_changed, stands_fill, fill_other, fill_clean, fill_writes, flush_put_stands, flush_put_word, past_put_stands, past_missing, through_stands, through_word, hit_stands, hit_word, filling_stands, filling_word}
 use Rattle.mt_laws.proofs.Words.Lengths.{add_length, change_length, oldest_none, oldest_some}
@@ -75,7 +75,7 @@ module _ (ws : List Window) (aligned : AllAligned ws) where
     abbrev pub HasRoom : Processor → Type 0
     HasRoom p = find_line (line_of address) p.buffers ≡ None → length p.buffers < 4
 
-    fits_word : (p : Processor) → HasRoom p → Fits ws p → Fits ws (record p { buffers = combined_with (line_of address) (word_of address) value p.era p.buffers })
+    fits_word : (p : Processor) → HasRoom p → FitsMemory ws p → FitsMemory ws (record p { buffers = combined_with (line_of address) (word_of address) value p.era p.buffers })
     fits_word p room h = record {
       lines_apart = h.lines_apart;
       lines_fit = h.lines_fit;
@@ -379,10 +379,10 @@ module _ (ws : List Window) (aligned : AllAligned ws) where
           store_word k (physical e address) value p.1 p.0 e.kind may a x s has whole (λ h. g h refl) st w
   translated_word s k e Fence may a x has whole st other w = after_word may a x s w
 
-  fits_entry : (e : Entry) (p : Processor) → Fits ws p → Fits ws (keep_entry e p)
+  fits_entry : (e : Entry) (p : Processor) → FitsMemory ws p → FitsMemory ws (keep_entry e p)
   fits_entry e p h = one (is_some (find (λ x. x.vpage == e.vpage) p.entries))
     where
-      one : (b : Bool) → Fits ws (if b then p else record p { entries = add_entry e p.entries })
+      one : (b : Bool) → FitsMemory ws (if b then p else record p { entries = add_entry e p.entries })
       one true = h
       one false = record { lines_apart = h.lines_apart; lines_fit = h.lines_fit; buffers_apart = h.buffers_apart; buffers_fit = h.buffers_fit; few_lines = h.few_lines; few_buffers = h.few_buffers }
 

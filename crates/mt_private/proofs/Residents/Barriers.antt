@@ -16,14 +16,14 @@ use Rattle.mt_machine.specs.System.{Processor, System}
 use Rattle.mt_machine.specs.Machine.{MachineEvent, Steps, common_era, due, has_arrived, has_arrived_again, has_released, is_cancelled, is_over, is_waiting_to_pass, step}
 use Rattle.mt_rendezvous.specs.declared.view.Held.{Held}
 use Rattle.mt_rendezvous.specs.declared.view.Start.{Start}
-use Rattle.mt_rendezvous.specs.Station.{Fits, added_of, again_of, cpu_of, order_of, rise, total, weight, in_first, in_second}
+use Rattle.mt_rendezvous.specs.Station.{FitsPhase, added_of, again_of, cpu_of, order_of, rise, total, weight, in_first, in_second}
 use Rattle.mt_rendezvous.specs.Plays.{arrive, arrive_again, does, late}
 use Rattle.mt_rendezvous.proofs.Keeps.{IsUnderWay, all_false, all_true, order_stands, total_full, total_set, total_small, weight_small}
 use Rattle.mt_rendezvous.proofs.Local.{again_in, arrived_in}
 use Rattle.mt_rendezvous.proofs.Steps.{due_arrive, due_leave, due_pass, due_release, is_true, ready, shows}
 use Rattle.mt_private.specs.declared.view.Resident.{Resident}
 use Rattle.mt_private.specs.Own.{WritesOn}
-use Rattle.mt_private.specs.Residents.{FitsResident, FitsYard, Follows, Moves, Yard, held_of, own_of, pages_at, with_held, yard_machine, scene, move_of}
+use Rattle.mt_private.specs.Residents.{FitsResident, FitsYard, ResidentFollows, ResidentMoves, Yard, held_of, own_of, pages_at, with_held, yard_machine, scene, move_of}
 use Rattle.mt_private.proofs.Residents.Events.{stays, steps}
 use Rattle.mt_rendezvous.specs.declared.view.Added.TheVariants.{Never, Once, Twice}
 use Rattle.mt_rendezvous.specs.declared.view.Added.{Added}
@@ -32,20 +32,20 @@ use Rattle.mt_private.proofs.Residents.Moves.{held_at}
 -- ---- how a resident fits
 
 -- while it is on its way it fits as at a rendezvous
-pub on_way : (go : Go) (added : Added) (p : Phase) → IsUnderWay p → FitsYard go added p → Fits go added p
+pub on_way : (go : Go) (added : Added) (p : Phase) → IsUnderWay p → FitsYard go added p → FitsPhase go added p
 on_way go added Running u f = absurd u
 on_way go added other u f = f
 
-from_way : (go : Go) (added : Added) (p : Phase) → IsUnderWay p → Fits go added p → FitsYard go added p
+from_way : (go : Go) (added : Added) (p : Phase) → IsUnderWay p → FitsPhase go added p → FitsYard go added p
 from_way go added Running u f = absurd u
 from_way go added other u f = f
 
 -- and so does one whose pass has added
-once_added : (go : Go) (added : Added) (p : Phase) → in_first added ≡ true → FitsYard go added p → Fits go added p
+once_added : (go : Go) (added : Added) (p : Phase) → in_first added ≡ true → FitsYard go added p → FitsPhase go added p
 once_added go added Running is f = ⊎_elim (λ (x : added ≡ Never). absurd (let e : false ≡ true = ap in_first (sym x) ∙ is in cc)) (λ x. x) f
 once_added go added other is f = f
 
-once_again : (go : Go) (added : Added) (p : Phase) → in_second added ≡ true → FitsYard go added p → Fits go added p
+once_again : (go : Go) (added : Added) (p : Phase) → in_second added ≡ true → FitsYard go added p → FitsPhase go added p
 once_again go added Running is f = ⊎_elim (λ (x : added ≡ Never). absurd (let e : false ≡ true = ap in_second (sym x) ∙ is in cc)) (λ x. x) f
 once_again go added other is f = f
 
@@ -56,7 +56,7 @@ no_rise again other u = refl
 pub same_era : (t : Start) (go : Go) (h : Held) → FitsResident t go h → IsUnderWay h.cpu.phase → h.cpu.era ≡ common_era t.cpus
 same_era t go h f u = let e = f.era in let z = no_rise (in_second h.added) h.cpu.phase u in omega arith
 
-pub on_its_way : (t : Start) (go : Go) (h : Held) → h.cpu.era ≡ common_era t.cpus → IsUnderWay h.cpu.phase → Fits go h.added h.cpu.phase → FitsResident t go h
+pub on_its_way : (t : Start) (go : Go) (h : Held) → h.cpu.era ≡ common_era t.cpus → IsUnderWay h.cpu.phase → FitsPhase go h.added h.cpu.phase → FitsResident t go h
 on_its_way t go h era u f = record { fits = from_way go h.added h.cpu.phase u f; era = let z = no_rise (in_second h.added) h.cpu.phase u in omega arith }
 
 module _ (t : Start) (all : List Resident) (go : Go) (first second : ℕ) (s : System) (r : Yard t (scene all go s) first second) where
@@ -90,7 +90,7 @@ module _ (t : Start) (all : List Resident) (go : Go) (first second : ℕ) (s : S
       let f = fits_at j h at in
       let on : in_first h.added ≡ true = is_true (in_first h.added) (total_full added_of (λ g. weight_small (in_first g.added)) hs full j h at) in
       subst (λ (g : Go). has_arrived (order_of t g) h.cpu ≡ true) (sym given)
-      (arrived_in t h.cpu h.added h.cpu.phase (subst (λ (g : Go). Fits g h.added h.cpu.phase) given (once_added go h.added h.cpu.phase on f.fits)) on f.era))
+      (arrived_in t h.cpu h.added h.cpu.phase (subst (λ (g : Go). FitsPhase g h.added h.cpu.phase) given (once_added go h.added h.cpu.phase on f.fits)) on f.era))
 
   -- and the second
   all_again : second ≡ length hs → list_all (has_arrived_again (order_of t go)) s.processors ≡ true
@@ -135,8 +135,8 @@ module _ (t : Start) (all : List Resident) (go : Go) (first second : ℕ) (s : S
             ∙ none go apart (not (list_any (λ p. is_waiting_to_pass p.phase) (map cpu_of hs)))
 
     -- the counts once w stands in its place
-    pub counted : (w : Resident) (e : Option MachineEvent) (m n : ℕ) → Moves t (scene all go s) (move_of k w e) → m + weight (in_first y.held.added) ≡ first + weight (in_first w.held.added) → n + weight (in_second y.held.added) ≡ second + weight (in_second w.held.added)
-        → Follows t (scene all go s) (move_of k w e) m n
+    pub counted : (w : Resident) (e : Option MachineEvent) (m n : ℕ) → ResidentMoves t (scene all go s) (move_of k w e) → m + weight (in_first y.held.added) ≡ first + weight (in_first w.held.added) → n + weight (in_second y.held.added) ≡ second + weight (in_second w.held.added)
+        → ResidentFollows t (scene all go s) (move_of k w e) m n
     counted w e m n moves firsts seconds =
         let h = held_at all k y at in
         let same = map-set held_of all k w in
@@ -150,14 +150,14 @@ module _ (t : Start) (all : List Resident) (go : Go) (first second : ℕ) (s : S
 
     -- a step by which the memory stays, as each at the barriers
     quiet_step : (e : Event) (h : Held) → (yard_machine t go s).order ≡ Some (order_of t go) → due (order_of t go) s.processors y.held.cpu y.held.cpu.phase ≡ Some e → WritesOn (pages_at t k) e
-        → step t.goal e 0 (own_of y) ≡ own_of (with_held y h) → h.number ≡ k → FitsResident t go h → Moves t (scene all go s) (move_of k (with_held y h) (Some (Steps k e)))
+        → step t.goal e 0 (own_of y) ≡ own_of (with_held y h) → h.number ≡ k → FitsResident t go h → ResidentMoves t (scene all go s) (move_of k (with_held y h) (Some (Steps k e)))
     quiet_step e h order is on own same fits = steps t all go s r.resides k y at e (with_held y h) order is on (sym own) same fits
 
     -- ---- an addition to the first count
 
     pub arrives : y.held.added ≡ Never → y.held.cpu.phase ≡ Taken
-        → (first < 4294967296 → Follows t (scene all go s) (move_of k (with_held y (arrive t y.held)) (Some (Steps k Arrive))) (first + 1) second)
-        × (4294967296 ≤ first → Follows t (scene all go s) (move_of k (with_held y (late y.held)) None) (first + 1) second)
+        → (first < 4294967296 → ResidentFollows t (scene all go s) (move_of k (with_held y (arrive t y.held)) (Some (Steps k Arrive))) (first + 1) second)
+        × (4294967296 ≤ first → ResidentFollows t (scene all go s) (move_of k (with_held y (late y.held)) None) (first + 1) second)
     arrives out taken =
         let u : IsUnderWay y.held.cpu.phase = subst IsUnderWay (sym taken) tt in
         let o : weight (in_first y.held.added) ≡ 0 = ap (λ a. weight (in_first a)) out in
@@ -186,7 +186,7 @@ module _ (t : Start) (all : List Resident) (go : Go) (first second : ℕ) (s : S
     -- ---- a load of the first count
 
     -- all have added, and go is given
-    pub passes : y.held.added ≡ Once → y.held.cpu.phase ≡ Arrived → first ≡ length t.cpus + 1 → Follows t (scene all go s) (move_of k (with_held y (does t Pass y.held)) (Some (Steps k Pass))) first second
+    pub passes : y.held.added ≡ Once → y.held.cpu.phase ≡ Arrived → first ≡ length t.cpus + 1 → ResidentFollows t (scene all go s) (move_of k (with_held y (does t Pass y.held)) (Some (Steps k Pass))) first second
     passes on arrived full =
         let u : IsUnderWay y.held.cpu.phase = subst IsUnderWay (sym arrived) tt in
         let z = size in
@@ -197,7 +197,7 @@ module _ (t : Start) (all : List Resident) (go : Go) (first second : ℕ) (s : S
         refl refl
 
     -- the cancel stands there
-    pub leaves : y.held.added ≡ Once → (y.held.cpu.phase ≡ Taken) ⊎ (y.held.cpu.phase ≡ Arrived) → 4294967296 ≤ first → Follows t (scene all go s) (move_of k (with_held y (does t Leave y.held)) (Some (Steps k Leave))) first second
+    pub leaves : y.held.added ≡ Once → (y.held.cpu.phase ≡ Taken) ⊎ (y.held.cpu.phase ≡ Arrived) → 4294967296 ≤ first → ResidentFollows t (scene all go s) (move_of k (with_held y (does t Leave y.held)) (Some (Steps k Leave))) first second
     leaves on waits high =
         let u : IsUnderWay y.held.cpu.phase = ⊎_elim (λ (x : y.held.cpu.phase ≡ Taken). subst IsUnderWay (sym x) tt) (λ (x : y.held.cpu.phase ≡ Arrived). subst IsUnderWay (sym x) tt) waits in
         let n = few in
@@ -215,21 +215,21 @@ module _ (t : Start) (all : List Resident) (go : Go) (first second : ℕ) (s : S
 
     -- ---- the second count
 
-    pub arrives_again : y.held.added ≡ Once → y.held.cpu.phase ≡ Restored → Follows t (scene all go s) (move_of k (with_held y (arrive_again t y.held)) (Some (Steps k ArriveAgain))) first (second + 1)
+    pub arrives_again : y.held.added ≡ Once → y.held.cpu.phase ≡ Restored → ResidentFollows t (scene all go s) (move_of k (with_held y (arrive_again t y.held)) (Some (Steps k ArriveAgain))) first (second + 1)
     arrives_again on restored =
         let u : IsUnderWay y.held.cpu.phase = subst IsUnderWay (sym restored) tt in
         let o : weight (in_second y.held.added) ≡ 0 = ap (λ a. weight (in_second a)) on in
-        let old : Fits go y.held.added Restored = subst (Fits go y.held.added) restored (on_way go y.held.added y.held.cpu.phase u own_fits.fits) in
+        let old : FitsPhase go y.held.added Restored = subst (FitsPhase go y.held.added) restored (on_way go y.held.added y.held.cpu.phase u own_fits.fits) in
         counted (with_held y (arrive_again t y.held)) (Some (Steps k ArriveAgain)) first (second + 1)
         (quiet_step ArriveAgain (arrive_again t y.held) (under_way u) (ap (due (order_of t go) s.processors y.held.cpu) restored) tt refl number
         (on_its_way t go (arrive_again t y.held) (same_era t go y.held own_fits u) tt (refl, old.1)))
         (ap (λ a. first + weight (in_first a)) on) (omega arith)
 
-    pub releases : y.held.added ≡ Twice → y.held.cpu.phase ≡ Arrived2 → second ≡ length t.cpus → Follows t (scene all go s) (move_of k (with_held y (does t Release y.held)) (Some (Steps k Release))) first second
+    pub releases : y.held.added ≡ Twice → y.held.cpu.phase ≡ Arrived2 → second ≡ length t.cpus → ResidentFollows t (scene all go s) (move_of k (with_held y (does t Release y.held)) (Some (Steps k Release))) first second
     releases on waits full =
         let u : IsUnderWay y.held.cpu.phase = subst IsUnderWay (sym waits) tt in
         let z = size in
-        let old : Fits go y.held.added Arrived2 = subst (Fits go y.held.added) waits (on_way go y.held.added y.held.cpu.phase u own_fits.fits) in
+        let old : FitsPhase go y.held.added Arrived2 = subst (FitsPhase go y.held.added) waits (on_way go y.held.added y.held.cpu.phase u own_fits.fits) in
         let era = same_era t go y.held own_fits u in
         let o : weight (in_second y.held.added) ≡ 1 = ap (λ a. weight (in_second a)) on in
         counted (with_held y (does t Release y.held)) (Some (Steps k Release)) first second
@@ -238,5 +238,5 @@ module _ (t : Start) (all : List Resident) (go : Go) (first second : ℕ) (s : S
         refl refl
 
     -- a load that is no event
-    pub unmoved : Follows t (scene all go s) (move_of k y None) first second
+    pub unmoved : ResidentFollows t (scene all go s) (move_of k y None) first second
     unmoved = counted y None first second (stays t all go s r.resides k y at y refl number own_fits) refl refl

@@ -12,7 +12,7 @@ use Rattle.mt_machine.specs.System.{System}
 use Rattle.mt_machine.specs.Machine.{Cancels, Goes, IsEnabled, MachineEvent, Order, go_of, next, remaining_order, with_go}
 use Rattle.mt_machine.specs.Update.{is_call}
 use Rattle.mt_rendezvous.specs.declared.view.Start.{Start}
-use Rattle.mt_rendezvous.specs.Station.{Fits, broadcast, go_weight, order_of, rise, in_second}
+use Rattle.mt_rendezvous.specs.Station.{FitsPhase, broadcast, go_weight, order_of, rise, in_second}
 use Rattle.mt_rendezvous.proofs.Keeps.{IsUnderWay}
 use Rattle.mt_rendezvous.proofs.RootSteps.{turned}
 use Rattle.mt_private.specs.declared.view.Resident.{Resident}
@@ -28,14 +28,14 @@ pending_case added Running f =
       refl,
       ⊎_elim
           (λ (x : added ≡ Never). ap in_second x)
-          (λ (x : Fits Pending added Running). absurd (⊎_elim (λ (z : (added ≡ Once) × (Pending ≡ Cancelled)). let e = z.1 in cc) (λ (z : (added ≡ Twice) × (Pending ≡ Given)). let e = z.1 in cc) x))
+          (λ (x : FitsPhase Pending added Running). absurd (⊎_elim (λ (z : (added ≡ Once) × (Pending ≡ Cancelled)). let e = z.1 in cc) (λ (z : (added ≡ Twice) × (Pending ≡ Given)). let e = z.1 in cc) x))
           f,
     )
 pending_case added other f = inl tt
 
 -- and fits as it did once it has
 turned_yard : (new : Go) (added : Added) (p : Phase) → FitsYard Pending added p → FitsYard new added p
-turned_yard new added Running f = ⊎_elim (λ (x : added ≡ Never). inl x) (λ (x : Fits Pending added Running). inr (turned Pending new added Running refl x)) f
+turned_yard new added Running f = ⊎_elim (λ (x : added ≡ Never). inl x) (λ (x : FitsPhase Pending added Running). inr (turned Pending new added Running refl x)) f
 turned_yard new added other f = turned Pending new added other refl f
 
 first_of : (all : List Resident) → 0 < length all → (y : Resident) × (get_elem? all 0 ≡ some y)

@@ -17,7 +17,7 @@ use Rattle.mt_rendezvous.specs.declared.view.Start.{Start}
 use Rattle.mt_rendezvous.specs.Station.{broadcast, order_of}
 use Rattle.mt_private.specs.declared.view.Resident.{Resident}
 use Rattle.mt_private.specs.Own.{Becomes, RunsAlone, WritesOn, own_system}
-use Rattle.mt_private.specs.Residents.{FitsResident, Moves, Resides, Uncalled, own_of, pages_at, uncalled_on, yard_machine, scene, move_of}
+use Rattle.mt_private.specs.Residents.{FitsResident, ResidentMoves, Resides, Uncalled, own_of, pages_at, uncalled_on, yard_machine, scene, move_of}
 use Rattle.mt_private.proofs.Own.Owners.{runs_alone, steps_alone}
 use Rattle.mt_private.proofs.Residents.Moves.{moves, order_by_stages, processor_at}
 
@@ -37,7 +37,7 @@ module _ (t : Start) (all : List Resident) (go : Go) (s : System) (r : Resides t
 
   -- a step of the update
   pub steps : (e : Event) (w : Resident) → (yard_machine t go s).order ≡ Some (order_of t go) → due (order_of t go) s.processors y.held.cpu y.held.cpu.phase ≡ Some e → WritesOn (pages_at t k) e
-      → own_of w ≡ step t.goal e 0 (own_of y) → w.held.number ≡ k → FitsResident t go w.held → Moves t (scene all go s) (move_of k w (Some (Steps k e)))
+      → own_of w ≡ step t.goal e 0 (own_of y) → w.held.number ≡ k → FitsResident t go w.held → ResidentMoves t (scene all go s) (move_of k w (Some (Steps k e)))
   steps e w order is on own number fits = record {
     system = step t.goal e k s;
     enabled = enabled;
@@ -54,7 +54,7 @@ module _ (t : Start) (all : List Resident) (go : Go) (s : System) (r : Resides t
 
   -- an access
   pub accesses : (op : Op) (w : Resident) → y.held.cpu.phase ≡ Running → FitsOp op → own_of w ≡ (access (own_of y) 0 op).after → w.held.number ≡ k → FitsResident t go w.held
-      → Moves t (scene all go s) (move_of k w (Some (Accesses k op))) × ((access s k op).answer ≡ (access (own_of y) 0 op).answer)
+      → ResidentMoves t (scene all go s) (move_of k w (Some (Accesses k op))) × ((access s k op).answer ≡ (access (own_of y) 0 op).answer)
   accesses op w runs fits_op own number fits = (
     record {
       system = (access s k op).after;
@@ -79,7 +79,7 @@ module _ (t : Start) (all : List Resident) (go : Go) (s : System) (r : Resides t
       next_is = ap (λ (x : Option Order). record { system = (access s k op).after; order = x }) (order_by_stages o s.processors (access s k op).after.processors (sym (access_stages s k op)))
 
   -- nothing happens to the machine
-  pub stays : (w : Resident) → own_of w ≡ own_of y → w.held.number ≡ k → FitsResident t go w.held → Moves t (scene all go s) (move_of k w None)
+  pub stays : (w : Resident) → own_of w ≡ own_of y → w.held.number ≡ k → FitsResident t go w.held → ResidentMoves t (scene all go s) (move_of k w None)
   stays w own number fits = record {
     system = s;
     enabled = tt;

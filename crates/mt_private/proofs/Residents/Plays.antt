@@ -23,7 +23,7 @@ use Rattle.mt_laws.proofs.Barrier.Claims.{all_get}
 use Rattle.mt_laws.proofs.Registers.UnderWay.{orders_hold}
 use Rattle.mt_rendezvous.specs.declared.view.Key.{Key}
 use Rattle.mt_rendezvous.specs.declared.view.Start.{Start}
-use Rattle.mt_rendezvous.specs.Station.{Fits, added_of, again_of, order_of, rise, start_of, total, in_first, in_second}
+use Rattle.mt_rendezvous.specs.Station.{FitsPhase, added_of, again_of, order_of, rise, start_of, total, in_first, in_second}
 use Rattle.mt_rendezvous.specs.Plays.{arrive, arrive_again, does, late, own_event}
 use Rattle.mt_rendezvous.proofs.Keeps.{told_of, total_small, weight_small}
 use Rattle.mt_rendezvous.proofs.Local.{due_alone}
@@ -31,10 +31,10 @@ use Rattle.mt_rendezvous.proofs.Steps.{go_small, shows}
 use Rattle.mt_private.specs.declared.view.Resident.{Resident}
 use Rattle.mt_private.specs.declared.view.YardView.{YardView}
 use Rattle.mt_private.specs.OneByOne.{at_rest}
-use Rattle.mt_private.specs.Residents.{FitsYard, Follows, Opens, accessed_by, held_of, stepped_by, system_of, with_first, with_held, with_stored, yard_machine, scene, move_of}
+use Rattle.mt_private.specs.Residents.{FitsYard, ResidentFollows, Opens, accessed_by, held_of, stepped_by, system_of, with_first, with_held, with_stored, yard_machine, scene, move_of}
 use Rattle.mt_private.specs.YardLaws.{IsOneEvent, Stores}
 use Rattle.mt_private.specs.YardRule.{MeetsYard, as_view, with_one}
-use Rattle.mt_private.specs.YardPlays.{AccessesYard, ArrivesAgainYard, ArrivesYard, IsCallable, IsOwnWord, OfOne, OfSeat, PassMoves, PassesYard, ReleasesYard, TakesYard, Tells, Turns, WorksYard, has_added, left_as}
+use Rattle.mt_private.specs.YardPlays.{AccessesYard, ArrivesAgainYard, ArrivesYard, IsCallable, IsOwnWord, OfOne, OfSeat, PassMoves, PassesYard, ReleasesYard, TakesYard, TellsYardStep, Turns, WorksYard, has_added, left_as}
 use Rattle.mt_private.proofs.Residents.Barriers.{arrives, arrives_again, leaves, not_taken, own_fits, passes, releases, unmoved}
 use Rattle.mt_private.proofs.Residents.Moves.{processor_at}
 use Rattle.mt_private.proofs.Residents.Paths.{uncalled_reached}
@@ -54,7 +54,7 @@ of_resident v y P is p z same = subst P (only y z (sym is ∙ same)) p
 has_arrived : (go : Go) (added : Added) (p : Phase) → FitsYard go added p → added ≡ Once → go ≢ Cancelled → (p ≡ Taken) ⊎ (p ≡ Arrived) → p ≡ Arrived
 has_arrived go added p f on apart waits =
     ⊎_elim
-    (λ (x : p ≡ Taken). let g : Fits go added Taken = subst (FitsYard go added) x f in absurd (⊎_elim (λ (e : added ≡ Never). cc) (λ (e : (added ≡ Once) × (go ≡ Cancelled)). apart e.1) g))
+    (λ (x : p ≡ Taken). let g : FitsPhase go added Taken = subst (FitsYard go added) x f in absurd (⊎_elim (λ (e : added ≡ Never). cc) (λ (e : (added ≡ Once) × (go ≡ Cancelled)). apart e.1) g))
     (λ (x : p ≡ Arrived). x)
     waits
 
@@ -125,10 +125,10 @@ module _ (key : Key) where
 
     -- the resident moves, and what that tells
     turn : (i n : ℕ) (w : Resident) (shown : Option ℕ) (cancel : Bool) (e : Option MachineEvent) (x z : ℕ) → w.held.number ≡ y.held.number → Stores y i n w → (cancel ≡ true → m.go ≡ Cancelled)
-        → (slice_index (set s.words i n) 0 ≡ x) × (slice_index (set s.words i n) 1 ≡ z) → Follows t (scene m.all m.go m.system) (move_of y.held.number w e) x z
+        → (slice_index (set s.words i n) 0 ≡ x) × (slice_index (set s.words i n) 1 ≡ z) → ResidentFollows t (scene m.all m.go m.system) (move_of y.held.number w e) x z
         → IsOneEvent key s (record { words = set s.words i n; homes = s.homes; views = set s.views id (with_one v w shown cancel) }) m e × Turns v (with_one v w shown cancel) y (left_as w shown cancel) e
     turn i n w shown cancel e x z number stores told counts f = (
-      placed key s m id v y at is i n w shown cancel e number stores told (subst (λ (c : ℕ × ℕ). Follows t (scene m.all m.go m.system) (move_of y.held.number w e) c.0 c.1) (λ j. (sym counts.0 j, sym counts.1 j)) f),
+      placed key s m id v y at is i n w shown cancel e number stores told (subst (λ (c : ℕ × ℕ). ResidentFollows t (scene m.all m.go m.system) (move_of y.held.number w e) c.0 c.1) (λ j. (sym counts.0 j, sym counts.1 j)) f),
       (
         refl,
         subst (λ (u : Start). PassMoves u y w e) (sym started)
@@ -166,7 +166,7 @@ module _ (key : Key) where
     k = y.held.number
 
     abbrev Goes : Resident → Option MachineEvent → ℕ → ℕ → Type 0
-    Goes w e a b = Follows t (scene m.all m.go m.system) (move_of k w e) a b
+    Goes w e a b = ResidentFollows t (scene m.all m.go m.system) (move_of k w e) a b
 
     -- word i becomes a, and the view this, which is that event
     abbrev Made : ℕ → ℕ → YardView → Option MachineEvent → Type 0
@@ -488,34 +488,34 @@ module _ (key : Key) where
     of_pass : (b : Bool) → in_first y.held.added ≡ b → (P : Bool → Bool → Type 0) → P false b → P me.0.root (has_added me.0.held)
     of_pass b on P p = subst (λ (x : Bool × Bool). P x.0 x.1) (λ j. (sym pass j, sym (ap has_added is ∙ on) j)) p
 
-    pub takes_yard : y.held.added ≡ Never → y.held.cpu.phase ≡ Running → Allows (MeetsYard key) slots id me 0 (λ n. n) (Tells (step slots 0 0 0 none) me)
+    pub takes_yard : y.held.added ≡ Never → y.held.cpu.phase ≡ Running → Allows (MeetsYard key) slots id me 0 (λ n. n) (TellsYardStep (step slots 0 0 0 none) me)
     takes_yard out runs =
         of_pass false (ap in_first out) (λ root added. Allows (MeetsYard key) slots id me 0 (λ n. n) (OfSeat root 0 0 none added (step slots 0 0 0 none) me)) (takes_allowed slots id me y is out runs)
 
-    pub arrives_yard : y.held.added ≡ Never → y.held.cpu.phase ≡ Taken → Allows (MeetsYard key) slots id me 0 (λ n. (n + 1) % 2 ^ 64) (Tells (step slots 0 1 0 none) me)
+    pub arrives_yard : y.held.added ≡ Never → y.held.cpu.phase ≡ Taken → Allows (MeetsYard key) slots id me 0 (λ n. (n + 1) % 2 ^ 64) (TellsYardStep (step slots 0 1 0 none) me)
     arrives_yard out taken =
         of_pass false (ap in_first out) (λ root added. Allows (MeetsYard key) slots id me 0 (λ n. (n + 1) % 2 ^ 64) (OfSeat root 0 1 none added (step slots 0 1 0 none) me)) (arrives_allowed slots id me y is out taken)
 
-    pub passes_yard : y.held.added ≡ Once → (y.held.cpu.phase ≡ Taken) ⊎ (y.held.cpu.phase ≡ Arrived) → Allows (MeetsYard key) slots id me 0 (λ n. n) (Tells (step slots 0 0 0 none) me)
+    pub passes_yard : y.held.added ≡ Once → (y.held.cpu.phase ≡ Taken) ⊎ (y.held.cpu.phase ≡ Arrived) → Allows (MeetsYard key) slots id me 0 (λ n. n) (TellsYardStep (step slots 0 0 0 none) me)
     passes_yard on waits =
         of_pass true (ap in_first on) (λ root added. Allows (MeetsYard key) slots id me 0 (λ n. n) (OfSeat root 0 0 none added (step slots 0 0 0 none) me)) (passes_allowed slots id me y is on waits)
 
-    pub works_yard : (i a : ℕ) → i ≡ y.held.number + 2 → y.held.added ≡ Once → is_local y.held.cpu.phase ≡ true → Allows (MeetsYard key) slots id me i (λ _. a) (λ _. Tells (step slots i a 0 none) me a)
+    pub works_yard : (i a : ℕ) → i ≡ y.held.number + 2 → y.held.added ≡ Once → is_local y.held.cpu.phase ≡ true → Allows (MeetsYard key) slots id me i (λ _. a) (λ _. TellsYardStep (step slots i a 0 none) me a)
     works_yard i a own on local =
         let at : suc (suc y.held.number) ≡ i = omega arith in
         subst (λ (w : ℕ). Allows (MeetsYard key) slots id me i (λ _. a) (λ _. OfSeat me.0.root w a none (has_added me.0.held) (step slots i a 0 none) me a)) at
         (of_pass true (ap in_first on) (λ root added. Allows (MeetsYard key) slots id me i (λ _. a) (λ _. OfSeat root (suc (suc y.held.number)) a none added (step slots i a 0 none) me a)) (works_allowed slots id i a me y is own on local))
 
-    pub accesses_yard : (i a b : ℕ) (op : Op) → i ≡ y.held.number + 2 → y.held.cpu.phase ≡ Running → FitsOp op → Allows (MeetsYard key) slots id me i (λ n. either (n == a) b n) (Tells (step slots i a b (some op)) me)
+    pub accesses_yard : (i a b : ℕ) (op : Op) → i ≡ y.held.number + 2 → y.held.cpu.phase ≡ Running → FitsOp op → Allows (MeetsYard key) slots id me i (λ n. either (n == a) b n) (TellsYardStep (step slots i a b (some op)) me)
     accesses_yard i a b op own runs fits =
         let at : suc (suc y.held.number) ≡ i = omega arith in
         subst (λ (w : ℕ). Allows (MeetsYard key) slots id me i (λ n. either (n == a) b n) (OfSeat me.0.root w a (some op) (has_added me.0.held) (step slots i a b (some op)) me)) at
         (of_pass (in_first y.held.added) refl (λ root added. Allows (MeetsYard key) slots id me i (λ n. either (n == a) b n) (OfSeat root (suc (suc y.held.number)) a (some op) added (step slots i a b (some op)) me)) (accesses_allowed slots id i a b op me y is own runs fits))
 
-    pub arrives_again_yard : y.held.added ≡ Once → y.held.cpu.phase ≡ Restored → Allows (MeetsYard key) slots id me 1 (λ n. (n + 1) % 2 ^ 64) (Tells (step slots 1 1 0 none) me)
+    pub arrives_again_yard : y.held.added ≡ Once → y.held.cpu.phase ≡ Restored → Allows (MeetsYard key) slots id me 1 (λ n. (n + 1) % 2 ^ 64) (TellsYardStep (step slots 1 1 0 none) me)
     arrives_again_yard on restored =
         of_pass true (ap in_first on) (λ root added. Allows (MeetsYard key) slots id me 1 (λ n. (n + 1) % 2 ^ 64) (OfSeat root 1 1 none added (step slots 1 1 0 none) me)) (arrives_again_allowed slots id me y is on restored)
 
-    pub releases_yard : y.held.added ≡ Twice → y.held.cpu.phase ≡ Arrived2 → Allows (MeetsYard key) slots id me 1 (λ n. n) (Tells (step slots 1 0 0 none) me)
+    pub releases_yard : y.held.added ≡ Twice → y.held.cpu.phase ≡ Arrived2 → Allows (MeetsYard key) slots id me 1 (λ n. n) (TellsYardStep (step slots 1 0 0 none) me)
     releases_yard on waits =
         of_pass true (ap in_first on) (λ root added. Allows (MeetsYard key) slots id me 1 (λ n. n) (OfSeat root 1 0 none added (step slots 1 0 0 none) me)) (releases_allowed slots id me y is on waits)

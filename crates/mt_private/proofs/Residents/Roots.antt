@@ -17,7 +17,7 @@ use Rattle.mt_private.specs.declared.view.YardView.{YardView}
 use Rattle.mt_private.specs.Residents.{Decides, Yard, held_of, scene}
 use Rattle.mt_private.specs.YardRule.{MeetsYard, as_view, with_decision}
 use Rattle.mt_private.specs.YardLaws.{IsOneEvent}
-use Rattle.mt_private.specs.YardPlays.{CancelsYard, GivesYard, Made, OfSeat, IsDecided, Tells, YardSat, has_added}
+use Rattle.mt_private.specs.YardPlays.{CancelsYard, GivesYard, Made, OfSeat, IsDecided, TellsYardStep, YardSat, has_added}
 use Rattle.mt_private.proofs.Residents.Decisions.{cancels, gives}
 use Rattle.mt_private.proofs.Residents.Seats.{mapped_at, says}
 
@@ -82,7 +82,7 @@ module _ (key : Key) where
   of_host me root P p = subst P (sym root) p
 
   pub gives_yard : (slots id : ℕ) (me : Me Op YardView) → me.0.root ≡ true → me.0.go ≡ Pending
-      → Allows (MeetsYard key) slots id me 0 (λ n. (n + 1) % 2 ^ 64) (Tells (step slots 0 1 0 none) me)
+      → Allows (MeetsYard key) slots id me 0 (λ n. (n + 1) % 2 ^ 64) (TellsYardStep (step slots 0 1 0 none) me)
   gives_yard slots id me root is =
       of_host me root (λ host. Allows (MeetsYard key) slots id me 0 (λ n. (n + 1) % 2 ^ 64) (OfSeat host 0 1 none (has_added me.0.held) (step slots 0 1 0 none) me))
       (λ s m _ at small.
@@ -90,7 +90,7 @@ module _ (key : Key) where
       (with_decision me.0 Given, keeps, tt, p.0.kept, (refl, refl, p.1, is)))
 
   pub cancels_yard : (slots id : ℕ) (me : Me Op YardView) → me.0.root ≡ true → me.0.go ≡ Pending
-      → Allows (MeetsYard key) slots id me 0 (λ n. (n + 4294967296) % 2 ^ 64) (Tells (step slots 0 4294967296 0 none) me)
+      → Allows (MeetsYard key) slots id me 0 (λ n. (n + 4294967296) % 2 ^ 64) (TellsYardStep (step slots 0 4294967296 0 none) me)
   cancels_yard slots id me root is =
       of_host me root (λ host. Allows (MeetsYard key) slots id me 0 (λ n. (n + 4294967296) % 2 ^ 64) (OfSeat host 0 4294967296 none (has_added me.0.held) (step slots 0 4294967296 0 none) me))
       (λ s m _ at small.
@@ -98,12 +98,12 @@ module _ (key : Key) where
       (with_decision me.0 Cancelled, keeps, tt, p.0.kept, (refl, refl, p.1, is, refl)))
 
 -- the host's step, by its seat
-pub told_go : (slots found : ℕ) (me new : YardSat) → me.0.root ≡ true → Tells (step slots 0 1 0 none) me found new → GivesYard (step slots 0 1 0 none) me found new
+pub told_go : (slots found : ℕ) (me new : YardSat) → me.0.root ≡ true → TellsYardStep (step slots 0 1 0 none) me found new → GivesYard (step slots 0 1 0 none) me found new
 told_go slots found me new root tells = subst (λ (host : Bool). OfSeat host 0 1 none (has_added me.0.held) (step slots 0 1 0 none) me found new) root tells
 
-pub told_cancel : (slots found : ℕ) (me new : YardSat) → me.0.root ≡ true → Tells (step slots 0 4294967296 0 none) me found new → CancelsYard (step slots 0 4294967296 0 none) me found new
+pub told_cancel : (slots found : ℕ) (me new : YardSat) → me.0.root ≡ true → TellsYardStep (step slots 0 4294967296 0 none) me found new → CancelsYard (step slots 0 4294967296 0 none) me found new
 told_cancel slots found me new root tells = subst (λ (host : Bool). OfSeat host 0 4294967296 none (has_added me.0.held) (step slots 0 4294967296 0 none) me found new) root tells
 
 -- and by what it was made
-pub made : (slots i a found : ℕ) (me new : YardSat) → slots ≡ 0 → Tells (step slots i a 0 none) me found new → Made i a me new
-made slots i a found me new none_held tells = (found, subst (λ (n : ℕ). Tells (step n i a 0 none) me found new) none_held tells)
+pub made : (slots i a found : ℕ) (me new : YardSat) → slots ≡ 0 → TellsYardStep (step slots i a 0 none) me found new → Made i a me new
+made slots i a found me new none_held tells = (found, subst (λ (n : ℕ). TellsYardStep (step n i a 0 none) me found new) none_held tells)

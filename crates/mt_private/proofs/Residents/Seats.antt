@@ -20,7 +20,7 @@ use Rattle.mt_rendezvous.proofs.Keeps.{AllSit, kept_present, moves_present, seat
 use Rattle.mt_rendezvous.proofs.RootSteps.{join_present, owned, seats_decided, seats_joined, seats_split, split_present}
 use Rattle.mt_private.specs.declared.view.Resident.{Resident}
 use Rattle.mt_private.specs.declared.view.YardView.{YardView}
-use Rattle.mt_private.specs.Residents.{Decides, Follows, Yard, held_of, yard_machine, scene, move_of}
+use Rattle.mt_private.specs.Residents.{Decides, ResidentFollows, Yard, held_of, yard_machine, scene, move_of}
 use Rattle.mt_private.specs.YardLaws.{IsOneEvent, Stores}
 use Rattle.mt_private.specs.YardRule.{AreAt, HoldsStored, MeetsYard, as_view, one_of, rest_of, with_one, with_decision, yard_both, yard_left, yard_right, yard_spent}
 
@@ -106,7 +106,7 @@ module _ (key : Key) (s : State Op YardView) (m : MeetsYard key s) where
     mine = ((m.sits id (as_view v) at_view).holds 0 y.held (subst (λ (l : List Held). get_elem? l 0 ≡ some y.held) (sym held_is) refl)).1
 
     pub placed : (i n : ℕ) (w : Resident) (shown : Option ℕ) (cancel : Bool) (e : Option MachineEvent) → w.held.number ≡ y.held.number → Stores y i n w → (cancel ≡ true → m.go ≡ Cancelled)
-        → Follows t (scene m.all m.go m.system) (move_of y.held.number w e) (slice_index (set s.words i n) 0) (slice_index (set s.words i n) 1)
+        → ResidentFollows t (scene m.all m.go m.system) (move_of y.held.number w e) (slice_index (set s.words i n) 0) (slice_index (set s.words i n) 1)
         → IsOneEvent key s (record { words = set s.words i n; homes = s.homes; views = set s.views id (with_one v w shown cancel) }) m e
     placed i n w shown cancel e number stores told f = record {
       kept = record {

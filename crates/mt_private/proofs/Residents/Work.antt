@@ -34,7 +34,7 @@ use Rattle.mt_rendezvous.proofs.Steps.{shows}
 use Rattle.mt_private.specs.declared.view.Resident.{Resident}
 use Rattle.mt_private.specs.Own.{Becomes, WritesOn, own_memory}
 use Rattle.mt_private.specs.OneByOne.{at_rest}
-use Rattle.mt_private.specs.Residents.{FitsResident, FitsYard, Follows, Yard, accessed_by, held_of, in_system, own_of, pages_at, stepped_by, system_of, with_stored, yard_machine, scene, move_of}
+use Rattle.mt_private.specs.Residents.{FitsResident, FitsYard, ResidentFollows, Yard, accessed_by, held_of, in_system, own_of, pages_at, stepped_by, system_of, with_stored, yard_machine, scene, move_of}
 use Rattle.mt_private.proofs.Own.Buses.{in_pages}
 use Rattle.mt_private.proofs.Own.Owners.{runs_alone, steps_alone, within_of}
 use Rattle.mt_private.proofs.Residents.Events.{accesses, steps}
@@ -92,7 +92,7 @@ module _ (t : Start) (all : List Resident) (go : Go) (first second : ℕ) (s : S
       (steps_alone (pages_at t k) k s r.resides.stands.memory (r.resides.stands.owns k y at) t.goal e on)
 
   -- a load of the first count that shows no cancel, by a processor that hasn't taken
-  pub takes : y.held.added ≡ Never → y.held.cpu.phase ≡ Running → first < 4294967296 → Follows t (scene all go s) (move_of k (stepped_by t Take y) (Some (Steps k Take))) first second
+  pub takes : y.held.added ≡ Never → y.held.cpu.phase ≡ Running → first < 4294967296 → ResidentFollows t (scene all go s) (move_of k (stepped_by t Take y) (Some (Steps k Take))) first second
   takes out runs low =
       let out_again : in_second y.held.added ≡ false = ap in_second out in
       let n = few t all go first second s r in
@@ -137,7 +137,7 @@ module _ (t : Start) (all : List Resident) (go : Go) (first second : ℕ) (s : S
 
   -- a store of the own event word that is the event due between the barriers
   pub works : y.held.added ≡ Once → is_local y.held.cpu.phase ≡ true → (e : Event) → ((o : Order) (ps : List Processor) → due o ps y.held.cpu y.held.cpu.phase ≡ Some e) → (n : ℕ)
-      → Follows t (scene all go s) (move_of k (with_stored (stepped_by t e y) n) (Some (Steps k e))) first second
+      → ResidentFollows t (scene all go s) (move_of k (with_stored (stepped_by t e y) n) (Some (Steps k e))) first second
   works on here e is n =
       let apart = lines_apart in
       let o : Order = order_of t go in
@@ -166,7 +166,7 @@ module _ (t : Start) (all : List Resident) (go : Go) (first second : ℕ) (s : S
       stepped_held e other = refl
 
   -- a store of the own event word that is an access
-  pub accessed : (op : Op) → y.held.cpu.phase ≡ Running → FitsOp op → (n : ℕ) → Follows t (scene all go s) (move_of k (with_stored (accessed_by op y) n) (Some (Accesses k op))) first second × ((access s k op).answer ≡ (access (own_of y) 0 op).answer)
+  pub accessed : (op : Op) → y.held.cpu.phase ≡ Running → FitsOp op → (n : ℕ) → ResidentFollows t (scene all go s) (move_of k (with_stored (accessed_by op y) n) (Some (Accesses k op))) first second × ((access s k op).answer ≡ (access (own_of y) 0 op).answer)
   accessed op runs fits_op n =
       let b : Becomes (pages_at t k) k s (access s k op).after (access (own_of y) 0 op).after =
       subst (λ (v : System). Becomes (pages_at t k) k s (access s k op).after (access v 0 op).after) (r.resides.stands.own k y at) (runs_alone (pages_at t k) k s r.resides.stands.memory (r.resides.stands.owns k y at) (op ∷ [])).after in

@@ -37,7 +37,7 @@ use Rattle.mt_replay.specs.ReplayState.{after_word, each_processor, is_undecided
 use Rattle.mt_replay.proofs.Keeping.Kinds.{fits_next, risen_same}
 
 -- n comes of m, over the same windows
-pub record Follows (m n : Machine) : Type 0 where
+pub record ComesFrom (m n : Machine) : Type 0 where
   pub arises : Arises n
   pub reached : (p : Machine) → Reached p m → Reached p n
   pub risen : HasRisenByOne m.system n.system
@@ -45,10 +45,10 @@ pub record Follows (m n : Machine) : Type 0 where
   pub windows : n.system.memory.windows ≡ m.system.memory.windows
   pub flags : flags_of n.system ≡ flags_of m.system
 
-pub follows_same : (m : Machine) → Arises m → Follows m m
+pub follows_same : (m : Machine) → Arises m → ComesFrom m m
 follows_same m a = record { arises = a; reached = λ p r. r; risen = risen_same m.system m.system.memory; fits = λ f all. all; windows = refl; flags = refl }
 
-pub follows_event : (m : Machine) (e : MachineEvent) → Arises m → IsEnabled m e → Follows m (next m e)
+pub follows_event : (m : Machine) (e : MachineEvent) → Arises m → IsEnabled m e → ComesFrom m (next m e)
 follows_event m e a enabled =
     let st = stands a in
     let ws : List Window = m.system.memory.windows in
@@ -66,17 +66,17 @@ follows_event m e a enabled =
 abbrev with_system : Machine → System → Machine
 with_system m s = record m { system = s }
 
-pub follows_access : (m : Machine) (k : ℕ) (op : Op) → Arises m → FitsOp op → Follows m (next m (Accesses k op))
+pub follows_access : (m : Machine) (k : ℕ) (op : Op) → Arises m → FitsOp op → ComesFrom m (next m (Accesses k op))
 follows_access m k op a fits =
-    runs_or_rests m.system k (Follows m (next m (Accesses k op)))
+    runs_or_rests m.system k (ComesFrom m (next m (Accesses k op)))
     (λ runs. follows_event m (Accesses k op) a (runs, fits))
-    (λ rests. subst (λ t. Follows m (with_system m t)) (sym (ap (λ (x : Answered). x.after) (access_busy m.system k rests op))) (follows_same m a))
+    (λ rests. subst (λ t. ComesFrom m (with_system m t)) (sym (ap (λ (x : Answered). x.after) (access_busy m.system k rests op))) (follows_same m a))
 
-pub follows_control : (m : Machine) (k : ℕ) (c : Control) → Arises m → ((p : Processor) → slice_get m.system.processors k ≡ Some p → FitsControl p c) → Follows m (next m (Controls k c))
+pub follows_control : (m : Machine) (k : ℕ) (c : Control) → Arises m → ((p : Processor) → slice_get m.system.processors k ≡ Some p → FitsControl p c) → ComesFrom m (next m (Controls k c))
 follows_control m k c a fits =
-    runs_or_rests m.system k (Follows m (next m (Controls k c)))
+    runs_or_rests m.system k (ComesFrom m (next m (Controls k c)))
     (λ runs. follows_event m (Controls k c) a (runs, fits))
-    (λ rests. subst (λ t. Follows m (with_system m t)) (sym (ap (λ (x : RuledAfter). x.after) (control_busy m.system k rests c))) (follows_same m a))
+    (λ rests. subst (λ t. ComesFrom m (with_system m t)) (sym (ap (λ (x : RuledAfter). x.after) (control_busy m.system k rests c))) (follows_same m a))
 
 -- ---- what is done only where it may be
 
@@ -86,17 +86,17 @@ is_pending (Some Given) h = absurd (cc h)
 is_pending (Some Cancelled) h = absurd (cc h)
 is_pending None h = absurd (cc h)
 
-pub follows_word : (m : Machine) (e : MachineEvent) → Arises m → (go_of m ≡ Some Pending → IsEnabled m e) → Follows m (after_word e m)
+pub follows_word : (m : Machine) (e : MachineEvent) → Arises m → (go_of m ≡ Some Pending → IsEnabled m e) → ComesFrom m (after_word e m)
 follows_word m e a enabled = one (is_undecided (go_of m)) refl
   where
-    one : (b : Bool) → is_undecided (go_of m) ≡ b → Follows m (if b then next m e else m)
+    one : (b : Bool) → is_undecided (go_of m) ≡ b → ComesFrom m (if b then next m e else m)
     one true is = follows_event m e a (enabled (is_pending (go_of m) is))
     one false is = follows_same m a
 
-pub follows_step : (m : Machine) (k : ℕ) → Arises m → Follows m (step_after m k)
+pub follows_step : (m : Machine) (k : ℕ) → Arises m → ComesFrom m (step_after m k)
 follows_step m k a = one (due_at m k) refl
   where
-    one : (o : Option Event) → due_at m k ≡ o → Follows m (option_map_or (λ e. next m (Steps k e)) o m)
+    one : (o : Option Event) → due_at m k ≡ o → ComesFrom m (option_map_or (λ e. next m (Steps k e)) o m)
     one None is = follows_same m a
     one (Some e) is = follows_event m (Steps k e) a is
 
@@ -120,7 +120,7 @@ updated_risen m goal ks = record {
       omega arith;
 }
 
-pub follows_update : (m : Machine) (goal : RegisterFile) → Arises m → IsEnabled m (Calls goal) → Follows m (updated m.system (each_processor m.system) goal)
+pub follows_update : (m : Machine) (goal : RegisterFile) → Arises m → IsEnabled m (Calls goal) → ComesFrom m (updated m.system (each_processor m.system) goal)
 follows_update m goal a enabled =
     let quiet = is_quiet_without_order m a enabled.0 in
     let ks : List ℕ = each_processor m.system in

@@ -23,7 +23,7 @@ use Rattle.mt_script.specs.declared.command.Newcomer.TheVariants.{Up, Join}
 use Rattle.mt_replay.specs.Kept.{CameFromRest}
 use Rattle.mt_replay.specs.ReplayState.{after_newcomer, after_retire, may_come, may_go}
 use Rattle.mt_replay.proofs.Keeping.Kinds.{eras_risen}
-use Rattle.mt_replay.proofs.Keeping.Machines.{Follows, follows_event, follows_update}
+use Rattle.mt_replay.proofs.Keeping.Machines.{ComesFrom, follows_event, follows_update}
 
 -- ---- where one may come or go
 
@@ -59,7 +59,7 @@ more_to_go m h = ltb-true 1 (length m.system.processors) (and_parts (not (is_som
 pub no_older_now : (m : Machine) → CameFromRest m → All IsFresh m.system.processors
 no_older_now m c = nothing_is_stale c.rest m (inl c.quiet) c.no_older c.reached
 
-pub came_on : (m n : Machine) → CameFromRest m → Follows m n → CameFromRest n
+pub came_on : (m n : Machine) → CameFromRest m → ComesFrom m n → CameFromRest n
 came_on m n c follows = record { rest = c.rest; quiet = c.quiet; arises = c.arises; no_older = c.no_older; reached = follows.reached c.rest c.reached }
 
 pub rests_now : (m : Machine) → IsQuiet m → Arises m → All IsFresh m.system.processors → CameFromRest m
@@ -107,7 +107,7 @@ module _ (m : Machine) (a : Arises m) (came : CameFromRest m) (some : 1 ≤ leng
     came_with : CameFromRest w
     came_with = rests_now w (reset_stays_quiet m quiet) arises_with (reset_stays_fresh m.system (no_older_now m came))
 
-    by_update : (n : Machine) → Follows w n → Moves m n
+    by_update : (n : Machine) → ComesFrom w n → Moves m n
     by_update n follows = record {
       arises = follows.arises;
       came = came_on w n came_with follows;

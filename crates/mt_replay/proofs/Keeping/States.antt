@@ -58,7 +58,7 @@ use Rattle.mt_dump.proofs.ForProcessors.{first_file_is as first_is_file}
 use Rattle.mt_replay.proofs.FirstFault.{first_fault_is_first}
 use Rattle.mt_replay.proofs.Keeping.Absent.{absent_now, present_state, state_absent, state_there}
 use Rattle.mt_replay.proofs.Keeping.Kinds.{fits_with_value}
-use Rattle.mt_replay.proofs.Keeping.Machines.{Follows, follows_access, follows_control, follows_event, follows_same, follows_step, follows_update, follows_word}
+use Rattle.mt_replay.proofs.Keeping.Machines.{ComesFrom, follows_access, follows_control, follows_event, follows_same, follows_step, follows_update, follows_word}
 use Rattle.mt_replay.proofs.Keeping.Moving.{Moves, came_on, moves_newcomer, moves_retire, no_older_now, rests_now}
 use Rattle.mt_replay.proofs.Keeping.Windows.{grown_start, memory_is_quiet, room_memory, windows_then}
 
@@ -108,7 +108,7 @@ same_start now was m n d cpus windows flags = λ i. start_with (sym flags i) (fi
 
 -- with the same windows, and no window to come
 state_on : (s : ReplayState) (now : Situation) (n : Machine) (goal : RegisterFile) → IsReplayState s → IsSituation now → is_past_dump now.stage ≡ true
-    → now.moving ≡ s.now.moving → now.cpus ≡ s.now.cpus → now.dump ≡ s.now.dump → now.windows ≡ s.now.windows → TakesNone now.stage → Follows s.machine n → IsRegisterFile goal → All (FitsGoal goal) s.machine.system.processors
+    → now.moving ≡ s.now.moving → now.cpus ≡ s.now.cpus → now.dump ≡ s.now.dump → now.windows ≡ s.now.windows → TakesNone now.stage → ComesFrom s.machine n → IsRegisterFile goal → All (FitsGoal goal) s.machine.system.processors
     → IsReplayState (record { now = now; machine = n; goal = goal })
 state_on s now n goal h is past moving cpus dump windows none follows good fits = record {
   situation = is;
@@ -151,17 +151,17 @@ accepted_of goal none = subst (IsFirstFault goal) none (first_fault_is_first goa
 pub call_enabled : (s : ReplayState) → IsReplayState s → call_fault s.machine s.goal ≡ None → IsEnabled s.machine (Calls s.goal)
 call_enabled s h none = let allowed = call_allowed s.machine s.goal none in (allowed.0, h.goal_file, accepted_of s.goal allowed.1, h.goal)
 
-follows_called : (s : ReplayState) (n : Machine) → IsReplayState s → (IsEnabled s.machine (Calls s.goal) → Follows s.machine n) → Follows s.machine (option_map_or (λ fault. s.machine) (call_fault s.machine s.goal) n)
+follows_called : (s : ReplayState) (n : Machine) → IsReplayState s → (IsEnabled s.machine (Calls s.goal) → ComesFrom s.machine n) → ComesFrom s.machine (option_map_or (λ fault. s.machine) (call_fault s.machine s.goal) n)
 follows_called s n h later = one (call_fault s.machine s.goal) refl
   where
-    one : (o : Option CallFault) → call_fault s.machine s.goal ≡ o → Follows s.machine (option_map_or (λ fault. s.machine) o n)
+    one : (o : Option CallFault) → call_fault s.machine s.goal ≡ o → ComesFrom s.machine (option_map_or (λ fault. s.machine) o n)
     one None is = later (call_enabled s h is)
     one (Some fault) is = follows_same s.machine h.arises
 
-pub follows_end : (s : ReplayState) → IsReplayState s → Follows s.machine (machine_after s (command.Section section.End))
+pub follows_end : (s : ReplayState) → IsReplayState s → ComesFrom s.machine (machine_after s (command.Section section.End))
 follows_end s h = one (is_update s.now.stage)
   where
-    one : (b : Bool) → Follows s.machine (if b then after_update s.machine s.goal else after_call s.machine s.goal)
+    one : (b : Bool) → ComesFrom s.machine (if b then after_update s.machine s.goal else after_call s.machine s.goal)
     one true = follows_called s (updated s.machine.system (each_processor s.machine.system) s.goal) h (follows_update s.machine s.goal h.arises)
     one false = follows_called s (next s.machine (Calls s.goal)) h (follows_event s.machine (Calls s.goal) h.arises)
 
@@ -205,7 +205,7 @@ module _ (s : ReplayState) (h : IsReplayState s) where
   is_after c fits = accepted_is s.now h.situation c fits (not_end c)
 
   -- a command among the commands
-  goes_on : (n : Machine) → IsSituation (in_commands s.now) → Follows s.machine n → IsReplayState (record { now = in_commands s.now; machine = n; goal = s.goal })
+  goes_on : (n : Machine) → IsSituation (in_commands s.now) → ComesFrom s.machine n → IsReplayState (record { now = in_commands s.now; machine = n; goal = s.goal })
   goes_on n is follows = state_on s (in_commands s.now) n s.goal h is refl refl refl refl refl (λ takes. cc takes) follows h.goal_file h.goal
 
   accesses : (k : ℕ) (o : Op) → FitsOp o → IsSituation (in_commands s.now) → IsReplayState (record { now = in_commands s.now; machine = next s.machine (Accesses k o); goal = s.goal })

@@ -5,7 +5,7 @@ use Rattle.mt_text.specs.declared.place.Place.{Place}
 use Rattle.mt_stream.specs.declared.ending.Stop.{Stop}
 use Rattle.mt_ports.specs.declared.status.Status.TheVariants.{Done}
 use Rattle.mt_output.specs.Lines.{offence_line}
-use Rattle.mt_output.specs.Writing.{Passes}
+use Rattle.mt_output.specs.Writing.{PassesOn}
 use Rattle.mt_script.specs.Situation.{at_start}
 use Rattle.mt_script.specs.Commands.{end_fault}
 use Rattle.mt_script.specs.declared.fault.ScriptFault.{ScriptFault}
@@ -54,7 +54,7 @@ starts source now stands = record {
 }
 
 -- what waits behind a sink that takes nothing
-waits : (text waiting left : List ℕ) → waiting ≡ [] → Passes waiting text left (Some []) (Some []) → left ≡ text
+waits : (text waiting left : List ℕ) → waiting ≡ [] → PassesOn waiting text left (Some []) (Some []) → left ≡ text
 waits text waiting left none p = sym (ap (λ l. l ++ text) (sym none) ∙ p.cut ∙ ap (λ l. l ++ left) (sym p.taken))
 
 -- a text with its numbers, behind which nothing is told

@@ -40,7 +40,7 @@ use Rattle.mt_replay.specs.Kept.{IsReplayState}
 use Rattle.mt_replay.specs.ReplayState.{ReplayState, after_word, call_fault, command_text, file_at, is_undecided, machine_after, mapping, after_retire, is_absent, present_after, present_text}
 use Rattle.mt_replay.specs.Texts.{event_text, stepped_line}
 use Rattle.mt_replay_laws.proofs.Courses.Since.{no_call}
-use Rattle.mt_replay_laws.proofs.Courses.Steps.{GoesOn}
+use Rattle.mt_replay_laws.proofs.Courses.Steps.{AreInTurn}
 use Rattle.mt_replay_laws.proofs.Courses.Tells.{pass_or_not}
 use Rattle.mt_replay_laws.proofs.Courses.Waiting.{IsOf, Waits, order_on, waits_on}
 use Rattle.mt_replay.proofs.Keeping.Machines.{is_pending}
@@ -152,7 +152,7 @@ pub record Stands (s : ReplayState) : Type 0 where
 pub stands_after : (step : ScriptStep) → Stands step.before → Fits step.before.now step.command → Stands (left step)
 stands_after step h fits = record { is = state_kept step.before step.command h.is fits; past = stays_past step.before.now step.command h.past }
 
-pub stands_behind : (steps : List ScriptStep) (s : ReplayState) → Stands s → GoesOn s steps → Stands (last_of s steps)
+pub stands_behind : (steps : List ScriptStep) (s : ReplayState) → Stands s → AreInTurn s steps → Stands (last_of s steps)
 stands_behind [] s h on = h
 stands_behind (step ∷ steps) s h on = stands_behind steps (left step) (stands_after step (subst Stands (sym on.0) h) on.1) on.2
 
@@ -163,7 +163,7 @@ order_acts goal era m n text (inr (inl (e, enabled, quiet, same, tells))) h =
 order_acts goal era m n text (inr (inr goes)) h = subst (λ (x : Machine). IsOf goal era x.order) (sym goes.2) (subst (IsOf goal era) (sym goes.0) tt)
 
 -- the order that stands behind steps without a call is the one before them
-pub order_stays : (goal : RegisterFile) (era : ℕ) (steps : List ScriptStep) (s : ReplayState) → Stands s → GoesOn s steps → NoneOf IsCall steps → IsOf goal era s.machine.order → IsOf goal era (last_of s steps).machine.order
+pub order_stays : (goal : RegisterFile) (era : ℕ) (steps : List ScriptStep) (s : ReplayState) → Stands s → AreInTurn s steps → NoneOf IsCall steps → IsOf goal era s.machine.order → IsOf goal era (last_of s steps).machine.order
 order_stays goal era [] s h on none is = is
 order_stays goal era (step ∷ steps) s h on none is =
     let here : Stands step.before = subst Stands (sym on.0) h in
@@ -185,7 +185,7 @@ none_acts m n text (inr (inl (e, enabled, quiet, same, tells))) none =
     ap (λ (x : Machine). x.order) same ∙ ap (λ (v : Option Order). (next (machine m.system v) e).order) none ∙ none_on e m.system quiet
 none_acts m n text (inr (inr goes)) none = ap (λ (x : Machine). x.order) goes.2 ∙ none
 
-none_left : (steps : List ScriptStep) (s : ReplayState) → Stands s → GoesOn s steps → NoneOf IsCall steps → s.machine.order ≡ None → (last_of s steps).machine.order ≡ None
+none_left : (steps : List ScriptStep) (s : ReplayState) → Stands s → AreInTurn s steps → NoneOf IsCall steps → s.machine.order ≡ None → (last_of s steps).machine.order ≡ None
 none_left [] s h on calls none = none
 none_left (step ∷ steps) s h on calls none =
     let here : Stands step.before = subst Stands (sym on.0) h in
@@ -208,7 +208,7 @@ on_between m n r text (inr (inl (e, enabled, quiet, same, tells))) other some h 
 on_between m n r text (inr (inr goes)) other some h = absurd (some goes.0)
 
 -- while an update is under way to the end none goes
-pub none_release : (steps : List ScriptStep) (s : ReplayState) → Stands s → GoesOn s steps → NoneOf IsCall steps → NoneWrote release_line steps → ((last_of s steps).machine.order ≡ None → ⊥) → Goes_between s.machine (last_of s steps).machine
+pub none_release : (steps : List ScriptStep) (s : ReplayState) → Stands s → AreInTurn s steps → NoneOf IsCall steps → NoneWrote release_line steps → ((last_of s steps).machine.order ≡ None → ⊥) → Goes_between s.machine (last_of s steps).machine
 none_release [] s h on calls releases some = record { events = []; enabled = tt; no_release = refl; is = refl }
 none_release (step ∷ steps) s h on calls releases some =
     let here : Stands step.before = subst Stands (sym on.0) h in
@@ -239,7 +239,7 @@ pub record FirstPass (goal : RegisterFile) (era : ℕ) (steps : List ScriptStep)
   pub passes : wrote pass ≡ pass_line
   pub waits : WaitsIn goal era pass.before
 
-pub first_pass : (goal : RegisterFile) (era : ℕ) (steps : List ScriptStep) (s : ReplayState) → Stands s → GoesOn s steps → NoneOf IsCall steps → WaitsIn goal era s → FirstPass goal era steps ⊎ WaitsIn goal era (last_of s steps)
+pub first_pass : (goal : RegisterFile) (era : ℕ) (steps : List ScriptStep) (s : ReplayState) → Stands s → AreInTurn s steps → NoneOf IsCall steps → WaitsIn goal era s → FirstPass goal era steps ⊎ WaitsIn goal era (last_of s steps)
 first_pass goal era [] s h on none waits = inr waits
 first_pass goal era (step ∷ steps) s h on none waits =
     one

@@ -25,7 +25,7 @@ use Rattle.mt_replay.specs.ReplayState.{ReplayState, call_fault, command_text, f
 use Rattle.mt_replay.specs.Texts.{called_line, complete_line}
 use Rattle.mt_replay_laws.proofs.Courses.Acting.{acts, none_acts}
 use Rattle.mt_replay_laws.proofs.Courses.Since.{accepted_end, no_call}
-use Rattle.mt_replay_laws.proofs.Courses.Steps.{GoesOn, behind_front, course_is, in_front, stands_in}
+use Rattle.mt_replay_laws.proofs.Courses.Steps.{AreInTurn, behind_front, course_is, in_front, stands_in}
 use Rattle.mt_replay_laws.proofs.Courses.Tells.{end_or_not, writes_called, writes_complete, writes_release}
 use Rattle.mt_replay.proofs.Keeping.States.{state_kept}
 use Rattle.mt_replay_laws.proofs.Refusals.Calls.{accepted_where_idle}
@@ -106,7 +106,7 @@ one_more step steps h fits (inr other) (inl still) = one step.before.machine.ord
     one None is = absurd (some_is_not_none (left step).machine.order still.0 (none_stays step.before step.command h fits (no_call step h other) is))
     one (Some o) is = inl (subst (λ (v : Option Order). IsSome v) (sym is) refl, (other, still.1))
 
-called_before : (steps : List ScriptStep) (s : ReplayState) → IsReplayState s → GoesOn s steps → IsSome (last_of s steps).machine.order → StillOrCalled s steps
+called_before : (steps : List ScriptStep) (s : ReplayState) → IsReplayState s → AreInTurn s steps → IsSome (last_of s steps).machine.order → StillOrCalled s steps
 called_before [] s h on some = inl (some, tt)
 called_before (step ∷ steps) s h on some =
     let here : IsReplayState step.before = subst IsReplayState (sym on.0) h in
@@ -174,7 +174,7 @@ in_section s (command.Ask k a) is h fits other = goes_wrong (takes_commands s.no
 in_section s (command.Word address) is h fits other = goes_wrong (takes_commands s.now.stage) fits.0 h.commands
 in_section s c is h fits other = goes_wrong (takes_commands s.now.stage) fits h.commands
 
-section_goal : (lines : List ScriptStep) (s : ReplayState) → takes_registers s.now.stage ≡ true → GoesOn s lines → NoneOf (λ step. step.command ≡ command.Section End) lines → (last_of s lines).goal ≡ goal_of s.goal lines
+section_goal : (lines : List ScriptStep) (s : ReplayState) → takes_registers s.now.stage ≡ true → AreInTurn s lines → NoneOf (λ step. step.command ≡ command.Section End) lines → (last_of s lines).goal ≡ goal_of s.goal lines
 section_goal [] s is on none = refl
 section_goal (step ∷ lines) s is on none =
     let here : takes_registers step.before.now.stage ≡ true = ap (λ (x : ReplayState). takes_registers x.now.stage) on.0 ∙ is in
@@ -220,7 +220,7 @@ OpenedIn steps =
 abbrev InsideOrOpened : ReplayState → List ScriptStep → Type 0
 InsideOrOpened s steps = ((takes_registers s.now.stage ≡ true) × NoneOf (λ step. step.command ≡ command.Section End) steps) ⊎ OpenedIn steps
 
-opened_before : (steps : List ScriptStep) (s : ReplayState) → GoesOn s steps → takes_registers (last_of s steps).now.stage ≡ true → InsideOrOpened s steps
+opened_before : (steps : List ScriptStep) (s : ReplayState) → AreInTurn s steps → takes_registers (last_of s steps).now.stage ≡ true → InsideOrOpened s steps
 opened_before [] s on is = inl (is, tt)
 opened_before (step ∷ steps) s on is =
     subst (λ (x : ReplayState). InsideOrOpened x (step ∷ steps)) on.0 (one (opened_before steps (left step) on.2 is))

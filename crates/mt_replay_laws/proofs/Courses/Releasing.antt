@@ -27,7 +27,7 @@ use Rattle.mt_replay.proofs.Keeping.Absent.{there_machine}
 use Rattle.mt_replay.proofs.Keeping.Moving.{idle_to_come}
 use Rattle.mt_replay_laws.proofs.Refusals.Joins.{first_same}
 use Rattle.mt_replay_laws.proofs.Courses.Newcomers.{newcomer_comes}
-use Rattle.mt_replay_laws.specs.Headline.{IsCall, Keeps, NoneOf, NoneWrote, ReleasedUpdatesAreKept, UpdateOf, next_era, pass_line, release_line, stored_in, IsCalled, IsNewcomer, called_goal, goal_by}
+use Rattle.mt_replay_laws.specs.Headline.{IsCall, KeepsUpdate, NoneOf, NoneWrote, ReleasedUpdatesAreKept, UpdateOf, next_era, pass_line, release_line, stored_in, IsCalled, IsNewcomer, called_goal, goal_by}
 use Rattle.mt_replay.specs.Steps.{ScriptStep, course, last_of, left, wrote}
 use Rattle.mt_replay.specs.Kept.{IsReplayState}
 use Rattle.mt_replay.specs.ReplayState.{ReplayState, machine_after, state_after, first_file}
@@ -36,7 +36,7 @@ use Rattle.mt_replay.specs.Texts.{called_line, complete_line}
 use Rattle.mt_replay_laws.proofs.Courses.Acting.{FirstPass, Goes_between, Stands, WaitsIn, first_pass, none_release, order_stays, stands_after, stands_behind}
 use Rattle.mt_replay_laws.proofs.Courses.Calling.{releases_follow_calls}
 use Rattle.mt_replay_laws.proofs.Courses.Since.{commands, is_aligned, keeps, same_last, same_stored, without_call}
-use Rattle.mt_replay_laws.proofs.Courses.Steps.{GoesOn, behind_front, course_is, in_front, stands_in}
+use Rattle.mt_replay_laws.proofs.Courses.Steps.{AreInTurn, behind_front, course_is, in_front, stands_in}
 use Rattle.mt_replay_laws.proofs.Courses.Tells.{Does, call_is_no_release, complete_is_no_release, release_or_not, writes_called, writes_pass, writes_release, has_third}
 use Rattle.mt_replay_laws.proofs.Courses.Waiting.{IsOf, Waits, none_has_passed, none_releases, order_of, waits_at_call}
 use Rattle.mt_replay.proofs.Keeping.States.{call_enabled, state_kept}
@@ -62,7 +62,7 @@ did step e does due =
 
 -- ---- from a release on
 
-module _ (release : ScriptStep) (since : List ScriptStep) (h : Stands release.before) (fits : Fits release.before.now release.command) (on : GoesOn (left release) since) (calls : NoneOf IsCall since)
+module _ (release : ScriptStep) (since : List ScriptStep) (h : Stands release.before) (fits : Fits release.before.now release.command) (on : AreInTurn (left release) since) (calls : NoneOf IsCall since)
     (does : Does release.before release.command Release) where
   abbrev m : Machine
   m = release.before.machine
@@ -100,7 +100,7 @@ module _ (release : ScriptStep) (since : List ScriptStep) (h : Stands release.be
 
 -- ---- from the first pass to the first release
 
-module _ (goal : RegisterFile) (era : ℕ) (pass : ScriptStep) (between : List ScriptStep) (h : Stands pass.before) (fits : Fits pass.before.now pass.command) (on : GoesOn (left pass) between)
+module _ (goal : RegisterFile) (era : ℕ) (pass : ScriptStep) (between : List ScriptStep) (h : Stands pass.before) (fits : Fits pass.before.now pass.command) (on : AreInTurn (left pass) between)
     (calls : NoneOf IsCall between) (releases : NoneWrote release_line between) (waits : WaitsIn goal era pass.before) (passes : Does pass.before pass.command Pass)
     (m : Machine) (same : (last_of (left pass) between).machine ≡ m) (last : ℕ) (due : due_at m last ≡ Some Release) where
   abbrev p : Machine
@@ -172,10 +172,10 @@ abbrev Released : ScriptStep → List ScriptStep → ScriptStep → List ScriptS
 Released call upto release since =
     (waiting : List ScriptStep) × (pass : ScriptStep) × (between : List ScriptStep)
     × (upto ≡ waiting ++ pass ∷ between) × NoneWrote pass_line waiting × (wrote pass ≡ pass_line) × All (λ p. p.buffers ≡ []) pass.before.machine.system.processors
-    × Keeps (called_goal call) (next_era call) (now pass.before.machine.system) (stored_in since) (last_of (left release) since).machine
+    × KeepsUpdate (called_goal call) (next_era call) (now pass.before.machine.system) (stored_in since) (last_of (left release) since).machine
 
 module _ (call release : ScriptStep) (upto since : List ScriptStep) (h : IsReplayState call.before) (fits : Fits call.before.now call.command)
-    (on : GoesOn (left call) (upto ++ release ∷ since)) (called : IsCalled call) (calls : NoneOf IsCall upto) (releases : NoneWrote release_line upto)
+    (on : AreInTurn (left call) (upto ++ release ∷ since)) (called : IsCalled call) (calls : NoneOf IsCall upto) (releases : NoneWrote release_line upto)
     (released : wrote release ≡ release_line) (quiet_since : NoneOf IsCall since) where
   abbrev goal : RegisterFile
   goal = called_goal call
@@ -194,10 +194,10 @@ module _ (call release : ScriptStep) (upto since : List ScriptStep) (h : IsRepla
       subst (λ (x : Machine). Waits goal era x.system x.order) (sym was_called.after)
       (subst (λ (n : ℕ). Waits goal n (next was_called.base (Calls goal)).system (next was_called.base (Calls goal)).order) was_called.era (waits_at_call was_called.base goal was_called.quiet))
 
-  on_upto : GoesOn (left call) upto
+  on_upto : AreInTurn (left call) upto
   on_upto = in_front upto (release ∷ since) (left call) on
 
-  on_release : GoesOn (last_of (left call) upto) (release ∷ since)
+  on_release : AreInTurn (last_of (left call) upto) (release ∷ since)
   on_release = behind_front upto (release ∷ since) (left call) on
 
   stands : Stands release.before
@@ -213,8 +213,8 @@ module _ (call release : ScriptStep) (upto since : List ScriptStep) (h : IsRepla
 
   kept : FirstPass goal era upto → Released call upto release since
   kept f =
-      let on_all : GoesOn (left call) (f.waiting ++ f.pass ∷ f.between) = subst (GoesOn (left call)) f.is on_upto in
-      let on_pass : GoesOn (last_of (left call) f.waiting) (f.pass ∷ f.between) = behind_front f.waiting (f.pass ∷ f.between) (left call) on_all in
+      let on_all : AreInTurn (left call) (f.waiting ++ f.pass ∷ f.between) = subst (AreInTurn (left call)) f.is on_upto in
+      let on_pass : AreInTurn (last_of (left call) f.waiting) (f.pass ∷ f.between) = behind_front f.waiting (f.pass ∷ f.between) (left call) on_all in
       let at_pass : Stands f.pass.before = subst Stands (sym on_pass.0) (stands_behind f.waiting (left call) begins (in_front f.waiting (f.pass ∷ f.between) (left call) on_all)) in
       let no_calls : NoneOf IsCall (f.pass ∷ f.between) = none_behind IsCall f.waiting (f.pass ∷ f.between) (subst (NoneOf IsCall) f.is calls) in
       let no_releases : NoneWrote release_line (f.pass ∷ f.between) = none_behind (λ step. wrote step ≡ release_line) f.waiting (f.pass ∷ f.between) (subst (NoneWrote release_line) f.is releases) in
@@ -251,7 +251,7 @@ module _ (call release : ScriptStep) (upto since : List ScriptStep) (h : IsRepla
           absurd (none_releases goal era does.0 release.before.machine.system release.before.machine.order (subst (WaitsIn goal era) (sym on_release.0) w)
           (answered_due release.before.machine does.0 Release does.2))
 
-shorter : (upto since rest : List ScriptStep) (release : ScriptStep) (s : ReplayState) → GoesOn s (upto ++ release ∷ (since ++ rest)) → GoesOn s (upto ++ release ∷ since)
+shorter : (upto since rest : List ScriptStep) (release : ScriptStep) (s : ReplayState) → AreInTurn s (upto ++ release ∷ (since ++ rest)) → AreInTurn s (upto ++ release ∷ since)
 shorter [] since rest release s on = (on.0, on.1, in_front since rest (left release) on.2)
 shorter (step ∷ upto) since rest release s on = (on.0, on.1, shorter upto since rest release (left step) on.2)
 
@@ -303,7 +303,7 @@ no_call_of step text is (inl (inr complete)) = let same : complete_line complete
 abbrev Told : List ScriptStep → ScriptStep → List ScriptStep → Type 0
 Told front release since =
     (u : UpdateOf front release)
-    × Keeps (called_goal u.call) (next_era u.call) (now u.pass.before.machine.system) (stored_in (u.again ++ since)) (last_of (left release) since).machine
+    × KeepsUpdate (called_goal u.call) (next_era u.call) (now u.pass.before.machine.system) (stored_in (u.again ++ since)) (last_of (left release) since).machine
 
 module _ (text : List ℕ) (front since rest : List ScriptStep) (release : ScriptStep) (same : course text ≡ front ++ release ∷ (since ++ rest)) (released : wrote release ≡ release_line) (quiet : NoneOf IsCall since)
     (before : List ScriptStep) (call : ScriptStep) (behind : List ScriptStep) (split : front ≡ before ++ call ∷ behind) (called : IsCalled call) (none : NoneOf IsCall behind) where
@@ -344,7 +344,7 @@ module _ (text : List ℕ) (front since rest : List ScriptStep) (release : Scrip
             first_release = subst (NoneWrote release_line) r.3 silent;
             no_store_waits = r.6;
           },
-          subst (λ (x : ReplayState). Keeps (called_goal call) (next_era call) (now r.1.before.machine.system) (stored_in (again ++ since)) x.machine) end r.7,
+          subst (λ (x : ReplayState). KeepsUpdate (called_goal call) (next_era call) (now r.1.before.machine.system) (stored_in (again ++ since)) x.machine) end r.7,
         )
 
     told : Told front release since

@@ -16,7 +16,7 @@ use Rattle.mt_script.specs.declared.command.Command.{Command}
 use Rattle.mt_script.specs.declared.command.Command.TheVariants as command
 use Rattle.mt_script.specs.declared.command.Section.TheVariants.{End}
 use Rattle.mt_script.specs.declared.command.Newcomer.TheVariants.{Join}
-use Rattle.mt_replay_laws.specs.Headline.{CompleteUpdatesAreKept, IsCall, Keeps, NoneOf, RefusedUpdatesChangeNothing, next_era, stored_in, HasNewcomer, JoinsAreKept}
+use Rattle.mt_replay_laws.specs.Headline.{CompleteUpdatesAreKept, IsCall, KeepsUpdate, NoneOf, RefusedUpdatesChangeNothing, next_era, stored_in, HasNewcomer, JoinsAreKept}
 use Rattle.mt_replay.specs.Steps.{ScriptStep, last_of, left, wrote}
 use Rattle.mt_replay.specs.Kept.{IsReplayState, windows_of}
 use Rattle.mt_replay.specs.ReplayState.{ReplayState, call_fault, command_text, each_processor, is_update, machine_after, state_after, first_file, may_come}
@@ -27,7 +27,7 @@ use Rattle.mt_replay_laws.proofs.Courses.Newcomers.{comes_as_newcomer, newcomer_
 use Rattle.mt_replay_laws.proofs.Refusals.Joins.{after_join, held as join_held, join_line, no_windows, one_more as join_one_more, stays as join_stays, words as join_words}
 use Rattle.mt_replay_laws.specs.Settling.{AreHeld, AreWithoutCall, IsSettledAfter, state_after_all, stored_by, stored_by_all, IsWithoutCall}
 use Rattle.mt_replay.specs.Texts.{called_line, complete_line}
-use Rattle.mt_replay_laws.proofs.Courses.Steps.{GoesOn, course_is, in_front, kept_behind, stands_in}
+use Rattle.mt_replay_laws.proofs.Courses.Steps.{AreInTurn, course_is, in_front, kept_behind, stands_in}
 use Rattle.mt_replay_laws.proofs.Courses.Tells.{writes_complete, writes_refused, writes_under_way}
 use Rattle.mt_replay.proofs.Keeping.States.{state_kept}
 use Rattle.mt_replay_laws.proofs.Refusals.Calls.{accepted_calls, ends_idle}
@@ -72,18 +72,18 @@ no_call step h calls = (λ ends. one ends (call_fault step.before.machine step.b
     one ends None is =
         absurd (calls (inl (subst (λ (c : Command). (command_text step.before c ≡ called_line) ⊎ ((era : ℕ) × (command_text step.before c ≡ complete_line era))) (sym ends) (accepted_end step.before h is))))
 
-pub same_last : (steps : List ScriptStep) (s : ReplayState) → GoesOn s steps → state_after_all s (commands steps) ≡ last_of s steps
+pub same_last : (steps : List ScriptStep) (s : ReplayState) → AreInTurn s steps → state_after_all s (commands steps) ≡ last_of s steps
 same_last [] s on = refl
 same_last (step ∷ steps) s on =
     ap (λ (x : ReplayState). state_after_all (state_after x step.command) (commands steps)) (sym on.0) ∙ same_last steps (left step) on.2
 
-pub same_stored : (steps : List ScriptStep) (s : ReplayState) → GoesOn s steps → stored_by_all s (commands steps) ≡ stored_in steps
+pub same_stored : (steps : List ScriptStep) (s : ReplayState) → AreInTurn s steps → stored_by_all s (commands steps) ≡ stored_in steps
 same_stored [] s on = refl
 same_stored (step ∷ steps) s on =
     ap (λ (x : ReplayState). stored_by_all x (step.command ∷ commands steps)) (sym on.0)
     ∙ ap (λ (ws : List ℕ). option_map_or (λ a. a ∷ ws) (stored_by step.before step.command) ws) (same_stored steps (left step) on.2)
 
-pub without_call : (steps : List ScriptStep) (s : ReplayState) → IsReplayState s → GoesOn s steps → NoneOf IsCall steps → AreWithoutCall s (commands steps)
+pub without_call : (steps : List ScriptStep) (s : ReplayState) → IsReplayState s → AreInTurn s steps → NoneOf IsCall steps → AreWithoutCall s (commands steps)
 without_call [] s h on none = tt
 without_call (step ∷ steps) s h on none =
     let here : IsReplayState step.before = subst IsReplayState (sym on.0) h in
@@ -98,13 +98,13 @@ no_window now (command.Selfsnoop k) fits past = refl
 no_window now (command.Section End) fits past = refl
 no_window now other fits past = refl
 
-windows_stay : (steps : List ScriptStep) (s : ReplayState) → GoesOn s steps → takes_windows s.now.stage ≡ false → (last_of s steps).now.windows ≡ s.now.windows
+windows_stay : (steps : List ScriptStep) (s : ReplayState) → AreInTurn s steps → takes_windows s.now.stage ≡ false → (last_of s steps).now.windows ≡ s.now.windows
 windows_stay [] s on past = refl
 windows_stay (step ∷ steps) s on past =
     let here : takes_windows step.before.now.stage ≡ false = ap (λ (x : ReplayState). takes_windows x.now.stage) on.0 ∙ past in
     windows_stay steps (left step) on.2 (stays_past step.before.now step.command here) ∙ no_window step.before.now step.command on.1 here ∙ ap (λ (x : ReplayState). x.now.windows) on.0
 
-pub same_windows : (steps : List ScriptStep) (s : ReplayState) → IsReplayState s → GoesOn s steps → takes_windows s.now.stage ≡ false → (last_of s steps).machine.system.memory.windows ≡ s.machine.system.memory.windows
+pub same_windows : (steps : List ScriptStep) (s : ReplayState) → IsReplayState s → AreInTurn s steps → takes_windows s.now.stage ≡ false → (last_of s steps).machine.system.memory.windows ≡ s.machine.system.memory.windows
 same_windows steps s h on past =
     (kept_behind steps s h on).windows ∙ ap (λ (ws : List (ℕ × ℕ)). windows_of (record s.now { windows = ws })) (windows_stay steps s on past) ∙ sym h.windows
 
@@ -123,10 +123,10 @@ is_aligned m address some = one (place m address) refl some
 
 pub keeps : (goal : RegisterFile) (era : ℕ) (value : ℕ → ℕ) (stored : List ℕ) (m : Machine) → IsSettled m.system era goal
     → ((address : ℕ) → IsSome (place m.system.memory address) → (Contains stored address → ⊥) → word_at m.system.memory address ≡ value address)
-    → Keeps goal era value stored m
+    → KeepsUpdate goal era value stored m
 keeps goal era value stored m settled held = record { settled = settled; held = held }
 
-module _ (update : ScriptStep) (since : List ScriptStep) (h : IsReplayState update.before) (fits : Fits update.before.now update.command) (on : GoesOn (left update) since) (none : NoneOf IsCall since)
+module _ (update : ScriptStep) (since : List ScriptStep) (h : IsReplayState update.before) (fits : Fits update.before.now update.command) (on : AreInTurn (left update) since) (none : NoneOf IsCall since)
     (ends : update.command ≡ command.Section End) (section : is_update update.before.now.stage ≡ true) (accepts : call_fault update.before.machine update.before.goal ≡ None) where
   abbrev s : ReplayState
   s = update.before
@@ -166,7 +166,7 @@ module _ (update : ScriptStep) (since : List ScriptStep) (h : IsReplayState upda
       subst (λ (v : ReplayState × ℕ). IsSettled v.0.machine.system v.1 s.goal) (λ i. (last_is i, done.risen i)) (done.stays_settled (commands since) calls)
 
   complete_is : (wrote update ≡ complete_line (next_era update))
-      × Keeps s.goal (next_era update) (now (emptied s.machine.system (each_processor s.machine.system))) (stored_in since) (last_of (left update) since).machine
+      × KeepsUpdate s.goal (next_era update) (now (emptied s.machine.system (each_processor s.machine.system))) (stored_in since) (last_of (left update) since).machine
   complete_is = (
     ap (command_text s) ends ∙ done.line_is ∙ ap complete_line done.risen,
     keeps s.goal (next_era update) (now (emptied s.machine.system (each_processor s.machine.system))) (stored_in since) (last_of (left update) since).machine settled words,
@@ -180,7 +180,7 @@ complete_updates_are_kept text front since rest update era same wrote_it none =
 
 -- ---- a processor that joins
 
-module _ (join : ScriptStep) (since : List ScriptStep) (h : IsReplayState join.before) (fits : Fits join.before.now join.command) (on : GoesOn (left join) since) (none : NoneOf IsCall since)
+module _ (join : ScriptStep) (since : List ScriptStep) (h : IsReplayState join.before) (fits : Fits join.before.now join.command) (on : AreInTurn (left join) since) (none : NoneOf IsCall since)
     (is_join : join.command ≡ command.Newcomer Join) (may : may_come join.before.machine ≡ true) where
   abbrev was : ReplayState
   was = join.before
@@ -217,7 +217,7 @@ module _ (join : ScriptStep) (since : List ScriptStep) (h : IsReplayState join.b
       ∙ join_words was h may address (same_place (last_of (left join) since).machine.system.memory was.machine.system.memory address windows_since some)
 
   joined_is : HasNewcomer join
-      × Keeps (first_file was) (next_era join) (now (emptied (with_newcomer was.machine).system (each_processor (with_newcomer was.machine).system))) (stored_in since) (last_of (left join) since).machine
+      × KeepsUpdate (first_file was) (next_era join) (now (emptied (with_newcomer was.machine).system (each_processor (with_newcomer was.machine).system))) (stored_in since) (last_of (left join) since).machine
   joined_is = (
     record {
       number = ap (command_text was) is_join ∙ join_line was h may;

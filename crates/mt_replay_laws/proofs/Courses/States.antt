@@ -20,7 +20,7 @@ use Rattle.mt_replay.specs.ReplayState.{ReplayState, state_after}
 use Rattle.mt_replay.specs.Statuses.{BeginsWith}
 use Rattle.mt_replay.specs.Transcript.{transcript}
 use Rattle.mt_stream.specs.Transcript.{Transcript}
-use Rattle.mt_replay_laws.proofs.Courses.Steps.{GoesOn, IsOneLine, Leads, steps_go_on, whole}
+use Rattle.mt_replay_laws.proofs.Courses.Steps.{AreInTurn, IsOneLine, Leads, steps_go_on, whole}
 use Rattle.mt_replay.proofs.Refusals.Outcomes.{accepted_first}
 use Rattle.mt_replay_laws.proofs.ShownDump.{states_have_the_shown_dump}
 
@@ -90,7 +90,7 @@ no_line text begins (inl is) = offence_letter is.0 begins.0 (ap (λ (t : Transcr
 no_line text begins (inr is) = refused_letter is.0 is.1 is.2 begins.0 (ap (λ (t : Transcript). t.text) (sym is.3) ∙ begins.1)
 
 first_step : (b : Beginning) (step : ScriptStep) (rest : List ScriptStep) → steps_in b.number b.lines b.state ≡ step ∷ rest → step.before ≡ b.state
-first_step b step rest is = (subst (GoesOn b.state) is (steps_go_on b.number b.lines b.state)).0
+first_step b step rest is = (subst (AreInTurn b.state) is (steps_go_on b.number b.lines b.state)).0
 
 pub starts_as_the_dump_shows : StartsAsTheDumpShows
 starts_as_the_dump_shows text dump shows accepted = one (beginning text) (states_have_the_shown_dump text dump shows) (whole text)

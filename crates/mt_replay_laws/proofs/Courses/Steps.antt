@@ -40,32 +40,32 @@ use Rattle.mt_replay.proofs.Keeping.States.{command_known, state_kept}
 -- ---- chains
 
 -- these steps go on from this state, each where the one before it ended
-abbrev pub GoesOn : ReplayState → List ScriptStep → Type 0
-GoesOn s [] = Unit {0}
-GoesOn s (step ∷ steps) = (step.before ≡ s) × Fits step.before.now step.command × GoesOn (left step) steps
+abbrev pub AreInTurn : ReplayState → List ScriptStep → Type 0
+AreInTurn s [] = Unit {0}
+AreInTurn s (step ∷ steps) = (step.before ≡ s) × Fits step.before.now step.command × AreInTurn (left step) steps
 
-pub steps_go_on : (number : ℕ) (lines : List (List ℕ)) (s : ReplayState) → GoesOn s (steps_in number lines s)
+pub steps_go_on : (number : ℕ) (lines : List (List ℕ)) (s : ReplayState) → AreInTurn s (steps_in number lines s)
 steps_go_on number [] = λ s. tt
 steps_go_on number (line ∷ lines) = one (steps_go_on (number + 1) lines)
   where
-    one : ((s : ReplayState) → GoesOn s (steps_in (number + 1) lines s)) → (s : ReplayState) → GoesOn s (steps_in number (line ∷ lines) s)
+    one : ((s : ReplayState) → AreInTurn s (steps_in (number + 1) lines s)) → (s : ReplayState) → AreInTurn s (steps_in number (line ∷ lines) s)
     one later s = by (command_of s.now number line) refl
       where
-        by : (answer : Result Command ScriptFault) → command_of s.now number line ≡ answer → GoesOn s (steps_of s number (steps_in (number + 1) lines) answer)
+        by : (answer : Result Command ScriptFault) → command_of s.now number line ≡ answer → AreInTurn s (steps_of s number (steps_in (number + 1) lines) answer)
         by (Err fault) asked = tt
         by (Ok c) asked = (refl, command_known s.now number line c asked, later (state_after s c))
 
 -- the steps behind these
-pub behind_front : (front rest : List ScriptStep) (s : ReplayState) → GoesOn s (front ++ rest) → GoesOn (last_of s front) rest
+pub behind_front : (front rest : List ScriptStep) (s : ReplayState) → AreInTurn s (front ++ rest) → AreInTurn (last_of s front) rest
 behind_front [] rest s h = h
 behind_front (step ∷ front) rest s h = behind_front front rest (left step) h.2
 
-pub in_front : (front rest : List ScriptStep) (s : ReplayState) → GoesOn s (front ++ rest) → GoesOn s front
+pub in_front : (front rest : List ScriptStep) (s : ReplayState) → AreInTurn s (front ++ rest) → AreInTurn s front
 in_front [] rest s h = tt
 in_front (step ∷ front) rest s h = (h.0, h.1, in_front front rest (left step) h.2)
 
 -- what every state keeps holds behind them
-pub kept_behind : (steps : List ScriptStep) (s : ReplayState) → IsReplayState s → GoesOn s steps → IsReplayState (last_of s steps)
+pub kept_behind : (steps : List ScriptStep) (s : ReplayState) → IsReplayState s → AreInTurn s steps → IsReplayState (last_of s steps)
 kept_behind [] s h on = h
 kept_behind (step ∷ steps) s h on = kept_behind steps (left step) (state_kept step.before step.command (subst IsReplayState (sym on.0) h) on.1) on.2
 
@@ -174,7 +174,7 @@ pub record IsCourse (steps : List ScriptStep) : Type 0 where
   pub is : IsReplayState first
   pub no_order : first.machine.order ≡ None
   pub windows : takes_windows first.now.stage ≡ true
-  pub goes_on : GoesOn first steps
+  pub goes_on : AreInTurn first steps
 
 pub course_is : (text : List ℕ) (front rest : List ScriptStep) (step : ScriptStep) → course text ≡ front ++ step ∷ rest → IsCourse (front ++ step ∷ rest)
 course_is text front rest step same = one (beginning text) (whole text) same
@@ -185,13 +185,13 @@ course_is text front rest step same = one (beginning text) (whole text) same
 
     one : (o : Option Beginning) → Leads (end_of text) (script_offence text) (transcript text) o → steps_from o ≡ front ++ step ∷ rest → IsCourse (front ++ step ∷ rest)
     one None h e = absurd (none front e)
-    one (Some b) h e = record { first = b.state; is = h.is; no_order = h.no_order; windows = h.windows; goes_on = subst (GoesOn b.state) e (steps_go_on b.number b.lines b.state) }
+    one (Some b) h e = record { first = b.state; is = h.is; no_order = h.no_order; windows = h.windows; goes_on = subst (AreInTurn b.state) e (steps_go_on b.number b.lines b.state) }
 
 -- a step stands in its state, which is kept, and the steps behind go on from there
 pub record StandsIn (step : ScriptStep) (rest : List ScriptStep) : Type 0 where
   pub is : IsReplayState step.before
   pub fits : Fits step.before.now step.command
-  pub goes_on : GoesOn (left step) rest
+  pub goes_on : AreInTurn (left step) rest
 
 pub stands_in : (front rest : List ScriptStep) (step : ScriptStep) → IsCourse (front ++ step ∷ rest) → StandsIn step rest
 stands_in front rest step h =

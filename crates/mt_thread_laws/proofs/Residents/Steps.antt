@@ -18,7 +18,7 @@ use Rattle.mt_machine.proofs.Rows.{due_row, is_row}
 use Rattle.mt_cpu.specs.Steps.{is_local}
 use Rattle.mt_rendezvous.specs.declared.view.Key.{Key}
 use Rattle.mt_rendezvous.specs.declared.view.Start.{Start}
-use Rattle.mt_rendezvous.specs.Station.{Fits, order_of, start_of, in_first}
+use Rattle.mt_rendezvous.specs.Station.{FitsPhase, order_of, start_of, in_first}
 use Rattle.mt_rendezvous.specs.Plays.{own_event}
 use Rattle.mt_rendezvous.proofs.Local.{changing_fits, due_alone, local_changing}
 use Rattle.mt_private.specs.declared.view.Resident.{Resident}
@@ -26,7 +26,7 @@ use Rattle.mt_private.specs.declared.view.YardView.{YardView}
 use Rattle.mt_private.specs.Residents.{FitsResident, FitsYard}
 use Rattle.mt_private.specs.YardRule.{MeetsYard}
 use Rattle.mt_private.specs.YardLaws.{ComesOf, EachStepFollows, IsOneEvent, OfStep, YardState}
-use Rattle.mt_private.specs.YardPlays.{AccessesYard, ArrivesAgainYard, ArrivesYard, CancelsYard, GivesYard, OfSeat, PassesYard, ReleasesYard, TakesYard, Tells, WorksYard, YardSat, has_added, word_after}
+use Rattle.mt_private.specs.YardPlays.{AccessesYard, ArrivesAgainYard, ArrivesYard, CancelsYard, GivesYard, OfSeat, PassesYard, ReleasesYard, TakesYard, TellsYardStep, WorksYard, YardSat, has_added, word_after}
 use Rattle.mt_private.proofs.Residents.Barriers.{own_fits}
 use Rattle.mt_private.proofs.Residents.Plays.{add, add_again, add_late, first_low, go_out, miss, no_take, pass, release, second_low, sees, take, use_memory, wait, wait_again, work}
 use Rattle.mt_private.proofs.Residents.Roots.{cancelling, giving, said}

@@ -2,13 +2,13 @@ use Rattle.std.proofs.Common.{Ok, refl, ◌∙◌, ap, subst}
 use Rattle.std.proofs.lemmas.Result.{err_from_is_err_and}
 use Rattle.mt_dump.proofs.Counted.{comes_nearer, counts_line, counts_more, failed_on, stands_after, stands_on, still_on}
 use Rattle.mt_import.specs.Outcome.{ended_by, nothing_seen}
-use Rattle.mt_import.specs.Reader.{HasTaken, summary_in}
+use Rattle.mt_import.specs.Reader.{HasTakenFacts, summary_in}
 use Rattle.mt_import.specs.Readings.{starts}
 use Rattle.mt_import.proofs.Fed.{at_first, ends, goes_on, offends}
 use Rattle.mt_import.proofs.reader.read_lines.Goals as goal
 
 pub lines-init : goal.lines-init
-lines-init g c = record { reading = at_first c.args.choice c.args.supplied.now (g.S.Source.left c.args.source.now) (g.S.Source.given c.args.source.now) c.args.feed.now c.new-reader.result c.requires (subst (λ f. HasTaken c.new-reader.result (nothing_seen f)) c.format.ensures c.new-reader.ensures.taken) (c.new-reader.ensures.context ∙ ap starts c.format.ensures); stood = refl }
+lines-init g c = record { reading = at_first c.args.choice c.args.supplied.now (g.S.Source.left c.args.source.now) (g.S.Source.given c.args.source.now) c.args.feed.now c.new-reader.result c.requires (subst (λ f. HasTakenFacts c.new-reader.result (nothing_seen f)) c.format.ensures c.new-reader.ensures.taken) (c.new-reader.ensures.context ∙ ap starts c.format.ensures); stood = refl }
 
 pub returns-in_err-line-clause-consumed : goal.returns-in_err-line-clause-consumed
 returns-in_err-line-clause-consumed g c = (counts_line c.lines.invariant.reading.fed c.line.follows.lender-at-none (g.S.Source.left c.line.new.source) (g.S.Source.given c.line.new.source) c.line.result c.line.follows.holds-at-none).consumed

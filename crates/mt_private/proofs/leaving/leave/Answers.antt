@@ -1,7 +1,7 @@
 use Rattle.std.proofs.Common.{◌∙◌, sym, subst, ℕ}
 use Rattle.mt_machine.specs.System.{IsSound}
 use Rattle.mt_rendezvous.specs.Station.{start_of}
-use Rattle.mt_private.specs.Left.{AreBack, AreOwnsOf, Leaves}
+use Rattle.mt_private.specs.Left.{AreBack, AreOwnsOf, YardEnds}
 use Rattle.mt_private.proofs.Left.{leaves, owns_of, parts_there, sound_there, system_is, unvisited}
 use Rattle.mt_private.proofs.leaving.leave.Goals as goal
 
@@ -26,7 +26,7 @@ returns-clause-leaves c =
     let f = c.close_with-closed.ensures.values.2 in
     let back = subst (λ (n : ℕ). AreBack n c.args.host.seat.me.0 c.args.host.owns.items) (sym c.args.yard.counted) c.requires.back in
     let is = c.assembled.ensures ∙ system_is key f.0 f.1.0 _ _ f.1.1 c.args.host.owns.items back c.bring_all.new.room.cpus.items c.bring_all.new.room.ram c.args.host.rest.ram c.bring_all.ensures.processors c.bring_all.ensures.words c.requires.rest.words in
-    subst (Leaves (start_of key) c.args.host.seat.me.0) (sym is) (leaves key f.0 f.1.0 _ _ f.1.1 c.requires.hosts.1)
+    subst (YardEnds (start_of key) c.args.host.seat.me.0) (sym is) (leaves key f.0 f.1.0 _ _ f.1.1 c.requires.hosts.1)
 
 pub returns-clause-owns : goal.returns-clause-owns
 returns-clause-owns c =

@@ -1,7 +1,7 @@
 use Rattle.std.proofs.Common.{◌≡◌, ◌∙◌, ◌++◌, ap, inr, refl, sym, subst, [], None, Some, Ok, Err}
 use Rattle.mt_ports.specs.Puts.{AppendsFront}
 use Rattle.mt_stream.specs.declared.ending.Stop.TheVariants.{BadText, NoMemory}
-use Rattle.mt_output.specs.Writing.{Adds, Passes}
+use Rattle.mt_output.specs.Writing.{Adds, PassesOn}
 use Rattle.mt_output.proofs.Writing.{passes_nothing}
 use Rattle.mt_output.specs.Ports.{change, port}
 use Rattle.mt_proc.specs.After.{answer_text, asked}
@@ -29,7 +29,7 @@ returns-in-Ok-clause-bytes g c = λ cpus here each leads.
     (answer_text now c.in-Ok-Some.request) (in_requests (asked now c.in-Ok-Some.request))
     (leads_as cpus here (of_request now (request_of c.args.line.now.number c.args.line.now.bytes.now)) (of_request now (Ok (Some c.in-Ok-Some.request))) (ap (of_request now) (sym is)) leads)
     c.ask-answer.ensures.served tt (c.ask-answer.ensures.each ∙ each.0, c.ask-answer.ensures.serves)
-    (subst (λ l. Passes c.args.writer.now l c.write.new.self (g.K.Sink.taken c.args.sink.now) (g.K.Sink.taken c.write.new.sink)) text c.in-Ok.ensures.bytes)
+    (subst (λ l. PassesOn c.args.writer.now l c.write.new.self (g.K.Sink.taken c.args.sink.now) (g.K.Sink.taken c.write.new.sink)) text c.in-Ok.ensures.bytes)
 
 pub returns-in-Err-write-clause-bytes : goal.returns-in-Err-write-clause-bytes
 returns-in-Err-write-clause-bytes g c = λ cpus here each leads.

@@ -1,7 +1,7 @@
 use Rattle.std.proofs.Common.{◌∙◌, ◌+◌, ◌++◌, arith, sym, refl, subst, ap, ℕ, Some, Ok, Err}
 use Rattle.std.specs.Prelude.{Bool, Result}
 use Rattle.mt_ports.specs.Causes.{Rose}
-use Rattle.mt_text.specs.Feed.{Feeding, IsLong, Moves, taken}
+use Rattle.mt_text.specs.Feed.{Feeding, IsLong, FeedMoves, taken}
 use Rattle.mt_stream.specs.Handling.{ResultsOn}
 use Rattle.mt_stream.specs.Lines.{SinkHasCause, SourceHasCause, run_status, running}
 use Rattle.mt_stream.specs.declared.ending.Cut.{Cut}
@@ -31,7 +31,7 @@ lines-init g c = record {
 pub returns-in-Ok-false-clause-bytes : goal.returns-in-Ok-false-clause-bytes
 returns-in-Ok-false-clause-bytes g c = λ start at bytes known.
     let (more, takes, rises, next) = c.in-Ok-false.ensures.bytes in
-    let moves = subst (Moves c.lines.feed c.next_line.new.feed (c.lines.feed.pending ++ more) (g.S.Source.left c.next_line.new.source)) c.in-Ok-false.field-0-test next.0 in
+    let moves = subst (FeedMoves c.lines.feed c.next_line.new.feed (c.lines.feed.pending ++ more) (g.S.Source.left c.next_line.new.source)) c.in-Ok-false.field-0-test next.0 in
     subst (λ (r : Result Ended Cut). ResultsOn start (held bytes (g.S.Source.left c.next_line.new.source)) (port g.K.Sink.taken c.args.sink.now c.write_end.new.sink) (run_status r)) (sym c.closed.ensures)
     (closes _ start c.requires.laws bytes _ _ _ _ _ _ (g.K.Sink.taken c.write_end.new.sink) c.write_end.result
     (no_line _ start c.requires.laws bytes more _ (g.S.Source.left c.next_line.new.source) _ c.next_line.new.feed _ _ c.next_line.new.writer _ _ (g.K.Sink.taken c.next_line.new.sink) (c.lines.invariant.told start at bytes known) takes moves next.1)
@@ -53,7 +53,7 @@ returns-in-Ok-false-clause-sink g c =
 pub returns-in-Ok-false-clause-too_long : goal.returns-in-Ok-false-clause-too_long
 returns-in-Ok-false-clause-too_long g c =
     let (more, takes, rises, next) = c.in-Ok-false.ensures.bytes in
-    let moves = subst (Moves c.lines.feed c.next_line.new.feed (c.lines.feed.pending ++ more) (g.S.Source.left c.next_line.new.source)) c.in-Ok-false.field-0-test next.0 in
+    let moves = subst (FeedMoves c.lines.feed c.next_line.new.feed (c.lines.feed.pending ++ more) (g.S.Source.left c.next_line.new.source)) c.in-Ok-false.field-0-test next.0 in
     let same = unmoved_taken c.lines.feed c.next_line.new.feed more (g.S.Source.left c.next_line.new.source) moves in
     never_much (run_status c.closed.result) (g.S.Source.given c.args.source.now) (g.S.Source.given c.next_line.new.source) c.next_line.new.feed (λ is. (closed_others c.write_end.result).1 (ap run_status (sym c.closed.ensures) ∙ is))
     (omega (arith, c.lines.invariant.given, rises, same.0)) c.in-Ok-false.ensures.long (same.1 ∙ c.lines.invariant.no_fault)

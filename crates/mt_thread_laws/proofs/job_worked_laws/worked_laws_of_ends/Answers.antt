@@ -7,13 +7,13 @@ use Rattle.mt_private.specs.declared.job.Job.{Job}
 use Rattle.mt_private.specs.declared.job.JobAnswers.{JobAnswers}
 use Rattle.mt_private.specs.declared.view.Resident.{Resident}
 use Rattle.mt_private.specs.declared.visiting.Visited.TheVariants.{Complete}
-use Rattle.mt_private.specs.Left.{AreOwnsOf, Leaves}
+use Rattle.mt_private.specs.Left.{AreOwnsOf, YardEnds}
 use Rattle.mt_private.specs.OneByOne.{ran}
 use Rattle.mt_private.specs.Residents.{own_of}
 use Rattle.mt_private.specs.Visitors.{CameBack, Returned, own_at, pass_to, stay_at}
 use Rattle.mt_thread_laws.specs.WorkedWay.{HasNoAnswers, IsEmptyJob, last_seat, lone_host, released, seat_shown}
 use Rattle.mt_thread_laws.specs.WorkedYard.{alone}
-use Rattle.mt_private.specs.YardCalls.{Keeps, VisitEnds, updated_own}
+use Rattle.mt_private.specs.YardCalls.{KeepsOwn, VisitEnds, updated_own}
 use Rattle.mt_thread_laws.proofs.LoneGuest.{released_yard}
 use Rattle.mt_thread_laws.proofs.LoneSeats.{same_place}
 use Rattle.mt_thread_laws.proofs.job_worked_laws.worked_laws_of_ends.Goals as goal
@@ -59,14 +59,14 @@ each table job told is none zero j r at there =
     subst (λ (x : Job × JobAnswers). CameBack (lone_host table) x.0 0 kept x.1) (let a : job ≡ j = cc at in let b : told ≡ r = cc there in λ i. (a i, b i)) (came table job told is none)
 each table job told is none (suc k) j r at there = absurd (cc at)
 
-keeps : Keeps last_seat.0 kept
+keeps : KeepsOwn last_seat.0 kept
 keeps zero o at = let same : own_of released ≡ o = cc at in (0, released, refl, refl, same)
 keeps (suc k) o at = absurd (cc at)
 
 returned : (table : TableId) (job : Job) (told : JobAnswers) → IsEmptyJob job → HasNoAnswers told → Returned (lone_host table) (job ∷ []) kept (told ∷ [])
 returned table job told is none = record { root = (refl, refl, refl); size = refl; keeps = keeps; each = each table job told is none }
 
-leaves : Leaves alone last_seat.0 released_yard.0
+leaves : YardEnds alone last_seat.0 released_yard.0
 leaves = record { all = released ∷ []; first = 2; second = 1; yard = released_yard.1; same = same_place released refl refl; shown = λ e. absurd (cc e) }
 
 owns : AreOwnsOf alone kept released_yard.0

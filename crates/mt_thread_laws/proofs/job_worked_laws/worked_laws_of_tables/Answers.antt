@@ -11,7 +11,7 @@ use Rattle.mt_rendezvous.specs.declared.view.Key.{Key}
 use Rattle.mt_rendezvous.specs.declared.view.Start.{Start}
 use Rattle.mt_rendezvous.specs.Station.{start_of}
 use Rattle.mt_private.specs.declared.view.Resident.{Resident}
-use Rattle.mt_private.specs.Residents.{Follows, Opens, Yard, scene, move_of}
+use Rattle.mt_private.specs.Residents.{ResidentFollows, Opens, Yard, scene, move_of}
 use Rattle.mt_thread_laws.specs.WorkedWay.{guest, left, lone_pass, released, settled}
 use Rattle.mt_thread_laws.specs.WorkedYard.{first_lodged, first_state, first_taken, lodging, no_counts, split_state}
 use Rattle.mt_private.specs.YardLaws.{IsLoad}
@@ -38,7 +38,7 @@ split_meets key is = (splits key (first_state key) (opened_lodging key is) 0 (fi
 unsaid : (key : Key) (m : MeetsYard key (first_state key)) → m.go ≡ Pending
 unsaid key m = sym ((m.sits 0 (as_view (first_yard_view key)) refl).root refl).1
 
-took : (key : Key) (is : start_of key ≡ lodging) (m : MeetsYard key (split_state key)) → Follows (start_of key) (scene m.all m.go m.system) (move_of 0 first_taken (Some (Steps 0 Take))) 0 0
+took : (key : Key) (is : start_of key ≡ lodging) (m : MeetsYard key (split_state key)) → ResidentFollows (start_of key) (scene m.all m.go m.system) (move_of 0 first_taken (Some (Steps 0 Take))) 0 0
 took key is m =
     let at : get_elem? m.all 0 ≡ some first_lodged = m.same 1 (yard_right (first_yard_view key)) refl 0 first_lodged (ap (λ (ys : List Resident). get_elem? ys 0) (one_held key is)) in
     takes (start_of key) m.all m.go 0 0 m.system m.yard 0 first_lodged at refl refl (omega arith)

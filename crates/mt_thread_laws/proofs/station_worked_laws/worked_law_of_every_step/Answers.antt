@@ -4,21 +4,21 @@ use Rattle.atomic_table.specs.Table.{step}
 use Rattle.mt_machine.specs.declared.phase.Phase.TheVariants.{Arrived2}
 use Rattle.mt_rendezvous.specs.declared.view.Start.{Start}
 use Rattle.mt_rendezvous.specs.Station.{start_of}
-use Rattle.mt_rendezvous.specs.Plays.{Tells}
+use Rattle.mt_rendezvous.specs.Plays.{TellsSeatStep}
 use Rattle.mt_thread_laws.specs.WorkedLone.{again, arrived_again, changed, free, lone, pass_of, sits}
 use Rattle.mt_thread_laws.specs.WorkedStations.{bare}
 use Rattle.mt_thread_laws.proofs.LonePlays.{releases}
 use Rattle.mt_thread_laws.proofs.OnLone.{again_meets}
 use Rattle.mt_thread_laws.proofs.station_worked_laws.worked_law_of_every_step.Goals as goal
 
-tells : Tells (step 0 1 0 0 none) (sits lone again) 1 (bare (pass_of lone (Some 1) free))
+tells : TellsSeatStep (step 0 1 0 0 none) (sits lone again) 1 (bare (pass_of lone (Some 1) free))
 tells = (record { number = 0; cpu = changed Arrived2; holds = refl; phase = refl }, releases)
 
 pub returns-clause-released : goal.returns-clause-released
 returns-clause-released c = λ law key is. (
   again_meets key is,
   law key (arrived_again key) (again_meets key is) 1 1 0 (sits (start_of key) again) (bare (pass_of (start_of key) (Some 1) free)) refl
-      (subst (λ (t : Start). Tells (step 0 1 0 0 none) (sits t again) 1 (bare (pass_of t (Some 1) free))) (sym is) tells),
+      (subst (λ (t : Start). TellsSeatStep (step 0 1 0 0 none) (sits t again) 1 (bare (pass_of t (Some 1) free))) (sym is) tells),
 )
 
 pub returns-clause-shown : goal.returns-clause-shown

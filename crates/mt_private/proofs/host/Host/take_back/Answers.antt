@@ -6,7 +6,7 @@ use Rattle.mt_private.specs.declared.view.Resident.{Resident}
 use Rattle.mt_private.specs.declared.view.YardView.{YardView}
 use Rattle.mt_private.specs.Residents.{own_of}
 use Rattle.mt_private.specs.YardRule.{yard_both}
-use Rattle.mt_private.specs.YardCalls.{Keeps}
+use Rattle.mt_private.specs.YardCalls.{KeepsOwn}
 use Rattle.mt_private.proofs.Carried.{its_guest, own_is}
 use Rattle.mt_private.proofs.Lists.{at_put}
 use Rattle.mt_private.proofs.Residents.Seats.{joins_yard}
@@ -24,7 +24,7 @@ same_own : (a b : System) → Some a ≡ Some b → a ≡ b
 same_own a b e = cc
 
 -- the resident that came back is its first now
-kept_too : (v w : YardView) (owns : List (Option System)) (k : ℕ) (own : System) (y : Resident) → w.held ≡ y ∷ [] → y.held.number ≡ k → own_of y ≡ own → Keeps v owns → Keeps (yard_both v w) (set owns k (Some own))
+kept_too : (v w : YardView) (owns : List (Option System)) (k : ℕ) (own : System) (y : Resident) → w.held ≡ y ∷ [] → y.held.number ≡ k → own_of y ≡ own → KeepsOwn v owns → KeepsOwn (yard_both v w) (set owns k (Some own))
 kept_too v w owns k own y is number same old j o at =
     let held : (yard_both v w).held ≡ y ∷ v.held = ap (λ (ys : List Resident). ys ++ v.held) is in
     ⊎_elim
@@ -35,5 +35,5 @@ kept_too v w owns k own y is number same old j o at =
 pub returns-clause-keeps : goal.returns-clause-keeps
 returns-clause-keeps c old =
     let r = c.requires.lodges.1 in
-    subst (λ (v : YardView). Keeps v (set c.args.self.now.owns.items c.args.guest.pass.number (Some c.args.guest.own))) (sym (ap (λ m. m.0) c.join_seat.ensures.2))
+    subst (λ (v : YardView). KeepsOwn v (set c.args.self.now.owns.items c.args.guest.pass.number (Some c.args.guest.own))) (sym (ap (λ m. m.0) c.join_seat.ensures.2))
     (kept_too c.args.self.now.seat.me.0 c.args.guest.pass.seat.me.0 c.args.self.now.owns.items c.args.guest.pass.number c.args.guest.own (its_guest r) r.holds refl (own_is r) old)

@@ -1,7 +1,7 @@
 use Rattle.std.proofs.Common.{◌≡◌, ◌∙◌, ◌++◌, ap, sym, subst, List, ℕ, Err}
 use Rattle.mt_ports.specs.Puts.{AppendsFront}
 use Rattle.mt_ports.specs.declared.status.Status.TheVariants.{Done}
-use Rattle.mt_output.specs.Writing.{Passes}
+use Rattle.mt_output.specs.Writing.{PassesOn}
 use Rattle.mt_output.proofs.Writing.{fails_longer}
 use Rattle.mt_stream.specs.Lines.{Closes}
 use Rattle.mt_output.specs.Ports.{change}
@@ -22,7 +22,7 @@ returns-in-Ok-clause-bytes g c =
     let d = g.K.Sink.taken c.close-in-Ok.new.sink in
     let list : listing c.file.result.now ≡ listing now.file = ap listing c.file.ensures in
     let era : c.as_slice-in-Ok.result.now ≡ era_line now.count = c.as_slice-in-Ok.ensures.value ∙ c.era_line.ensures ∙ ap era_line c.count.ensures in
-    let passed : Passes c.args.writer.now (listing now.file) c.write_listing.new.writer a b = subst (λ (l : List ℕ). Passes c.args.writer.now l c.write_listing.new.writer a b) list c.in-Ok.ensures.bytes in
+    let passed : PassesOn c.args.writer.now (listing now.file) c.write_listing.new.writer a b = subst (λ (l : List ℕ). PassesOn c.args.writer.now l c.write_listing.new.writer a b) list c.in-Ok.ensures.bytes in
     let closes : Closes (transcript_with (era_line now.count) Done) c.write_listing.new.writer (change b d) c.close-in-Ok.result = subst (λ (l : List ℕ). Closes (transcript_with l Done) c.write_listing.new.writer (change b d) c.close-in-Ok.result) era c.close-in-Ok.ensures.bytes in
     subst (λ (r : Run). Closes (end_of_run r c.args.end) c.args.writer.now (change a d) c.close-in-Ok.result) (sym c.in-Requests.is)
     (closes_after c.args.writer.now (listing now.file) c.write_listing.new.writer (era_line now.count) Done c.close-in-Ok.result a b d passed closes)

@@ -8,7 +8,7 @@ use Rattle.mt_rendezvous.specs.declared.view.View.{View}
 use Rattle.mt_rendezvous.specs.declared.view.Start.{Start}
 use Rattle.mt_rendezvous.specs.Station.{held, start_of}
 use Rattle.mt_machine.specs.Machine.{is_changing, own_step}
-use Rattle.mt_rendezvous.specs.Plays.{Stands, does}
+use Rattle.mt_rendezvous.specs.Plays.{StandsInUpdate, does}
 use Rattle.mt_rendezvous.proofs.Told.{passes_told}
 use Rattle.mt_rendezvous.proofs.Carried.{carried, of_it}
 use Rattle.mt_rendezvous.specs.declared.view.Added.TheVariants.{Once}
@@ -40,7 +40,7 @@ shift-requires-then-found-station-clause-enabled g c =
     let long : length c.loop.self.seat.me.0.start.cpus ≡ length c.args.station.now.table.shared.key.cpus.value.items = ap (λ (u : Start). length u.cpus) r.told in
     let counted = c.args.station.now.counted in
     let is = c.if-found-station.true in
-    let passed = of_it r (λ u h. (h.cpu.phase ≡ Arrived) × Stands u Given h.number (does u Pass h).cpu) (tells.1 (omega arith)).2 in
+    let passed = of_it r (λ u h. (h.cpu.phase ≡ Arrived) × StandsInUpdate u Given h.number (does u Pass h).cpu) (tells.1 (omega arith)).2 in
     ap (is_shift Pass) passed.0
 
 pub returns-then-found-station-clause-waited : goal.returns-then-found-station-clause-waited
@@ -55,12 +55,12 @@ returns-then-found-station-clause-waited g c =
     let full = tells.1 (omega arith) in
     let moves = full.0 in
     let is = c.shift-then-found-station.ensures t.goal in
-    let passed = of_it r (λ u h. (h.cpu.phase ≡ Arrived) × Stands u Given h.number (does u Pass h).cpu) full.2 in (
+    let passed = of_it r (λ u h. (h.cpu.phase ≡ Arrived) × StandsInUpdate u Given h.number (does u Pass h).cpu) full.2 in (
       record {
         begins = c.requires.arrived.begins;
         carries = carried r _ _ c.shift-then-found-station.new.self Once (λ t. does t Pass) e.0 tells.0 (ap (λ (v : View). v.held) moves) (ap (λ (v : View). v.start) moves)
             (ap (λ (p : Processor). held c.loop.self.number p Once) (sym is));
-        stands = subst (Stands t Given c.loop.self.number) (sym is) passed.1;
+        stands = subst (StandsInUpdate t Given c.loop.self.number) (sym is) passed.1;
         between = ap (λ (p : Processor). is_changing p.phase) is;
       },
       is ∙ ap (λ (p : Processor). own_step t.goal Pass p) c.loop.invariant.cpu,
