@@ -52,8 +52,8 @@ fn call_accepted(core: &mut Core, goal: &RegFile)
     }
 }
 
-/// Brings one processor up, and calls an update to processor 0's registers, whose go is pending. The answer is the
-/// newcomer's number.
+/// Brings one processor up, and calls an update to processor 0's registers, whose go is pending. Returns the newcomer's
+/// number.
 ///
 /// # Errors
 ///
@@ -81,8 +81,7 @@ pub fn up(core: &mut Core) -> Result<u32, UpFault>
     Ok(k)
 }
 
-/// Brings one processor up and leads all through an update to processor 0's registers. The answer is the newcomer's
-/// number.
+/// Brings one processor up and leads all through an update to processor 0's registers. Returns the newcomer's number.
 ///
 /// # Errors
 ///
@@ -107,7 +106,7 @@ pub fn admit(core: &mut Core) -> Result<u32, UpFault>
 }
 
 /// Retires the last processor: its buffers are emptied, the oldest first, its dirty words are written to memory, and it
-/// is taken away. The answer is its number.
+/// is taken away. Returns its number.
 ///
 /// # Errors
 ///

@@ -1,4 +1,4 @@
--- The lines that the commands write, but for those of mt_output (own). Each ends with LF.
+-- The lines that the commands write, except those of mt_output (own). Each ends with LF.
 use Rattle.std.specs.Prelude.{ℕ, ◌-◌, ◌*◌, ◌/◌, ◌^◌, ◌<◌, ◌≤◌, ◌==◌, nat_lt, List, ◌++◌, codes, decimal, flat_map, if◌then◌else◌, Option, Some, None}
 use Rattle.mt_kinds.specs.Sizes.{page_bytes}
 use Rattle.mt_kinds.specs.declared.mem_type.MemType.{MemType}

@@ -13,11 +13,11 @@ use Rattle.mt_output.specs.Lines.{bad_text_line}
 use Rattle.mt_output.specs.Ports.{Held, Port}
 use Rattle.mt_output.specs.Written.{Writes}
 
--- The sink took a text that numbers determine, or a front of it, or nothing for want of memory.
+-- The sink took a text that numbers determine, or a prefix of it, or nothing if an allocation failed.
 abbrev pub Makes : List ℕ → Option (List ℕ) → Option (List ℕ) → Status → Type 0
 Makes text old new result = Writes text Done old new result ⊎ ((result ≡ NoMemory) × (new ≡ old))
 
--- The sink took an answer, or a front of one, or nothing for want of memory. Which texts and statuses are an answer is given.
+-- The sink took an answer, or a prefix of one, or nothing if an allocation failed. Which texts and statuses are an answer is given.
 pub data Answers (answer : List ℕ → Status → Type 0) (old new : Option (List ℕ)) (result : Status) : Type 0 where
   writes : (text : List ℕ) (status : Status) → answer text status → Writes text status old new result → Answers answer old new result
   no_memory : result ≡ NoMemory → new ≡ old → Answers answer old new result

@@ -140,7 +140,7 @@ fn grained<K: Sink>(
     }
 }
 
-// Writes what a command answers, and returns the status. Fails with the first refusal if the command isn't `show`
+// Writes the answer of a command, and returns the status. Fails with the first refusal if the command isn't `show`
 // and a file isn't accepted, and then writes nothing.
 fn answer_or_refuse<K: Sink>(
     alloc: Global,

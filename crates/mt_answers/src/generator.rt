@@ -50,7 +50,7 @@ fn append_access(text: &mut String, x: u64) -> Result<(), AllocError>
     }
 }
 
-// Adds 512 accesses, and answers the number behind them.
+// Adds 512 accesses, and returns the number behind them.
 fn append_accesses(text: &mut String, first: u64) -> Result<u64, AllocError>
     ensures { IfOk result (λ x. (string_bytes text.new ≡ string_bytes text.old ++ accesses 512 first) × (x ≡ after_accesses 512 first)) }
 {
@@ -76,7 +76,7 @@ fn round_value(round: u64) -> &'static str
     }
 }
 
-// Adds a round, and answers the number behind it.
+// Adds a round, and returns the number behind it.
 fn append_round(text: &mut String, round: u64, first: u64) -> Result<u64, AllocError>
     ensures { IfOk result (λ x. (string_bytes text.new ≡ string_bytes text.old ++ round_text round first) × (x ≡ after_accesses 512 first)) }
 {

@@ -37,8 +37,8 @@ pub extern "C" fn mtrr_is_file(registers: &PlainRegisters) -> bool
     is_file(registers)
 }
 
-/// The first fault: 0 where there is none, 1 where it was written, and 2 where the words are no register file's.
-/// `fault` is written where the answer is 1 alone.
+/// Returns 0 if the file has no fault, 1 if its first fault was written, and 2 if the words are no register file's.
+/// `fault` is written at 1 alone.
 #[unsafe(no_mangle)]
 pub extern "C" fn mtrr_first_fault(registers: &PlainRegisters, fault: &mut PlainFault) -> u32
     ensures refused { is_file registers.now ≡ false → (result ≡ 2) × (fault.new ≡ fault.old) }
@@ -48,8 +48,8 @@ pub extern "C" fn mtrr_first_fault(registers: &PlainRegisters, fault: &mut Plain
     first_fault(registers, fault)
 }
 
-/// The type that the MTRRs give a page: 0 where its byte was written, 2 where the words are no register file's, 3 where
-/// there is no such page, and 4 where the page has no defined type. `kind` is written where the answer is 0 alone.
+/// Returns 0 if the byte of the page's type by the MTRRs was written, and 2 if the words are no register file's.
+/// Returns 3 if there is no such page, and 4 if it has no defined type. `kind` is written at 0 alone.
 #[unsafe(no_mangle)]
 pub extern "C" fn mtrr_page_type(registers: &PlainRegisters, page: u64, kind: &mut u32) -> u32
     ensures status { result ≡ page_status registers.now page }
@@ -58,8 +58,8 @@ pub extern "C" fn mtrr_page_type(registers: &PlainRegisters, page: u64, kind: &m
     page_type(registers, page, kind)
 }
 
-/// The type in effect for a page whose mapping chooses this entry of the PAT, 0 to 7. The answers are those of
-/// `mtrr_page_type`, and 5 where there is no such entry.
+/// Does what `mtrr_page_type` does, for the type in effect if the page's mapping chooses this entry of the PAT. Also
+/// returns 5 if there is no such entry: they are 0 to 7.
 #[unsafe(no_mangle)]
 pub extern "C" fn mtrr_effective_type(
     registers: &PlainRegisters,
@@ -73,9 +73,9 @@ pub extern "C" fn mtrr_effective_type(
     effective_type(registers, page, index, kind)
 }
 
-/// The type map: its runs in ascending order, and how many there are. 0 where all were written, 6 where the array has
-/// room for the first of them alone, 2 where the words are no register file's, and 1 where a register is at fault by
-/// itself. What stands behind the runs is as before; where the answer is 1 or 2, so are the array and the count.
+/// Writes the type map: its runs in ascending order, and how many there are. Returns 0 if all were written, and 6 if the
+/// array has room only for the first of them. Returns 2 if the words are no register file's, and 1 if a register is at
+/// fault by itself. The array behind the runs is as before; at 1 and 2 so are the whole array and the count.
 #[unsafe(no_mangle)]
 pub extern "C" fn mtrr_type_map(
     registers: &PlainRegisters,
@@ -88,9 +88,9 @@ pub extern "C" fn mtrr_type_map(
     type_map(registers, runs, count)
 }
 
-/// What a processor does next in an update: 0 where the step was written, 7 where nothing is due, as it waits at a
-/// barrier or takes no part, and 8 where there is no such phase or word of the coordinator's, or a flag is above 1. `step`
-/// is written where the answer is 0 alone.
+/// Writes what a processor does next in an update. Returns 0 if the step was written, and 7 if nothing is due, since the
+/// processor waits at a barrier or takes no part. Returns 8 if there is no such phase or word of the coordinator's, or a
+/// flag is above 1. `step` is written at 0 alone.
 #[unsafe(no_mangle)]
 pub extern "C" fn mtrr_due(
     update: &PlainUpdate,
@@ -107,8 +107,8 @@ pub extern "C" fn mtrr_due(
 }
 
 /// Books a step that was carried out: what the barriers count, where the processor stands, and whether it is through.
-/// 0 where the step was the one that is due, and update and processor were changed; 12 where it isn't, and 8 where there
-/// is no such phase or word of the coordinator's, or a flag is above 1: then both are as before.
+/// Returns 0 if the step is the one that is due: update and processor are then changed. Else both are as before:
+/// returns 12, or 8 if there is no such phase or word of the coordinator's, or a flag is above 1.
 #[unsafe(no_mangle)]
 pub extern "C" fn mtrr_did(
     update: &mut PlainUpdate,
@@ -122,11 +122,11 @@ pub extern "C" fn mtrr_did(
     did(update, processor, step)
 }
 
-/// The file with the same type for each page and the fewest valid pairs, of which the larger of two that share a page has
-/// at most `chunk` bytes; `spare` pairs stay unused. 0 where it was written to `tidied`, with the number of its pairs and
-/// how many may be used, 2 where the words are no register file's, 1 where the file has a fault, 9 where its ranges are
-/// off, and 10 where more pairs are needed than may be used: both numbers are written. What isn't written is as before.
-/// The contents of `work` may be any, and any afterwards.
+/// Writes the file that gives each page the same type with the fewest valid pairs. Of two pairs that share a page the
+/// larger has at most `chunk` bytes. `spare` pairs stay unused. Returns 0 if the file was written to `tidied`, and to
+/// `need` the number of its pairs and how many may be used. Returns 10 if more pairs are needed than may be used: then
+/// `need` alone is written. Returns 2 if the words are no register file's, 1 if the file has a fault, and 9 if its ranges
+/// are off: then nothing is written. The contents of `work` may be any, and any afterwards.
 #[unsafe(no_mangle)]
 pub extern "C" fn mtrr_tidy(
     registers: &PlainRegisters,
@@ -143,11 +143,11 @@ pub extern "C" fn mtrr_tidy(
     tidy(registers, spare, chunk, work, tidied, need)
 }
 
-/// The file with the types rounded to granules of `size` bytes and the fewest valid pairs, as `mtrr_tidy` has it for the
-/// types as they are, and what is lost: how many pages had WB and have UC, and the parts, which are the longest runs of
-/// pages of one type other than UC that have UC. 0 where all was written, 6 where the array has room for the first of the
-/// parts alone; else 2 where the words are no register file's, 11 where the size isn't a power of two from 4 KB to 1 TB,
-/// 1, 9 and 10 as of `mtrr_tidy`. What isn't written is as before. The contents of `work` may be any, and any afterwards.
+/// Does what `mtrr_tidy` does, for the types rounded to granules of `size` bytes, and writes what is lost. `loss` gets how many
+/// pages had WB and get UC, and how many parts there are. `parts` gets the longest runs of pages of one type other than
+/// UC that get UC. Returns 0 if all was written, and 6 if `parts` has room only for the first of them. Else returns 2 if
+/// the words are no register file's, 11 if the size isn't a power of two from 4 KB to 1 TB, and 1, 9 or 10 as `mtrr_tidy`
+/// does. What isn't written is as before. The contents of `work` may be any, and any afterwards.
 #[unsafe(no_mangle)]
 pub extern "C" fn mtrr_gran(
     registers: &PlainRegisters,

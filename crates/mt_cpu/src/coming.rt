@@ -13,7 +13,7 @@ impl Cpu {
     ///
     /// # Errors
     ///
-    /// There is no memory for it.
+    /// Fails if an allocation fails.
     pub fn come_up(alloc: Global, maxphy: u8, cap: u64, era: u64) -> Result<Cpu, NoMemory>
         requires wide { 32 ≤ maxphy }
         requires narrow { maxphy ≤ 52 }

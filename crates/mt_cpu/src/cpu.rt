@@ -44,7 +44,7 @@ impl Cpu {
     ///
     /// # Errors
     ///
-    /// There is no memory for it.
+    /// Fails if an allocation fails.
     pub fn new(alloc: Global, regs: RegFile) -> Result<Cpu, NoMemory>
         requires { IsAccepted regs }
         ensures { IfOk result (λ cpu. cpu ≡ start_processor regs) }
@@ -169,8 +169,8 @@ impl Cpu {
         &mut self.state.buffers
     }
 
-    /// Sets the mapping of a page, and leaves the TLB alone. The error comes where the page has
-    /// no mapping and 64 others stand; nothing then changes.
+    /// Sets the mapping of a page, and leaves the TLB alone. Fails if the page has no mapping and 64
+    /// others have one; nothing then changes.
     pub fn map(&mut self, x: Mapping) -> Result<(), Full>
         requires index { x.index < 8 }
         requires page { x.ppage < page_count self.old.file }

@@ -117,7 +117,8 @@ impl<'a> Marked for Compared<'a> {
 }
 
 /// The longest runs of pages whose types differ in two files, each with its two types, in ascending order. No register of the
-/// files is at fault by itself. A page beyond the width of one of them differs, since it has no type there. Memory is the one error.
+/// files is at fault by itself. A page beyond the width of one of them differs, since it has no type there. Fails only if
+/// an allocation fails.
 pub fn type_changes(
     alloc: Global,
     old: &RegFile,

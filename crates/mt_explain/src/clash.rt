@@ -54,7 +54,7 @@ impl<'a> Marked for Clashing<'a> {
 }
 
 /// The longest runs of pages that have no defined type and that the same pairs match, in ascending order, of a file none of whose
-/// registers is at fault by itself. Memory is the one error.
+/// registers is at fault by itself. Fails only if an allocation fails.
 pub fn clashes(alloc: Global, f: &RegFile) -> Result<Vec<Clash>, AllocError>
     requires { register_fault f.now ≡ None }
     ensures { IfOk result (λ clashes. AreClashes f.now clashes.items) }

@@ -168,7 +168,7 @@ fn add_faults(
 }
 
 /// Every fault that a register has by itself: registers in ascending order, each with all its faults. There is none if and only if
-/// the first fault of the file, if it has one, is an undefined overlap. Memory is the one error.
+/// the first fault of the file, if it has one, is an undefined overlap. Fails only if an allocation fails.
 pub fn field_faults(alloc: Global, f: &RegFile) -> Result<Vec<FieldFault>, AllocError>
     ensures faults { IfOk result (λ list. list.items ≡ field_faults f.now) }
     ensures lawful { IfOk result (λ list. (list.items ≡ []) ↔ (register_fault f.now ≡ None)) }

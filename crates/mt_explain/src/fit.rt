@@ -83,7 +83,7 @@ impl<'a> Marked for ByChunk<'a> {
     }
 }
 
-/// The longest runs of places at which a list has one number, in ascending order. Memory is the one error.
+/// The longest runs of places at which a list has one number, in ascending order. Fails only if an allocation fails.
 pub fn steps(alloc: Global, numbers: &[u64]) -> Result<Vec<Span<u64>>, AllocError>
     ensures { IfOk result (λ steps. AreSpans (slice_get numbers.now) 0 (length numbers.now) steps.items) }
 {

@@ -15,7 +15,7 @@ fn same_value(a: Option<u64>, b: Option<u64>) -> bool
 }
 
 /// The registers whose values differ in two files, each with both values, in ascending order of their numbers: the capability
-/// register and the writable ones. Memory is the one error.
+/// register and the writable ones. Fails only if an allocation fails.
 pub fn differences(
     alloc: Global,
     old: &RegFile,

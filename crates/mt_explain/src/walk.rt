@@ -30,7 +30,7 @@ fn span_from<M: Marked>(m: &M, first: u64, mark: M::Mark) -> Span<M::Mark>
     }
 }
 
-/// The longest runs of pages that have one mark, in ascending order. Memory is the one error.
+/// The longest runs of pages that have one mark, in ascending order. Fails only if an allocation fails.
 pub(crate) fn spans<M: Marked>(alloc: Global, m: &M) -> Result<Vec<Span<M::Mark>>, AllocError>
     requires { M.is_checked m.now }
     ensures { IfOk result (λ spans. AreSpans (M.marks m.now) 0 (M.size m.now) spans.items) }

@@ -17,16 +17,16 @@ use mt_tidy::{NO_RUN, PackedRun, PackedRuns, Tidied, TooFew, WorkArea, fit, own_
 #[derive(Drop)]
 pub struct Grained {
     pub tidied: Tidied,
-    /// How many pages had WB and have UC now.
+    /// How many pages had WB and get UC.
     pub lost: u64,
-    /// The longest runs of pages of one type other than UC that have UC now, in ascending order.
+    /// The longest runs of pages of one type other than UC that get UC, in ascending order.
     pub parts: RunList<306>,
 }
 
 /// What a rounding loses, where the parts are left in a work area.
 #[derive(Clone, Copy, Drop)]
 pub struct Lost {
-    /// How many pages had WB and have UC now.
+    /// How many pages had WB and get UC.
     pub pages: u64,
     /// How many parts there are, in the first places of the area's `wanted`.
     pub parts: usize,

@@ -31,7 +31,7 @@ fn last_of(list: &[PackedRun], count: usize) -> Option<Run>
     }
 }
 
-// Puts a run behind so many others, and answers how many there are then.
+// Puts a run behind so many others, and returns how many there are then.
 fn put(list: &mut [PackedRun], count: usize, run: Run) -> usize
     requires { count < length list.old }
     ensures runs { runs_in result list.new ≡ runs_in count list.old ++ run ∷ [] }
@@ -42,7 +42,7 @@ fn put(list: &mut [PackedRun], count: usize, run: Run) -> usize
     count + 1
 }
 
-/// Adds the pages from one up to another to so many runs, which end at or before the first of them, and answers how many
+/// Adds the pages from one up to another to so many runs, which end at or before the first of them, and returns how many
 /// runs there are then. They join the last run where it ends there and has their type.
 pub fn add(list: &mut [PackedRun], count: usize, first: u64, end: u64, kind: PageType) -> usize
     requires order { first ≤ end }

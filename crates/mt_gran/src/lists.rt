@@ -15,7 +15,7 @@ use mt_types::Run;
 
 const UNCACHEABLE: PageType = PageType::Kind(MemType::UC);
 
-// Adds the rounded types of a run's pages to so many runs, and answers how many there are then.
+// Adds the rounded types of a run's pages to so many runs, and returns how many there are then.
 fn add_rounded(list: &mut [PackedRun], count: usize, f: &RegFile, run: &Run, g: u8) -> usize
     requires size { g ≤ 28 }
     requires run { IsWholeRun f.now run.now }
@@ -32,7 +32,7 @@ fn add_rounded(list: &mut [PackedRun], count: usize, f: &RegFile, run: &Run, g: 
     add(list, count, cut.whole_to, cut.end, UNCACHEABLE)
 }
 
-// Adds the pages of a run that lose its type to so many runs, and answers how many there are then.
+// Adds the pages of a run that lose its type to so many runs, and returns how many there are then.
 fn add_lost(list: &mut [PackedRun], count: usize, f: &RegFile, run: &Run, g: u8) -> usize
     requires size { g ≤ 28 }
     requires run { IsWholeRun f.now run.now }
@@ -51,7 +51,7 @@ fn add_lost(list: &mut [PackedRun], count: usize, f: &RegFile, run: &Run, g: u8)
 }
 
 /// Writes the type map of the rounded types, from the type map of an accepted file, to the first places of an array, and
-/// answers how many runs it has.
+/// returns how many runs it has.
 pub fn rounded_runs(f: &RegFile, own: &PackedRuns, g: u8, list: &mut [PackedRun]) -> usize
     requires size { g ≤ 28 }
     requires accepted { IsAccepted f.now }
@@ -70,7 +70,7 @@ pub fn rounded_runs(f: &RegFile, own: &PackedRuns, g: u8, list: &mut [PackedRun]
 }
 
 /// Writes the longest runs of pages that lose one type, from the type map of an accepted file, to the first places of an
-/// array, and answers how many there are.
+/// array, and returns how many there are.
 pub fn lost_parts(f: &RegFile, own: &PackedRuns, g: u8, list: &mut [PackedRun]) -> usize
     requires size { g ≤ 28 }
     requires accepted { IsAccepted f.now }

@@ -168,7 +168,7 @@ without_enable f = record f { default_type = if is_bit_set f.default_type 11 the
 abbrev pub with_goal : RegisterFile → Register → RegisterFile → RegisterFile
 with_goal goal r f = with_value f r (value_of goal r)
 
--- the processor after an event, but for the buffers that Take empties and the memory word that WriteBack writes
+-- the processor after an event, except for the buffers that Take empties and the memory word that WriteBack writes
 abbrev pub own_step : RegisterFile → Event → Processor → Processor
 own_step goal Take p = record p { phase = Taken }
 own_step goal Arrive p = record p { phase = Arrived }

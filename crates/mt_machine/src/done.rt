@@ -1,6 +1,6 @@
 use mt_kinds::MemType;
 
-/// What an access is answered. How a run of the program ends is another thing: `Status` of mt_ports, whose `Done` is none of these.
+/// What an access returns. How a program ends is a `Status` of mt_ports, whose `Done` has nothing to do with this.
 #[derive(Clone, Copy, Debug, PartialEq, Eq)]
 pub enum Done {
     /// The value that was loaded, and the memory type of the access.

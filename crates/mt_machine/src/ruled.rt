@@ -1,4 +1,4 @@
-/// What a control instruction is answered.
+/// What a control instruction returns.
 #[derive(Clone, Copy, Debug, PartialEq, Eq)]
 pub enum Ruled {
     Okay,

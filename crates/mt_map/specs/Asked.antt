@@ -136,7 +136,7 @@ own_text (Some Picture) = None
 own_text (Some Help) = Some help_text
 own_text (Some Version) = Some version_text
 
--- nothing is read but for a picture
+-- nothing is read, except for a picture
 abbrev pub left_of : Option Asked → List ℕ → List ℕ
 left_of None bytes = bytes
 left_of (Some Picture) bytes = []

@@ -64,7 +64,7 @@ pub data Output (asked : Option Asked) (bytes : List ℕ) : List ℕ → Status 
 
 -- ---- a run
 
--- The sink took an output or a front of it, or nothing for want of memory. Which texts and statuses are an output is given.
+-- The sink took an output or a prefix of it, or nothing if an allocation failed. Which texts and statuses are an output is given.
 pub data TellsOutput (output : List ℕ → Status → Type 0) (old new : Option (List ℕ)) (result : Status) : Type 0 where
   writes : (text : List ℕ) (status : Status) → output text status → Writes text status old new result → TellsOutput output old new result
   no_memory : result ≡ NoMemory → new ≡ old → TellsOutput output old new result

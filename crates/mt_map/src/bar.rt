@@ -1,7 +1,8 @@
 use mt_kinds::MemType;
 
-/// The bar of the pages from page `first` on up to page `end`. `place` counts the bars of the file in front of it. `number` is that of the PhysBase register of a valid pair,
-/// `base` and `mask` are the values of its registers, and `kind` is its type; the bar of the fixed-range registers has no type, and zeros for values. It is on where the MTRRs are.
+/// The bar of the pages from page `first` on up to page `end`. `place` counts the bars of the file before it. For a valid
+/// pair `number` is that of its PhysBase register, `base` and `mask` are the values of its registers, and `kind` is its
+/// type. The bar of the fixed-range registers has no type, and 0 for both values. `is_on` says whether the MTRRs are on.
 #[derive(Clone, Copy, Default)]
 pub struct Bar {
     pub place: u32,

@@ -101,7 +101,7 @@ fn band_end(f: &RegFile, others: &[RegFile], first: u64) -> u64
 }
 
 /// The ends of the bands: the pages at which a type changes or a bar begins or ends, in a file and in the second one, and
-/// the end of the address space, in ascending order. `NoMemory` is the one error.
+/// the end of the address space, in ascending order. Fails only if an allocation fails.
 pub fn cuts(alloc: Global, f: &RegFile, others: &[RegFile]) -> Result<Vec<u64>, NoMemory>
     requires checked { register_fault f.now ≡ None }
     requires others_checked { All (λ g. register_fault g ≡ None) others.now }

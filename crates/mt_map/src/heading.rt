@@ -1,4 +1,4 @@
-ghost use Rattle.std.specs.Prelude.{◌≡◌, ◌≤◌, ◌^◌, IfSome, length};
+ghost use Rattle.std.specs.Prelude.{◌≡◌, ◌≤◌, IfSome, length};
 ghost use Rattle.std.specs.List.{filter};
 ghost use Rattle.mt_map.specs.Bands.{is_different};
 ghost use Rattle.mt_ranges.specs.Match.{is_valid};
@@ -8,7 +8,7 @@ use crate::drawing::{append_box, append_label, append_rule, is_different};
 use crate::labels::escaped;
 use crate::layout::Layout;
 use crate::names::{first_name, second_name};
-use crate::ranges::{are_fixed_on, bars};
+use crate::ranges::are_fixed_on;
 use crate::shaping::default_of;
 use crate::{Band, Legend, Names, Rect};
 use mt_output::{accepted_line, dump_refused_line};
@@ -30,21 +30,23 @@ fn compared_text(alloc: Global, count: usize) -> Result<String, AllocError> {
     }
 }
 
-fn title(alloc: Global, others: &[RegFile], bands: &[Band]) -> Result<String, AllocError> {
+// The line that every picture has. A title that the user gives is its caption.
+fn headline(alloc: Global, others: &[RegFile], bands: &[Band]) -> Result<String, AllocError> {
     match others {
         [] => String::from_str(alloc, "Memory types"),
         [_, ..] => compared_text(alloc, different_count(bands)),
     }
 }
 
-pub(crate) fn append_title(
+/// Adds the headline.
+pub(crate) fn append_headline(
     alloc: Global,
     text: &mut String,
     others: &[RegFile],
     bands: &[Band],
 ) -> Result<(), AllocError> {
-    let title = title(alloc, others, bands)?;
-    append_label(text, "title", 12, 28, title.as_str())
+    let headline = headline(alloc, others, bands)?;
+    append_label(text, "title", 12, 28, headline.as_str())
 }
 
 fn accepted_text(alloc: Global) -> Result<Vec<u8>, AllocError> {
@@ -192,66 +194,6 @@ pub(crate) fn append_keys(text: &mut String) -> Result<(), AllocError> {
     append_key(text, 462, "undefined", "undefined")?;
     append_key(text, 572, "fixed", "fixed ranges")?;
     Ok(())
-}
-
-// How wide the bars of a file are, or their head where that is wider.
-fn group_width(f: &RegFile) -> u64
-    ensures few { result ≤ 1140 }
-{
-    (32 * bars(f).len() as u64).max(96) + 24
-}
-
-fn second_width(others: &[RegFile]) -> u64
-    ensures few { result ≤ 1140 }
-{
-    match others {
-        [] => 0,
-        [other, ..] => group_width(other),
-    }
-}
-
-fn value_lines(f: &RegFile, others: &[RegFile]) -> u64
-    ensures few { result ≤ 33 }
-{
-    let count = bars(f).len() as u64;
-    match others {
-        [] => count,
-        [other, ..] => count.max(bars(other).len() as u64),
-    }
-}
-
-fn caption_height(title: Option<&[u8]>) -> u64
-    ensures few { result ≤ 24 }
-{
-    match title {
-        None => 0,
-        Some(_) => 24,
-    }
-}
-
-// How wide a caption is at most, but for very wide letters.
-fn title_width(title: Option<&[u8]>) -> u64 {
-    match title {
-        None => 0,
-        Some(title) => 24 + 11 * title.len().min(80) as u64,
-    }
-}
-
-/// Where the parts of a picture stand whose rows end at this bottom.
-pub(crate) fn layout(f: &RegFile, others: &[RegFile], title: Option<&[u8]>, bottom: u64) -> Layout
-    requires { bottom ≤ 2 ^ 50 }
-{
-    let first_bar = if others.is_empty() { 442 } else { 566 };
-    let second_bar = first_bar + group_width(f);
-    let width = (second_bar + second_width(others)).max(700);
-    Layout {
-        bottom,
-        first_bar,
-        second_bar,
-        width: width.max(title_width(title)),
-        height: bottom + 212 + 16 * value_lines(f, others) + caption_height(title),
-        has_caption: title.is_some(),
-    }
 }
 
 fn append_pairs_head(text: &mut String, x: u64, name: &str) -> Result<(), AllocError> {

@@ -7,9 +7,9 @@ ghost use Rattle.mt_map.specs.Shapes.{AreRowsOf, shapes_of};
 
 use crate::edges::cuts;
 use crate::heading::{
-    append_files, append_heads, append_keys, append_title, caption_text, layout, verdict_text,
+    append_files, append_headline, append_heads, append_keys, caption_text, verdict_text,
 };
-use crate::layout::Layout;
+use crate::layout::{Layout, layout};
 use crate::rows::append_rows;
 use crate::shaping::shapes;
 use crate::stack::{Stack, bands};
@@ -27,8 +27,8 @@ pub struct Picture {
     pub shapes: Vec<Shape>,
 }
 
-/// The picture of a file beside a second one, if there is one. Both have address spaces of one size. `NoMemory` is the
-/// one error.
+/// The picture of a file beside a second one, if there is one. Both have address spaces of one size. Fails only if an
+/// allocation fails.
 pub fn picture_of_files(alloc: Global, f: &RegFile, others: &[RegFile]) -> Result<Picture, NoMemory>
     requires checked { register_fault f.now ≡ None }
     requires others_checked { All (λ g. register_fault g ≡ None) others.now }
@@ -44,7 +44,7 @@ pub fn picture_of_files(alloc: Global, f: &RegFile, others: &[RegFile]) -> Resul
     Ok(Picture { stack, shapes })
 }
 
-/// What a picture says besides of its files.
+/// What a picture says beside what its files say.
 #[derive(Clone, Copy)]
 pub struct Legend<'a> {
     /// The caption, in UTF-8, if there is one.
@@ -79,10 +79,14 @@ fn body_text(
     Ok(text)
 }
 
-// The title, in front of the verdict.
-fn title_text(alloc: Global, others: &[RegFile], picture: &Picture) -> Result<String, AllocError> {
+// The headline, in front of the verdict.
+fn headline_text(
+    alloc: Global,
+    others: &[RegFile],
+    picture: &Picture,
+) -> Result<String, AllocError> {
     let mut text = String::new(alloc);
-    append_title(alloc, &mut text, others, picture.stack.bands.as_slice())?;
+    append_headline(alloc, &mut text, others, picture.stack.bands.as_slice())?;
     Ok(text)
 }
 
@@ -102,7 +106,7 @@ pub fn picture_text(
     let body = body_text(alloc, legend.names, (f, others), &layout, picture)?;
     let mut text = head_text(alloc, &layout)?.into_bytes();
     text.extend_from_slice(caption_text(alloc, legend.title)?.as_slice())?;
-    text.extend_from_slice(title_text(alloc, others, picture)?.as_bytes())?;
+    text.extend_from_slice(headline_text(alloc, others, picture)?.as_bytes())?;
     text.extend_from_slice(verdict_text(alloc, legend)?.as_slice())?;
     text.extend_from_slice(body.as_bytes())?;
     Ok(text)

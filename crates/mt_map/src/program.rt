@@ -46,7 +46,7 @@ fn run<R: AllocGlobal, S: Source, K: Sink>(
     }
 }
 
-/// Does all that the program does with its arguments, and answers what it ends with: the number of
+/// Does all that the program does with its arguments, and returns what it ends with: the number of
 /// the status. The words of the command line are the arguments but the first.
 pub fn program_status<R: AllocGlobal, S: Source, K: Sink>(
     rt: &R,

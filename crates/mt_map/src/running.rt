@@ -88,7 +88,7 @@ fn names_of(d: &Dump, labels: Labels<'_>, k: u32) -> Names {
     }
 }
 
-/// The picture of a dump. `NoMemory` is the one error.
+/// The picture of a dump. Fails only if an allocation fails.
 pub fn picture_of(alloc: Global, d: &Dump, labels: Labels<'_>) -> Result<Vec<u8>, NoMemory>
     requires { CanBeDrawn d.now }
 {
@@ -168,7 +168,7 @@ pub fn map<S: Source, K: Sink>(
     ensures maps { (bytes : List ℕ) → S.left source.old ≡ Some bytes →
         Maps asked (held bytes (S.left source.new)) (port K.taken sink.old sink.new) result }
 
-    // Nothing is read but for a picture.
+    // Nothing is read, except for a picture.
     ensures unread { asked ≢ Some Picture → source.new ≡ source.old }
 
     // A port that failed did so once, and the status is its fault; at every other status none failed.

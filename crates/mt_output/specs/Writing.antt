@@ -1,5 +1,5 @@
 -- What a call that adds a text to waiting bytes leaves in the sink.
---     Passes waiting text left before after      bytes went to the sink, in order, and the rest waits
+--     PassesOn waiting text left before after      bytes went to the sink, in order, and the rest waits
 --     Adds text waiting sink result      what each result of the call says
 use Rattle.std.specs.Prelude.{◌≡◌, ℕ, List, ◌++◌, Option, Result, MatchResult}
 use Rattle.std.specs.Io.KnownBytes.{Appends}

@@ -3,21 +3,10 @@ ghost use Rattle.mt_plain.specs.Plain.{effective_kind, effective_number, effecti
 ghost use Rattle.mt_regs.specs.Faults.{IsFirstFault};
 ghost use Rattle.mt_regs.specs.declared.fault.Fault.{Fault};
 
+use crate::status::{DONE, FAULT, NO_ENTRY, NO_FILE, NO_PAGE, UNDEFINED};
 use crate::{PlainFault, PlainRegisters, file_of};
 use mt_kinds::{Pat, effective};
 use mt_regs::{Fault, PageType, Reason};
-
-pub(crate) const DONE: u32 = 0;
-
-pub(crate) const FAULT: u32 = 1;
-
-pub(crate) const NO_FILE: u32 = 2;
-
-const NO_PAGE: u32 = 3;
-
-const UNDEFINED: u32 = 4;
-
-const NO_ENTRY: u32 = 5;
 
 fn reason_number(reason: Reason) -> u32
     ensures { result ≡ reason_number reason }
@@ -96,8 +85,8 @@ fn effective_kind(kind: PageType, pat: u64, index: u8) -> PageType
     }
 }
 
-/// The type in effect for a page whose mapping chooses this entry of the PAT, 0 to 7. The answers are those of
-/// `page_type`, and 5 where there is no such entry.
+/// Does what `page_type` does, for the type in effect if the page's mapping chooses this entry of the PAT. Also
+/// returns 5 if there is no such entry: they are 0 to 7.
 pub fn effective_type(r: &PlainRegisters, page: u64, index: u32, kind: &mut u32) -> u32
     ensures status { result ≡ effective_status r.now page index }
     ensures number { kind.new ≡ effective_number r.now page index kind.old }

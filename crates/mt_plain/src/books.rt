@@ -1,15 +1,12 @@
 ghost use Rattle.std.specs.Prelude.{◌≡◌, true};
 ghost use Rattle.mt_plain.specs.Did.{can_count, counted, finished_after, is_event, kept, moved};
 
-use crate::answers::DONE;
 use crate::next_step::{
-    NO_PHASE, due_event, event_number, event_place, go_of, phase_after, phase_number, phase_of,
-    phase_place,
+    due_event, event_number, event_place, go_of, phase_after, phase_number, phase_of, phase_place,
 };
+use crate::status::{DONE, NO_PHASE, NOT_DUE};
 use crate::{PlainProcessor, PlainStep, PlainUpdate};
 use mt_machine::{Event, Phase};
-
-const NOT_DUE: u32 = 12;
 
 fn is_event(step: &PlainStep, event: Event) -> bool
     ensures { result ≡ is_event step.now event }

@@ -1,4 +1,4 @@
-//! A register file as plain words of fixed widths, and questions to it that numbers answer: what C can hold and pass.
+//! A register file as plain numbers of fixed widths, and calls on it that return numbers: what C can hold and pass.
 #![tactic(auto)]
 
 mod answers;
@@ -9,6 +9,7 @@ mod maps;
 mod next_step;
 mod plain;
 mod rounded;
+mod status;
 mod tidied;
 mod turn;
 mod worked;

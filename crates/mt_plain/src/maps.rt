@@ -3,12 +3,10 @@ ghost use Rattle.mt_plain.specs.Maps.{IsMapIn, has_map, is_of_one_register, kind
 ghost use Rattle.mt_plain.specs.Plain.{file_in};
 ghost use Rattle.mt_regs.specs.Faults.{register_fault};
 
-use crate::answers::{DONE, FAULT, NO_FILE};
+use crate::status::{DONE, FAULT, NO_FILE, NO_ROOM};
 use crate::{PlainRegisters, PlainRun, file_of};
 use mt_regs::{PageType, Reason, RegFile};
 use mt_types::Run;
-
-pub(crate) const NO_ROOM: u32 = 6;
 
 const NO_TYPE: u32 = 255;
 
@@ -70,7 +68,7 @@ fn run_between(first: u64, end: u64, kind: PageType) -> PlainRun
     })
 }
 
-// Writes the type map, as far as the array goes, and answers how many runs it has.
+// Writes the type map, as far as the array goes, and returns how many runs it has.
 fn put_map(f: &RegFile, runs: &mut [PlainRun]) -> usize
     requires { register_fault f.now ≡ None }
     ensures { IsMapIn f.now runs.old runs.new result }
@@ -102,9 +100,9 @@ pub(crate) fn room_status(room: usize, count: usize) -> u32
     if count <= room { DONE } else { NO_ROOM }
 }
 
-/// The type map: its runs in ascending order, and how many there are. 0 where all were written, 6 where the array has
-/// room for the first of them alone, 2 where the words are no register file's, and 1 where a register is at fault by
-/// itself. What stands behind the runs is as before; where the answer is 1 or 2, so are the array and the count.
+/// Writes the type map: its runs in ascending order, and how many there are. Returns 0 if all were written, and 6 if the
+/// array has room only for the first of them. Returns 2 if the words are no register file's, and 1 if a register is at
+/// fault by itself. The array behind the runs is as before; at 1 and 2 so are the whole array and the count.
 pub fn type_map(r: &PlainRegisters, runs: &mut [PlainRun], count: &mut usize) -> u32
     ensures refused { has_map r.now ≡ false → (result ≡ no_map_status r.now) × (runs.new ≡ runs.old) × (count.new ≡ count.old) }
     ensures map { has_map r.now ≡ true → IsMapIn (file_in r.now) runs.old runs.new count.new × (result ≡ map_status (length runs.old) count.new) }

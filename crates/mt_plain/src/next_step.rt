@@ -5,13 +5,9 @@ ghost use Rattle.mt_machine.specs.System.{Processor};
 ghost use Rattle.mt_plain.specs.Due.{IsTold, due_event, due_status, due_step, event_number, event_place, event_words, go_of, has_flags, phase_after, phase_number, phase_of, phase_place, whole_flush};
 ghost use Rattle.mt_regs.specs.RegisterFile.{RegisterFile};
 
-use crate::answers::DONE;
+use crate::status::{DONE, NO_PHASE, WAITS};
 use crate::{PlainProcessor, PlainStep, PlainUpdate};
 use mt_machine::{Event, Go, Phase};
-
-const WAITS: u32 = 7;
-
-pub(crate) const NO_PHASE: u32 = 8;
 
 fn has_flags(p: &PlainProcessor) -> bool
     ensures { result ≡ has_flags p.now }
@@ -181,9 +177,9 @@ pub(crate) fn phase_after(event: Event, phase: Phase) -> Phase
     }
 }
 
-/// What a processor does next in an update: 0 where the step was written, 7 where nothing is due, as it waits at a
-/// barrier or takes no part, and 8 where there is no such phase or word of the coordinator's, or a flag is above 1. `step`
-/// is written where the answer is 0 alone.
+/// Writes what a processor does next in an update. Returns 0 if the step was written, and 7 if nothing is due, since the
+/// processor waits at a barrier or takes no part. Returns 8 if there is no such phase or word of the coordinator's, or a
+/// flag is above 1. `step` is written at 0 alone.
 pub fn due(u: &PlainUpdate, p: &PlainProcessor, step: &mut PlainStep) -> u32
     ensures status { result ≡ due_status u.now p.now }
     ensures step { step.new ≡ due_step u.now p.now step.old }

@@ -35,7 +35,7 @@ pub struct PlainRun {
     pub kind: u32,
 }
 
-/// How many pages had WB and have UC now, and how many parts lose a type.
+/// How many pages had WB and get UC, and how many parts lose a type.
 #[repr(C)]
 #[derive(Clone, Copy)]
 pub struct PlainLoss {

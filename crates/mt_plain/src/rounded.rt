@@ -5,14 +5,12 @@ ghost use Rattle.mt_plain.specs.Plain.{file_in, is_file};
 ghost use Rattle.mt_plain.specs.Rounding.{IsGranAnswer, places};
 ghost use Rattle.mt_tidy.specs.Tidied.{tidying};
 
-use crate::answers::{DONE, FAULT, NO_FILE};
 use crate::maps::{put_run, room_status, run_words};
-use crate::tidied::{DISABLED, TOO_FEW, put_words, usable_pairs};
+use crate::status::{DISABLED, FAULT, NO_FILE, NO_GRANULE, TOO_FEW};
+use crate::tidied::{put_words, usable_pairs};
 use crate::{PlainLoss, PlainNeed, PlainRegisters, PlainRun, file_of};
 use mt_gran::{GranFault, Lost, gran_in, granule_log};
 use mt_tidy::{PackedRuns, WorkArea};
-
-const NO_GRANULE: u32 = 11;
 
 // Writes runs to an array, as far as it goes.
 fn put_runs(from: &PackedRuns, to: &mut [PlainRun])
@@ -23,11 +21,11 @@ fn put_runs(from: &PackedRuns, to: &mut [PlainRun])
     }
 }
 
-/// The file with the types rounded to granules of `size` bytes and the fewest valid pairs, as `tidy` has it for the types
-/// as they are, and what is lost: how many pages had WB and have UC, and the parts, which are the longest runs of pages
-/// of one type other than UC that have UC. 0 where all was written, 6 where the array has room for the first of the parts
-/// alone; else 2 where the words are no register file's, 11 where the size isn't a power of two from 4 KB to 1 TB, 1, 9
-/// and 10 as of `tidy`. What isn't written is as before. The contents of `work` may be any, and any afterwards.
+/// Does what `tidy` does, for the types rounded to granules of `size` bytes, and writes what is lost. `loss` gets how many
+/// pages had WB and get UC, and how many parts there are. `parts` gets the longest runs of pages of one type other than
+/// UC that get UC. Returns 0 if all was written, and 6 if `parts` has room only for the first of them. Else returns 2 if
+/// the words are no register file's, 11 if the size isn't a power of two from 4 KB to 1 TB, and 1, 9 or 10 as `tidy`
+/// does. What isn't written is as before. The contents of `work` may be any, and any afterwards.
 pub fn gran(
     r: &PlainRegisters,
     size: u64,

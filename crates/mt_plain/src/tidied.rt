@@ -5,14 +5,10 @@ ghost use Rattle.mt_plain.specs.Tidying.{IsTidyAnswer, tidy_places};
 ghost use Rattle.mt_regs.specs.RegisterFile.{pair_count};
 ghost use Rattle.mt_tidy.specs.Tidied.{tidying};
 
-use crate::answers::{DONE, FAULT, NO_FILE};
+use crate::status::{DISABLED, DONE, FAULT, NO_FILE, TOO_FEW};
 use crate::{PlainNeed, PlainPair, PlainRegisters, file_of};
 use mt_regs::RegFile;
 use mt_tidy::{TidyFault, WorkArea, tidy as tidied_file};
-
-pub(crate) const DISABLED: u32 = 9;
-
-pub(crate) const TOO_FEW: u32 = 10;
 
 const ZEROS: PlainPair = PlainPair { base: 0, mask: 0 };
 
@@ -70,11 +66,11 @@ pub(crate) fn usable_pairs(f: &RegFile, spare: u8) -> u64
     (f.pairs.len() as u64).saturating_sub(spare as u64)
 }
 
-/// The file with the same type for each page and the fewest valid pairs, of which the larger of two that share a page has
-/// at most `chunk` bytes; `spare` pairs stay unused. 0 where it was written to `tidied`, with the number of its pairs and
-/// how many may be used, 2 where the words are no register file's, 1 where the file has a fault, 9 where its ranges are
-/// off, and 10 where more pairs are needed than may be used: both numbers are written. What isn't written is as before.
-/// The contents of `work` may be any, and any afterwards.
+/// Writes the file that gives each page the same type with the fewest valid pairs. Of two pairs that share a page the
+/// larger has at most `chunk` bytes. `spare` pairs stay unused. Returns 0 if the file was written to `tidied`, and to
+/// `need` the number of its pairs and how many may be used. Returns 10 if more pairs are needed than may be used: then
+/// `need` alone is written. Returns 2 if the words are no register file's, 1 if the file has a fault, and 9 if its ranges
+/// are off: then nothing is written. The contents of `work` may be any, and any afterwards.
 pub fn tidy(
     r: &PlainRegisters,
     spare: u8,

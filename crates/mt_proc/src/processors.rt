@@ -37,7 +37,7 @@ impl Model for Processors {
     ghost invariant = { λ p. Serves p.core };
 }
 
-// A line that was put together of a text and a number.
+// The line of a text and a number.
 fn numbered_line(text: &[u8], n: u32) -> LineBuffer
     requires { length text.now ≤ 20 }
     ensures { result.items ≡ line (text.now ++ decimal n) }
@@ -79,7 +79,7 @@ fn refusal(fault: CallFault) -> Fault
     }
 }
 
-// Updates all processors to a goal, or answers its first fault.
+// Updates all processors to a goal, or returns its first fault.
 fn update<R: Threads + Wait + Sync, G: Gate>(
     caller: &Caller<R, G>,
     alloc: Global,
@@ -136,7 +136,7 @@ impl Processors {
         self.core.system().cpus()[0].era()
     }
 
-    // Does what a request asks for, and answers what is written of it.
+    // Does what a request asks for, and returns what is written of it.
     fn change<R: Threads + Wait + Sync, G: Gate>(
         &mut self,
         caller: &Caller<R, G>,

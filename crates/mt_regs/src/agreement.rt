@@ -42,7 +42,7 @@ impl RegFile {
     }
 }
 
-/// The least number of a file that isn't the first one, and the first writable register in which it differs.
+/// The least number of a file that isn't equal to file 0, and the first writable register in which it differs.
 pub fn first_difference(files: &[RegFile]) -> Option<(u32, u32)>
     requires few { length files.now < 2 ^ 32 }
     requires one_kind { AreOfOneKind files.now }
@@ -58,12 +58,12 @@ pub fn first_difference(files: &[RegFile]) -> Option<(u32, u32)>
     None
 }
 
-/// Where no file is refused each is accepted; and the file that is refused is the first that isn't.
+/// If no file is refused, each is accepted. A file that is refused is the first that isn't accepted.
 pub fn a_first_refusal_is_the_least()
     ensures { (files : List RegisterFile) → MatchOption (first_refusal files) (All IsAccepted files) (λ found. IsFirstRefusal files found.0 found.1) }
 {}
 
-/// Where no file differs all are equal; and the one that differs is the first that does, in the least register.
+/// If no file differs, all are equal. A file that differs is the first that does, in its least register that does.
 pub fn a_first_difference_is_the_least()
     ensures { (files : List RegisterFile) → All IsRegisterFile files → AreOfOneKind files → MatchOption (first_difference files) (AreEqual files) (λ found. IsFirstDifference files found.0 found.1) }
 {}

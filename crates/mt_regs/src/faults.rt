@@ -122,7 +122,7 @@ impl RegFile {
         None
     }
 
-    /// The first fault. There is none exactly where the file is accepted.
+    /// The first fault. Returns `None` if and only if the file is accepted.
     pub fn first_fault(&self) -> Option<Fault>
         ensures { IsFirstFault self.now result }
     {

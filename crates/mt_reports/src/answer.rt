@@ -5,6 +5,7 @@ use crate::names::register_name;
 use crate::page::{page_report, page_text};
 use crate::{Given, NoReport};
 use mt_explain::Unfit;
+use mt_kinds::PAGE_BYTES;
 use serde::Serialize;
 use std::alloc::Global;
 
@@ -58,7 +59,7 @@ pub fn page_answer(
     form: Form,
 ) -> Result<Answer, NoReport> {
     let f = given.dump.first_file();
-    if address / 4096 >= f.pages() {
+    if address / PAGE_BYTES >= f.pages() {
         return Err(NoReport::NoPage(f.maxphy));
     }
     let report = page_report(alloc, file, given, address)?;

@@ -105,10 +105,7 @@ fn register_texts(
 }
 
 fn name_of(kind: Option<PageType>) -> Option<&'static str> {
-    match kind {
-        Some(kind) => Some(kind_name(kind)),
-        None => None,
-    }
+    Some(kind_name(kind?))
 }
 
 fn change_text(alloc: Global, run: &Span<TypeChange>) -> Result<ChangeText, AllocError> {

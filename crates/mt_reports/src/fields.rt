@@ -1,7 +1,7 @@
 ghost use Rattle.std.specs.Prelude.{◌<◌};
 
 use crate::texts::first_address;
-use mt_kinds::{MemType, PatType, byte_at, is_bit_set};
+use mt_kinds::{MemType, PAGE_BYTES, PatType, byte_at, is_bit_set};
 use mt_ranges::block_of;
 use mt_regs::{CAPABILITIES, DEFAULT_TYPE, PAT, RegFile};
 use serde::Serialize;
@@ -85,7 +85,7 @@ fn base_fields(alloc: Global, value: u64) -> Result<Vec<FieldText>, AllocError> 
     let mut fields = Vec::new(alloc);
     fields.push(FieldText {
         name: "base",
-        value: first_address(alloc, value / 4096)?,
+        value: first_address(alloc, value / PAGE_BYTES)?,
     })?;
     fields.push(field(alloc, "type", type_name((value & 0xff) as u8))?)?;
     Ok(fields)

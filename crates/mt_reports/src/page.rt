@@ -3,7 +3,7 @@ use crate::texts::{
     PairText, RegisterText, append_pairs, append_register, pair_texts, register_text,
 };
 use mt_explain::{Decision, Rule, decide, effective_types, field_faults};
-use mt_kinds::Pat;
+use mt_kinds::{PAGE_BYTES, Pat};
 use mt_regs::{DEFAULT_TYPE, PAT, PageType, RegFile};
 use serde::Serialize;
 use std::alloc::{AllocError, Global};
@@ -180,7 +180,7 @@ pub fn page_report<'a>(
     let mut undefined = false;
     let mut found = false;
     for (k, f) in given.dump.files.as_slice().iter().enumerate() {
-        let cpu = cpu_page(alloc, k as u32, f, address / 4096)?;
+        let cpu = cpu_page(alloc, k as u32, f, address / PAGE_BYTES)?;
         undefined = undefined || cpu.effective.is_empty();
         found = found || cpu.effective.is_empty() || cpu.at_fault;
         cpus.push(cpu)?;

@@ -1,4 +1,5 @@
 use crate::names::register_name;
+use mt_kinds::PAGE_BYTES;
 use mt_ranges::block_of;
 use mt_regs::{FIRST_PAIR, RegFile, pair_type};
 use serde::Serialize;
@@ -26,13 +27,13 @@ pub struct PairText {
 
 /// The address of the first byte of a page.
 pub fn first_address(alloc: Global, page: u64) -> Result<String, AllocError> {
-    let address = page.saturating_mul(4096);
+    let address = page.saturating_mul(PAGE_BYTES);
     format!(in alloc; "{address:013x}")
 }
 
 /// The address of the last byte before a page.
 pub fn last_address(alloc: Global, end: u64) -> Result<String, AllocError> {
-    let address = end.saturating_mul(4096).saturating_sub(1);
+    let address = end.saturating_mul(PAGE_BYTES).saturating_sub(1);
     format!(in alloc; "{address:013x}")
 }
 

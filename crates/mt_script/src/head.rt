@@ -6,10 +6,10 @@ ghost use Rattle.mt_script.specs.Situation.{Situation, at_start};
 ghost use Rattle.mt_script.specs.Stages.{is_in_dump};
 ghost use Rattle.mt_script.specs.Head.{TakesLine, dump_step, end_step, head_step, offends, shows};
 
-use crate::name::is_in_dump;
+use crate::first_place::first_place;
 use crate::number::fault;
 use crate::read::ends_dump;
-use crate::token::first_place;
+use crate::table::is_in_dump;
 use crate::{Offence, ScriptReason, Setup, read_command};
 use mt_dump::{Dump, DumpReader};
 use mt_text::{Line, Place};

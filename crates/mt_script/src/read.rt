@@ -9,7 +9,6 @@ ghost use Rattle.mt_script.specs.Words.{text_of};
 ghost use Rattle.mt_dump.specs.Line.{is_word};
 ghost use Rattle.mt_script.specs.declared.fault.ScriptReason.TheVariants.{BadLine};
 
-use crate::name::{is_word, row_of, stands, takes_commands};
 use crate::number::{
     MOST_CPUS, any, base_at, count_at, fault, physical_at, processor_at, register_at, value_at,
     virtual_at, writable,
@@ -17,6 +16,7 @@ use crate::number::{
 use crate::room::has_room;
 use crate::row::{AskVerb, Verb};
 use crate::shape::shape_fault;
+use crate::table::{is_word, row_of, stands, takes_commands};
 use crate::{Ask, Command, Mapped, ScriptFault, ScriptReason, Section, Setup, Stage};
 use mt_kinds::{MOST_LINES, PAGE_BYTES, WORD_BYTES};
 use mt_text::{Line, Place, Words, hex64, without_ending};

@@ -185,7 +185,7 @@ pub record LastLine : Type 0 where
 abbrev pub last_line : Stop → Bool → LastLine
 last_line stop is_last = record { stop = stop; is_last = is_last }
 
--- Nothing more is read behind the last line or for want of memory, and else all that is left.
+-- Nothing more is read behind the last line or if memory was refused, and else all that is left.
 abbrev pub Drops : LastLine → Read → Status → Type 0
 Drops line source result =
     ((result ≡ stop_status line.stop) × ((line.is_last ≡ true) ⊎ (line.stop ≡ stopped.NoMemory)) × (source.more ≡ []))

@@ -74,7 +74,7 @@ impl Feed {
         (self.offset + self.buffer.pending().len()) as u64
     }
 
-    /// The fault that a call has answered.
+    /// The fault that a call has returned.
     pub fn fault(&self) -> Option<FeedFault>
         ensures value { result ≡ self.now.fault }
         ensures long { (result ≡ Some FeedFault.TooLong) ↔ (longest_input < taken self.now) }
@@ -83,7 +83,7 @@ impl Feed {
     }
 
     /// The place of the first pending byte, which is the place after the last byte where the last
-    /// `line` answered that there is none.
+    /// `line` returned that there is none.
     pub fn end(&self) -> Place
         ensures { result ≡ self.now.place }
     {
@@ -157,7 +157,7 @@ impl Feed {
         }
     }
 
-    /// Moves on to the next line, and says whether there is one. After a fault each call answers that
+    /// Moves on to the next line, and says whether there is one. After a fault each call returns that
     /// fault, and the source isn't asked.
     #[inline(always)]
     pub fn advance<S: Source>(&mut self, source: &mut S) -> Result<bool, FeedFault>
@@ -186,7 +186,7 @@ impl Feed {
 
     /// The next line, which lies in the buffer. A line of more than 4,096 bytes is lent in its first
     /// 4,097, and the next call goes on behind them under the same number. After a fault each call
-    /// answers that fault, and the source isn't asked.
+    /// returns that fault, and the source isn't asked.
     #[inline(always)]
     pub fn line<S: Source>(&mut self, source: &mut S) -> Result<Option<Line<'_>>, FeedFault>
         ensures* after_borrow { sem 𝓛 (Rests the_row self.entry (λ new. Lines self.old new (drawn S.left S.given source.old source.new) result)) }

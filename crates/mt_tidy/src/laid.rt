@@ -75,7 +75,7 @@ fn next_choice(search: &Search, b: &Block, table: &mut CostTable) -> Choice
     }
 }
 
-// Adds the range of a choice for a divided block, and answers what is then left for the halves.
+// Adds the range of a choice for a divided block, and returns what is then left for the halves.
 fn begin_with(choice: Choice, b: &Block, x: Context, out: &mut ArrayVec<Range, 32>) -> Context
     requires room { (k : Task) × (h : Context → Option ℕ) × IsChoice k b.now.log h choice × HasRoom (divided k b.now.log h x) out.old.items }
     ensures context { result ≡ context_with x (range_at choice x) }
@@ -91,7 +91,7 @@ fn begin_with(choice: Choice, b: &Block, x: Context, out: &mut ArrayVec<Range, 3
     }
 }
 
-// Adds the range that is chosen for a block of which some pages want one type and some another, and answers what is then
+// Adds the range that is chosen for a block of which some pages want one type and some another, and returns what is then
 // left for the halves.
 #[inline(never)] // so that `lay_in` takes little stack
 fn begin_over(
@@ -117,7 +117,7 @@ fn begin_over(
     begin_with(choice, b, x, out)
 }
 
-// Adds the range of a block whose pages want one type, but for where the context leaves it.
+// Adds the range of a block whose pages want one type, unless the context leaves them that type.
 fn put_whole(rules: &Rules, b: &Block, x: Context, t: MemType, out: &mut ArrayVec<Range, 32>)
     requires { HasRoom (only_cost rules.now.default t x) out.old.items }
     ensures { out.new.items ≡ out.old.items ++ ranges_on b.now.first b.now.log (if leaves_type rules.now.default x t then None else Some t) }

@@ -32,7 +32,7 @@ pub fn first_ranged(f: &RegFile) -> u64
 }
 
 /// Writes the type map to the first places of an array, with the type of page `from` in place of those of the pages below
-/// it, and answers how many runs it has.
+/// it, and returns how many runs it has.
 pub fn map_from(f: &RegFile, from: u64, runs: &mut [PackedRun]) -> usize
     requires checked { register_fault f.now ≡ None }
     requires from { from < page_count f.now }
@@ -72,7 +72,7 @@ pub fn are_defined(runs: &PackedRuns) -> bool
     true
 }
 
-/// Writes the type map of an accepted file, which ranges can give it, to the first places of an array, and answers how
+/// Writes the type map of an accepted file, which ranges can give it, to the first places of an array, and returns how
 /// many runs it has. It takes no memory.
 pub fn own_runs_in(f: &RegFile, runs: &mut [PackedRun]) -> usize
     requires accepted { IsAccepted f.now }

@@ -88,8 +88,8 @@ impl Maps {
         self.look_up(vpage)
     }
 
-    /// Replaces the mapping of a page in its place, or adds it at the end. The error comes where
-    /// the page has no mapping and 64 others stand; nothing then changes.
+    /// Replaces the mapping of a page in its place, or adds it at the end. Fails if the page has no
+    /// mapping and 64 others have one; nothing then changes.
     pub fn set(&mut self, x: Mapping) -> Result<(), Full>
         ensures full { is_err result ≡ is_full_for x self.old }
         ensures done { OnOk result (self.new ≡ set_mapping x self.old) }

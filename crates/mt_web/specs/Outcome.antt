@@ -1,5 +1,5 @@
 -- The text and the number of a run over an input in memory (own).
---     Outcome output bytes text number      an output with its status, or nothing for want of memory or for an input that is too long
+--     PageOutcome output bytes text number      an output with its status, or nothing if an allocation failed or the input is too long
 use Rattle.std.specs.Prelude.{ℕ, ◌<◌, List, [], length}
 use Rattle.mt_ports.specs.Exit.{code}
 use Rattle.mt_ports.specs.declared.status.Status.{Status}

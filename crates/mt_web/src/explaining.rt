@@ -31,17 +31,11 @@ struct Trouble<'a> {
 }
 
 fn spare_of(word: &str) -> Option<u64> {
-    match decimal(word.as_bytes(), MOST_PAIRS) {
-        Ok(spare) => Some(spare),
-        Err(_) => None,
-    }
+    decimal(word.as_bytes(), MOST_PAIRS).ok()
 }
 
 fn cpu_of(word: &str) -> Option<u32> {
-    match decimal(word.as_bytes(), GREATEST_CPU) {
-        Ok(cpu) => Some(cpu as u32),
-        Err(_) => None,
-    }
+    Some(decimal(word.as_bytes(), GREATEST_CPU).ok()? as u32)
 }
 
 fn faults_question(words: &[String]) -> Option<Question<'_>> {
@@ -53,10 +47,7 @@ fn faults_question(words: &[String]) -> Option<Question<'_>> {
 
 fn page_question(words: &[String]) -> Option<Question<'_>> {
     match words {
-        [address, file] => match hex64(address.as_bytes()) {
-            Ok(address) => Some(Question::Page(file.as_str(), address)),
-            Err(_) => None,
-        },
+        [address, file] => Some(Question::Page(file.as_str(), hex64(address.as_bytes()).ok()?)),
         _ => None,
     }
 }
