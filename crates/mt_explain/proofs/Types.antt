@@ -3,7 +3,8 @@ use Rattle.std.proofs.Common.{◌≡◌, true, Option, Some, None, ap, subst, re
 use Rattle.mt_regs.specs.declared.page_type.PageType.{PageType}
 use Rattle.mt_regs.specs.declared.page_type.PageType.TheVariants.{Kind, Undefined}
 use Rattle.mt_trie.proofs.Joins.{is_type-true, is_type_self}
-use Rattle.mt_explain.specs.TypeChanges.{is_same_type, same_page_type}
+use Rattle.mt_regs.specs.PageTypes.{same_page_type}
+use Rattle.mt_explain.specs.TypeChanges.{is_same_type}
 
 page_types_equal : (a b : PageType) → same_page_type a b ≡ true → a ≡ b
 page_types_equal (Kind t) (Kind u) same = ap (λ k. Kind k) (is_type-true t u same)

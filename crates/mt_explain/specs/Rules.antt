@@ -1,25 +1,12 @@
 -- The case that gives a page its type: Intel SDM, volume 3A, chapter Memory Cache Control, section MTRR Precedences.
 --     Decides file page rule      the case applies to the page; no two do
-use Rattle.std.specs.Prelude.{◌≡◌, ℕ, nat_lt, Bool, true, false, ◌&&◌, ◌||◌, List, [], ◌∷◌}
-use Rattle.std.specs.List.{list_all, list_any}
+use Rattle.std.specs.Prelude.{◌≡◌, ℕ, nat_lt, Bool, true, false, ◌&&◌, List, [], ◌∷◌}
 use Rattle.mt_kinds.specs.declared.mem_type.MemType.{MemType}
-use Rattle.mt_kinds.specs.declared.mem_type.MemType.TheVariants.{UC, WT, WB}
 use Rattle.mt_ranges.specs.FixedPart.{fixed_part}
 use Rattle.mt_regs.specs.RegisterFile.{RegisterFile, is_enabled, is_fixed_enabled}
-use Rattle.mt_regs.specs.PageTypes.{is_type, matching_types}
+use Rattle.mt_regs.specs.PageTypes.{are_one, are_written, has_uncached, matching_types}
 use Rattle.mt_explain.specs.declared.rule.Rule.{Rule}
 use Rattle.mt_explain.specs.declared.rule.Rule.TheVariants.{Off, FixedByte, NoPair, OneType, UncachedWins, ThroughOverBack, NotDefined}
-
--- there are types, and all are one
-abbrev pub are_one : List MemType → Bool
-are_one [] = false
-are_one (t ∷ ts) = list_all (is_type t) ts
-
-abbrev pub has_uncached : List MemType → Bool
-has_uncached types = list_any (is_type UC) types
-
-abbrev pub are_written : List MemType → Bool
-are_written types = list_all (λ t. is_type WT t || is_type WB t) types
 
 -- pairs of several types match, and none of them is UC
 pub record AreMixed (types : List MemType) : Type 0 where

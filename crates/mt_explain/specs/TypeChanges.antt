@@ -2,9 +2,8 @@
 --     AreTypeChanges old new changes      all of them, each with its two types, in ascending order
 use Rattle.std.specs.Prelude.{ℕ, max, nat_lt, Bool, true, false, List, Option, None, Some, if◌then◌else◌}
 use Rattle.mt_regs.specs.declared.page_type.PageType.{PageType}
-use Rattle.mt_regs.specs.declared.page_type.PageType.TheVariants.{Kind, Undefined}
 use Rattle.mt_regs.specs.RegisterFile.{RegisterFile, page_count}
-use Rattle.mt_regs.specs.PageTypes.{is_type, page_type}
+use Rattle.mt_regs.specs.PageTypes.{page_type, same_page_type}
 use Rattle.mt_explain.specs.declared.span.Span.{Span}
 use Rattle.mt_explain.specs.declared.type_change.TypeChange.{TypeChange}
 use Rattle.mt_explain.specs.Spans.{AreSpans}
@@ -12,12 +11,6 @@ use Rattle.mt_explain.specs.Spans.{AreSpans}
 -- the type that a file gives a page, if it has the page
 abbrev pub type_shown : RegisterFile → ℕ → Option PageType
 type_shown f page = if nat_lt page (page_count f) then Some (page_type f page) else None
-
-abbrev pub same_page_type : PageType → PageType → Bool
-same_page_type (Kind t) (Kind u) = is_type t u
-same_page_type (Kind t) Undefined = false
-same_page_type Undefined (Kind u) = false
-same_page_type Undefined Undefined = true
 
 abbrev pub is_same_type : Option PageType → Option PageType → Bool
 is_same_type (Some t) (Some u) = same_page_type t u

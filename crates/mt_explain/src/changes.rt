@@ -1,28 +1,13 @@
 ghost use Rattle.std.specs.Prelude.{◌≡◌, ◌↔◌, ◌≤◌, ◌<◌, ℕ, max, None, IfOk, IsTrue};
 ghost use Rattle.mt_regs.specs.RegisterFile.{page_count};
 ghost use Rattle.mt_regs.specs.Faults.{register_fault};
-ghost use Rattle.mt_explain.specs.TypeChanges.{AreTypeChanges, change_mark, is_same_type, same_page_type, type_shown};
+ghost use Rattle.mt_explain.specs.TypeChanges.{AreTypeChanges, change_mark, is_same_type, type_shown};
 
 use crate::marked::Marked;
 use crate::walk::spans;
 use crate::{Span, TypeChange};
-use mt_regs::{PageType, RegFile, same_type};
+use mt_regs::{PageType, RegFile, same_page_type};
 use std::alloc::{AllocError, Global};
-
-fn same_page_type(a: PageType, b: PageType) -> bool
-    ensures { result ≡ same_page_type a b }
-{
-    match a {
-        PageType::Kind(t) => match b {
-            PageType::Kind(u) => same_type(t, u),
-            PageType::Undefined => false,
-        },
-        PageType::Undefined => match b {
-            PageType::Kind(_) => false,
-            PageType::Undefined => true,
-        },
-    }
-}
 
 fn is_same_type(a: Option<PageType>, b: Option<PageType>) -> bool
     ensures test { result ≡ is_same_type a b }

@@ -2,26 +2,14 @@ ghost use Rattle.std.specs.Prelude.{◌≡◌, ◌≤◌, ◌<◌, ◌-◌, ◌�
 ghost use Rattle.mt_kinds.specs.Bits.{is_bit_set};
 ghost use Rattle.mt_ranges.specs.Match.{is_run, page_field};
 ghost use Rattle.mt_regs.specs.Registers.{HasNumber, IsWithin};
-ghost use Rattle.mt_regs.specs.Faults.{is_pat_byte, is_supported, register_fault};
+ghost use Rattle.mt_regs.specs.Faults.{register_fault};
 ghost use Rattle.mt_explain.specs.FieldFaults.{base_faults, default_faults, entry_faults, fault_if, faults_at, field, field_faults, fixed_faults, mask_faults, pat_faults};
 
 use crate::{Defect, FieldFault};
-use mt_kinds::{MemType, PatType, bits, byte_at, is_bit_set};
+use mt_kinds::{bits, byte_at, is_bit_set};
 use mt_ranges::block_of;
-use mt_regs::{RegFile, Register};
+use mt_regs::{RegFile, Register, is_pat_byte, is_supported};
 use std::alloc::{AllocError, Global};
-
-fn is_supported(has_combining: bool, byte: u8) -> bool
-    ensures { result ≡ is_supported has_combining byte }
-{
-    MemType::of_byte(byte).is_some() && (byte != 1 || has_combining)
-}
-
-fn is_pat_byte(byte: u8) -> bool
-    ensures { result ≡ is_pat_byte byte }
-{
-    PatType::of_byte(byte).is_some()
-}
 
 // The address width of a file, in bits.
 fn width_of(f: &RegFile) -> u8

@@ -1,11 +1,10 @@
 -- The bands of a picture of one register file, or of two: the pages between neighbouring edges (own).
 --     bands file others cuts      the bands between edges in ascending order
 --     height pages      how high a band of so many pages is, in pixels: the more the higher, and at least as high as its label
-use Rattle.std.specs.Prelude.{◌≡◌, ℕ, ◌+◌, ◌-◌, ◌^◌, ◌<◌, ◌≤◌, min, nat_lt, Bool, true, false, not, ◌&&◌, List, [], ◌∷◌, if◌then◌else◌, Option, Some, None}
+use Rattle.std.specs.Prelude.{◌≡◌, ℕ, ◌+◌, ◌-◌, ◌^◌, ◌<◌, ◌≤◌, min, nat_lt, Bool, false, not, ◌&&◌, List, [], ◌∷◌, if◌then◌else◌, Option, Some, None}
 use Rattle.mt_regs.specs.declared.page_type.PageType.{PageType}
-use Rattle.mt_regs.specs.declared.page_type.PageType.TheVariants.{Kind, Undefined}
 use Rattle.mt_regs.specs.RegisterFile.{RegisterFile, is_enabled, is_fixed_enabled, page_count}
-use Rattle.mt_regs.specs.PageTypes.{is_type, page_type}
+use Rattle.mt_regs.specs.PageTypes.{page_type, same_page_type}
 use Rattle.mt_map.specs.declared.band.Band.{Band}
 
 -- the fixed-range registers give the types of the first megabyte
@@ -83,15 +82,9 @@ AreEdges f others page (cut ∷ cuts) = IsBandOf f others page cut × AreEdges f
 
 -- ---- two files
 
-abbrev pub is_same : PageType → PageType → Bool
-is_same (Kind kind) (Kind other) = is_type kind other
-is_same (Kind kind) Undefined = false
-is_same Undefined (Kind other) = false
-is_same Undefined Undefined = true
-
 abbrev pub differs : PageType → Option PageType → Bool
 differs kind None = false
-differs kind (Some other) = not (is_same kind other)
+differs kind (Some other) = not (same_page_type kind other)
 
 -- the files give the band different types
 abbrev pub is_different : Band → Bool

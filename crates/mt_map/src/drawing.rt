@@ -1,9 +1,9 @@
 ghost use Rattle.std.specs.Prelude.{◌≡◌};
-ghost use Rattle.mt_map.specs.Bands.{is_different, is_same};
+ghost use Rattle.mt_map.specs.Bands.{is_different};
 ghost use Rattle.mt_map.specs.Shapes.{label};
 
 use crate::{Band, Rect};
-use mt_regs::{PageType, same_type};
+use mt_regs::{PageType, same_page_type};
 use std::alloc::AllocError;
 
 fn append_place(text: &mut String, x: u64, y: u64) -> Result<(), AllocError> {
@@ -64,28 +64,12 @@ pub(crate) fn name_of_kind(kind: PageType) -> &'static str
     }
 }
 
-// Whether two types are one, or both undefined.
-fn is_same(kind: PageType, other: PageType) -> bool
-    ensures { result ≡ is_same kind other }
-{
-    match kind {
-        PageType::Kind(kind) => match other {
-            PageType::Kind(other) => same_type(kind, other),
-            PageType::Undefined => false,
-        },
-        PageType::Undefined => match other {
-            PageType::Kind(_) => false,
-            PageType::Undefined => true,
-        },
-    }
-}
-
 /// Whether the two files give a row different types.
 pub(crate) fn is_different(row: &Band) -> bool
     ensures { result ≡ is_different row.now }
 {
     match row.other {
         None => false,
-        Some(other) => !is_same(row.kind, other),
+        Some(other) => !same_page_type(row.kind, other),
     }
 }

@@ -15,7 +15,7 @@ use arrayvec::ArrayVec;
 use mt_dump::{Dump, read_dump_from};
 use mt_output::{bad_text_line, dump_refused_line, written};
 use mt_ports::{NoMemory, Sink, Source, Status};
-use mt_regs::{Fault, Reason, RegFile, first_difference, first_refusal};
+use mt_regs::{Fault, RegFile, first_difference, first_refusal};
 use mt_text::FeedFault;
 use std::alloc::Global;
 
@@ -42,24 +42,13 @@ fn others(d: &Dump, k: u32) -> ArrayVec<RegFile, 1>
     others
 }
 
-fn is_overlap(reason: Reason) -> bool
-    ensures { IsTrue result ↔ (reason ≡ Reason.UndefinedOverlap) }
-{
-    match reason {
-        Reason::ReservedBit => false,
-        Reason::UnsupportedType => false,
-        Reason::BrokenMask => false,
-        Reason::UndefinedOverlap => true,
-    }
-}
-
 // Whether no register of a file is at fault by itself.
 fn is_drawable(f: &RegFile) -> bool
     ensures { IsTrue result ↔ (register_fault f.now ≡ None) }
 {
-    match f.first_fault() {
+    match f.register_fault() {
         None => true,
-        Some(fault) => is_overlap(fault.reason),
+        Some(_) => false,
     }
 }
 

@@ -1,4 +1,3 @@
 mod Mapping
-mod OneRegister
 pub mod Turns
 mod Zeros

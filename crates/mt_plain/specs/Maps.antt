@@ -4,8 +4,6 @@ use Rattle.mt_kinds.specs.Types.{byte_of_type}
 use Rattle.mt_plain.specs.declared.plain.PlainRegisters.{PlainRegisters}
 use Rattle.mt_plain.specs.declared.plain.PlainRun.{PlainRun}
 use Rattle.mt_plain.specs.Plain.{file_in, is_file}
-use Rattle.mt_regs.specs.declared.fault.Reason.{Reason}
-use Rattle.mt_regs.specs.declared.fault.Reason.TheVariants.{UndefinedOverlap}
 use Rattle.mt_regs.specs.declared.page_type.PageType.{PageType}
 use Rattle.mt_regs.specs.declared.page_type.PageType.TheVariants.{Kind, Undefined}
 use Rattle.mt_regs.specs.Faults.{register_fault}
@@ -26,11 +24,6 @@ abbrev pub overwritten : List PlainRun → List PlainRun → List PlainRun
 overwritten [] places = places
 overwritten (r ∷ rs) [] = []
 overwritten (r ∷ rs) (place ∷ places) = r ∷ overwritten rs places
-
--- the register has the fault by itself, and not by an overlap with others
-abbrev pub is_of_one_register : Reason → Bool
-is_of_one_register UndefinedOverlap = false
-is_of_one_register other = true
 
 -- the words are a file's, of which no register is at fault by itself
 abbrev pub has_map : PlainRegisters → Bool

@@ -1,11 +1,11 @@
 ghost use Rattle.std.specs.Prelude.{◌≡◌, ◌<◌, ◌-◌, false, length, set, true, None, is_some};
-ghost use Rattle.mt_plain.specs.Maps.{IsMapIn, has_map, is_of_one_register, kind_number, map_status, no_map_status, plain_run};
+ghost use Rattle.mt_plain.specs.Maps.{IsMapIn, has_map, kind_number, map_status, no_map_status, plain_run};
 ghost use Rattle.mt_plain.specs.Plain.{file_in};
 ghost use Rattle.mt_regs.specs.Faults.{register_fault};
 
 use crate::status::{DONE, FAULT, NO_FILE, NO_ROOM};
 use crate::{PlainRegisters, PlainRun, file_of};
-use mt_regs::{PageType, Reason, RegFile};
+use mt_regs::{PageType, RegFile};
 use mt_types::Run;
 
 const NO_TYPE: u32 = 255;
@@ -16,25 +16,6 @@ fn kind_number(kind: PageType) -> u32
     match kind {
         PageType::Kind(kind) => kind.byte() as u32,
         PageType::Undefined => NO_TYPE,
-    }
-}
-
-fn is_of_one_register(reason: Reason) -> bool
-    ensures { result ≡ is_of_one_register reason }
-{
-    match reason {
-        Reason::UndefinedOverlap => false,
-        _ => true,
-    }
-}
-
-// Whether a register is at fault by itself.
-fn has_register_fault(f: &RegFile) -> bool
-    ensures { result ≡ is_some (register_fault f.now) }
-{
-    match f.first_fault() {
-        None => false,
-        Some(fault) => is_of_one_register(fault.reason),
     }
 }
 
@@ -110,7 +91,7 @@ pub fn type_map(r: &PlainRegisters, runs: &mut [PlainRun], count: &mut usize) ->
     let Some(file) = file_of(r) else {
         return NO_FILE;
     };
-    if has_register_fault(&file) {
+    if file.register_fault().is_some() {
         return FAULT;
     }
     let room = runs.len();

@@ -6,13 +6,15 @@ use crate::{Fault, Reason, RegFile, Register};
 use mt_kinds::{MemType, PatType, bits, byte_at, is_bit_set};
 use mt_ranges::block_of;
 
-fn is_supported(has_combining: bool, byte: u8) -> bool
+/// Whether a byte is a memory type of the processor. WC is one only with write combining.
+pub fn is_supported(has_combining: bool, byte: u8) -> bool
     ensures { result ≡ is_supported has_combining byte }
 {
     MemType::of_byte(byte).is_some() && (byte != 1 || has_combining)
 }
 
-fn is_pat_byte(byte: u8) -> bool
+/// Whether a byte is a type that an entry of the PAT may have.
+pub fn is_pat_byte(byte: u8) -> bool
     ensures { result ≡ is_pat_byte byte }
 {
     PatType::of_byte(byte).is_some()
@@ -108,8 +110,9 @@ impl RegFile {
         }
     }
 
-    // The first register with a reserved bit, an unsupported type or a broken mask.
-    fn register_fault(&self) -> Option<Fault>
+    /// The first fault of a register by itself: a reserved bit, an unsupported type or a broken mask. Returns `None` if no
+    /// register has one.
+    pub fn register_fault(&self) -> Option<Fault>
         ensures { result ≡ register_fault self.now }
     {
         for i in 0..self.count() {

@@ -3,7 +3,7 @@ use crate::given::Given;
 use crate::names::register_name;
 use crate::page::kind_name;
 use crate::texts::{RegisterText, append_register, first_address, last_address, register_text};
-use mt_explain::{Difference, Span, TypeChange, differences, field_faults, type_changes};
+use mt_explain::{Difference, Span, TypeChange, differences, type_changes};
 use mt_regs::{PageType, Reason, RegFile};
 use serde::Serialize;
 use std::alloc::{AllocError, Global};
@@ -124,14 +124,9 @@ fn change_texts(
     old: &RegFile,
     new: &RegFile,
 ) -> Result<Option<Vec<ChangeText>>, AllocError> {
-    let old_faults = field_faults(alloc, old)?;
-    let new_faults = field_faults(alloc, new)?;
-    if !old_faults.is_empty() {
+    let (None, None) = (old.register_fault(), new.register_fault()) else {
         return Ok(None);
-    }
-    if !new_faults.is_empty() {
-        return Ok(None);
-    }
+    };
     let mut texts = Vec::new(alloc);
     for run in type_changes(alloc, old, new)?.as_slice() {
         texts.push(change_text(alloc, run)?)?;

@@ -2,7 +2,7 @@ use crate::given::Given;
 use crate::texts::{
     PairText, RegisterText, append_pairs, append_register, pair_texts, register_text,
 };
-use mt_explain::{Decision, Rule, decide, effective_types, field_faults};
+use mt_explain::{Decision, Rule, decide, effective_types};
 use mt_kinds::{PAGE_BYTES, Pat};
 use mt_regs::{DEFAULT_TYPE, PAT, PageType, RegFile};
 use serde::Serialize;
@@ -161,7 +161,7 @@ fn cpu_page(alloc: Global, cpu: u32, f: &RegFile, page: u64) -> Result<CpuPage, 
         kind: kind_name(decision.kind),
         rule: rule_name(decision.rule),
         because: because(decision.rule),
-        at_fault: !field_faults(alloc, f)?.is_empty(),
+        at_fault: f.register_fault().is_some(),
         registers: register_texts(alloc, f, decision.rule)?,
         bits: bits_text(alloc, decision.rule)?,
         pairs: deciding_pairs(alloc, f, &decision)?,

@@ -1,18 +1,12 @@
 ghost use Rattle.std.specs.Prelude.{◌≡◌, ◌<◌, ℕ, None, length, slice_index, true};
-ghost use Rattle.mt_regs.specs.Faults.{is_supported, reason_of, register_fault};
+ghost use Rattle.mt_regs.specs.Faults.{reason_of, register_fault};
 ghost use Rattle.mt_regs.specs.RegisterFile.{has_write_combining, pair_at};
 ghost use Rattle.mt_regs.specs.declared.registers.Register.TheVariants.{DefaultType, Pat};
 ghost use Rattle.mt_tidy.specs.Sound.{IsPairValue, has_types};
 
-use mt_kinds::{MemType, PatType, bits, byte_at, is_bit_set};
+use mt_kinds::{PatType, bits, byte_at, is_bit_set};
 use mt_ranges::block_of;
-use mt_regs::RegFile;
-
-fn is_supported(has_combining: bool, byte: u8) -> bool
-    ensures { result ≡ is_supported has_combining byte }
-{
-    MemType::of_byte(byte).is_some() && (byte != 1 || has_combining)
-}
+use mt_regs::{RegFile, is_supported};
 
 // Whether each byte is a type of the processor.
 fn has_types(has_combining: bool, value: u64) -> bool
