@@ -53,14 +53,14 @@ none_taken n (p ∷ ps) (suc k) none = changed_later (with_buffers (without_line
 abbrev drained_by : ℕ → ℕ → System → Option CacheLine → System
 drained_by k n s o = option_map_or (λ b. change (with_buffers (without_line n)) k (empty_buffer s b)) o s
 
-pub taken : (k n : ℕ) (ps qs : List Processor) (m : Memory) (out : Option CacheLine) → out ≡ find_line n (buffers_in k ps) → qs ≡ with_changed (with_buffers (without_line n)) k ps
-    → emptied_if (system qs m) out ≡ drain_line k n (system ps m)
-taken k n ps qs m out handed left =
-    ap (λ xs. emptied_if (system xs m) out) left ∙ one out (sym handed) ∙ ap (drained_by k n (system ps m)) handed
+pub taken : (k n : ℕ) (s t : System) (out : Option CacheLine) → out ≡ find_line n (buffers_of s k) → t ≡ change (with_buffers (without_line n)) k s
+    → emptied_if t out ≡ drain_line k n s
+taken k n s t out handed left =
+    ap (λ x. emptied_if x out) (left ∙ sym (changed_is (with_buffers (without_line n)) k s.processors s.memory)) ∙ one out (sym handed) ∙ ap (drained_by k n s) handed
   where
-    one : (o : Option CacheLine) → find_line n (buffers_in k ps) ≡ o → emptied_if (system (with_changed (with_buffers (without_line n)) k ps) m) o ≡ drained_by k n (system ps m) o
-    one None none = ap (λ xs. system xs m) (none_taken n ps k none)
-    one (Some b) is = emptied_changed (without_line n) k b ps m
+    one : (o : Option CacheLine) → find_line n (buffers_of s k) ≡ o → emptied_if (system (with_changed (with_buffers (without_line n)) k s.processors) s.memory) o ≡ drained_by k n s o
+    one None none = ap (λ xs. system xs s.memory) (none_taken n s.processors k none)
+    one (Some b) is = emptied_changed (without_line n) k b s.processors s.memory
 
 -- ---- a word is combined
 
@@ -268,23 +268,23 @@ module _ (k n word v : ℕ) (ps : List Processor) (m : Memory) (p : Processor) (
       ∙ sym none_whole
       ∙ ap (empty_if_whole k n) (sym by_room)
 
-pub combined : (k n word v : ℕ) (ps qs : List Processor) (m : Memory) (out : Option CacheLine) → word < 8 → k < length ps
-    → out ≡ out_of k n word v ps → qs ≡ with_changed (left_after n word v) k ps
-    → emptied_if (system qs m) out ≡ combine k n word v (system ps m)
-combined k n word v ps qs m out within among handed left =
-    ap (λ xs. emptied_if (system xs m) out) left ∙ ap (emptied_if (system (with_changed (left_after n word v) k ps) m)) handed ∙ one (find_line n p.0.buffers) (oldest_of_full 4 p.0.buffers) refl refl
+pub combined : (k n word v : ℕ) (s t : System) (out : Option CacheLine) → word < 8 → k < length s.processors
+    → out ≡ out_of k n word v s.processors → t ≡ change (left_after n word v) k s → emptied_if t out ≡ combine k n word v s
+combined k n word v s t out within among handed left =
+    ap (λ x. emptied_if x out) (left ∙ sym (changed_is (left_after n word v) k s.processors s.memory))
+    ∙ ap (emptied_if (system (with_changed (left_after n word v) k s.processors) s.memory)) handed ∙ one (find_line n p.0.buffers) (oldest_of_full 4 p.0.buffers) refl refl
   where
-    p : (p : Processor) × (slice_get ps k ≡ Some p)
-    p = processor_of ps k among
+    p : (p : Processor) × (slice_get s.processors k ≡ Some p)
+    p = processor_of s.processors k among
 
-    plain : giving_way n p.0.buffers ≡ None → emptied_if (system (with_changed (left_after n word v) k ps) m) (out_of k n word v ps) ≡ combine k n word v (system ps m)
+    plain : giving_way n p.0.buffers ≡ None → emptied_if (system (with_changed (left_after n word v) k s.processors) s.memory) (out_of k n word v s.processors) ≡ combine k n word v (system s.processors s.memory)
     plain none =
-        at_one k n word v ps m p.0 within p.1 none
-        ∙ ap (λ s. empty_if_whole k n (change (join_word n word v) k s))
-        (sym (room_is k n (system ps m) ∙ ap (λ (o : Option Processor). with_way k (system ps m) (giving_way n (option_map_or (λ (x : Processor). x.buffers) o []))) p.1 ∙ ap (with_way k (system ps m)) none))
+        at_one k n word v s.processors s.memory p.0 within p.1 none
+        ∙ ap (λ x. empty_if_whole k n (change (join_word n word v) k x))
+        (sym (room_is k n (system s.processors s.memory) ∙ ap (λ (o : Option Processor). with_way k (system s.processors s.memory) (giving_way n (option_map_or (λ (x : Processor). x.buffers) o []))) p.1 ∙ ap (with_way k (system s.processors s.memory)) none))
 
     one : (f o : Option CacheLine) → find_line n p.0.buffers ≡ f → oldest_of_full 4 p.0.buffers ≡ o
-        → emptied_if (system (with_changed (left_after n word v) k ps) m) (out_of k n word v ps) ≡ combine k n word v (system ps m)
+        → emptied_if (system (with_changed (left_after n word v) k s.processors) s.memory) (out_of k n word v s.processors) ≡ combine k n word v (system s.processors s.memory)
     one None None is full = plain (ap (λ (x : Option CacheLine). if is_some x then None else oldest_of_full 4 p.0.buffers) is ∙ full)
-    one None (Some b) is full = at_oldest k n word v ps m p.0 b within p.1 is full
+    one None (Some b) is full = at_oldest k n word v s.processors s.memory p.0 b within p.1 is full
     one (Some l) o is full = plain (ap (λ (x : Option CacheLine). if is_some x then None else oldest_of_full 4 p.0.buffers) is)

@@ -1,6 +1,6 @@
 -- What keeps that each line of each cache is one that it may have.
 use Rattle.std.proofs.Common.{◌≡◌, ◌∙◌, ◌⊎◌, ap, sym, refl, subst, arith, inl, inr, ℕ, zero, suc, ◌+◌, ◌<◌, ◌≤◌, ◌%◌, ◌==◌, ◌&&◌}
-use Rattle.std.proofs.Common.{Bool, true, false, not, if◌then◌else◌, List, [], ◌∷◌, ◌++◌, length, Option, None, Some, is_some, slice_get, count_by, cond, ⊎_elim, map, take}
+use Rattle.std.proofs.Common.{Bool, true, false, not, if◌then◌else◌, List, [], ◌∷◌, ◌++◌, length, Option, None, Some, slice_get, count_by, cond, ⊎_elim, map, take}
 use Rattle.std.specs.Prelude.{◌≢◌, slice_index_or, slice_set}
 use Rattle.std.specs.Option.{option_map, option_map_or}
 use Rattle.std.proofs.lemmas.Bool.{eq-eqb, eqb-true, not-false}
@@ -10,20 +10,16 @@ use Rattle.mt_cache.specs.declared.line.CacheLine.{CacheLine}
 use Rattle.mt_cache.specs.Calls.{clean_line_of, with_room}
 use Rattle.mt_cache.specs.Counts.{has_residue}
 use Rattle.mt_cache.specs.Lines.{change_line, clean_line, find_line, oldest_of_full, without_line}
-use Rattle.mt_tlb.specs.declared.entry.Entry.{Entry}
-use Rattle.mt_tlb.specs.Entries.{add_entry, find_entry}
 use Rattle.mt_regs.specs.RegisterFile.{RegisterFile}
 use Rattle.mt_machine.specs.System.{Processor, start_processor}
-use Rattle.mt_machine.specs.Access.{keep_entry}
-use Rattle.mt_machine.specs.Control.{same_bool, set_page_global}
 use Rattle.mt_machine.specs.ComingAndGoing.{newcomer_beside}
-use Rattle.mt_types.specs.Tables.{TypeTable}
 use Rattle.mt_machine.specs.Bus.{with_lines}
 use Rattle.mt_laws.proofs.Barrier.Ranks.{and_left, and_right}
 use Rattle.mt_laws.proofs.Clearing.Renewed.{at_change}
 use Rattle.mt_laws.proofs.Words.LineLists.{KeepsNumber, find_miss, passes_append, passes_changed, passes_without}
 use Rattle.mt_bus.specs.Parts.{lines_in, with_changed, without_memory}
 use Rattle.mt_bus.specs.Holders.{AreHeldBy, Covers, CoversBut, CoversOthers, IsNowhere, IsNowhereElse, all_may, may_hold}
+use Rattle.mt_bus.proofs.Changed.{lent_at}
 use Rattle.mt_bus.proofs.Newcomers.{get_front}
 use Rattle.mt_bus.proofs.Tables.{pushed_at}
 use Rattle.mt_bus.proofs.Masks.{full_may}
@@ -33,9 +29,6 @@ use Rattle.mt_bus.proofs.Masks.{full_may}
 -- no line is new
 abbrev pub IsLess : List CacheLine → List CacheLine → Type 0
 IsLess ls old = (masks : List ℕ) (k : ℕ) → all_may masks k old ≡ true → all_may masks k ls ≡ true
-
-pub less_same : (ls old : List CacheLine) → ls ≡ old → IsLess ls old
-less_same ls old is = λ masks k h. ap (all_may masks k) is ∙ h
 
 pub less_without : (n : ℕ) (ls : List CacheLine) → IsLess (without_line n ls) ls
 less_without n ls = λ masks k h. passes_without (λ l. may_hold masks k l.number) n ls h
@@ -92,13 +85,6 @@ held_but ps masks others k n but none h = record {
       (h.each j p at);
 }
 
-pub lacks : (ps : List Processor) (masks : List ℕ) (k n : ℕ) → AreHeldBy ps masks → may_hold masks k n ≡ false → find_line n (lines_in k ps) ≡ None
-lacks ps masks k n h not = one (slice_get ps k) refl
-  where
-    one : (o : Option Processor) → slice_get ps k ≡ o → find_line n (option_map_or (λ p. p.lines) o []) ≡ None
-    one None is = refl
-    one (Some p) is = absent masks k n p.lines (h.each k p is) not
-
 -- masks with all bits, or none
 all_open : (masks : List ℕ) (k : ℕ) → ((n : ℕ) → may_hold masks k n ≡ true) → (ls : List CacheLine) → all_may masks k ls ≡ true
 all_open masks k may [] = refl
@@ -135,12 +121,6 @@ held_changed f k ps masks keeps h = one (slice_get ps k) refl
     one None is = h
     one (Some p) is = held_put ps masks k p (f p) is (keeps p) h
 
--- a change that leaves the lines
-pub held_aside : (f : Processor → Processor) (k : ℕ) (ps qs : List Processor) (masks : List ℕ) → ((p : Processor) → (f p).lines ≡ p.lines)
-    → qs ≡ with_changed f k ps → AreHeldBy ps masks → AreHeldBy qs masks
-held_aside f k ps qs masks same is h =
-    subst (λ (xs : List Processor). AreHeldBy xs masks) (sym is) (held_changed f k ps masks (λ p. less_same (f p).lines p.lines (same p) masks k) h)
-
 -- a processor that drops its lines needs no bit
 pub held_emptied : (f : Processor → Processor) (k : ℕ) (ps : List Processor) (masks others : List ℕ) → ((p : Processor) → (f p).lines ≡ [])
     → CoversOthers k masks others → AreHeldBy ps others → AreHeldBy (with_changed f k ps) masks
@@ -154,9 +134,9 @@ held_emptied f k ps masks others empty covers h = record {
 
 -- ---- one processor of a pass over all
 
-pub lacks_at : (ps : List Processor) (masks : List ℕ) (i n : ℕ) (p : Processor) (may : Bool) → AreHeldBy ps masks → slice_get ps i ≡ Some p
+pub lacks_at : (ps : List Processor) (masks : List ℕ) (i n : ℕ) (p : Processor) (may : Bool) → AreHeldBy ps masks → i < length ps → p ≡ slice_index_or ps i p
     → may ≡ may_hold masks i n → may ≡ false → find_line n p.lines ≡ None
-lacks_at ps masks i n p may h at is not = absent masks i n p.lines (h.each i p at) (sym is ∙ not)
+lacks_at ps masks i n p may h within lent is not = absent masks i n p.lines (h.each i p (lent_at ps i p within lent)) (sym is ∙ not)
 
 -- its lines hold after as before
 abbrev pub Keeps : Processor → Processor → Type 0
@@ -178,17 +158,18 @@ pub keeps_same_or_dropped : (n : ℕ) (own : Bool) (p q : Processor) → q ≡ (
 keeps_same_or_dropped n true p q is masks k h = ap (λ (x : Processor). all_may masks k x.lines) is ∙ h
 keeps_same_or_dropped n false p q is masks k h = keeps_dropped n p q is masks k h
 
-pub held_after : (ps : List Processor) (masks : List ℕ) (i : ℕ) (p q : Processor) → slice_get ps i ≡ Some p → Keeps p q → AreHeldBy ps masks → AreHeldBy (slice_set ps i q) masks
-held_after ps masks i p q at keeps h = held_put ps masks i p q at (keeps masks i) h
+pub held_lent : (ps : List Processor) (masks : List ℕ) (i : ℕ) (p q : Processor) → i < length ps → p ≡ slice_index_or ps i p → Keeps p q
+    → AreHeldBy ps masks → AreHeldBy (slice_set ps i q) masks
+held_lent ps masks i p q within lent keeps h = held_put ps masks i p q (lent_at ps i p within lent) (keeps masks i) h
 
 -- ---- what one look tells
 
-pub none_there : (ps : List Processor) (k n : ℕ) (p : Processor) (ls : List CacheLine) (may : Bool) → slice_get ps k ≡ Some p → ls ≡ p.lines
+pub none_there : (ps : List Processor) (k n : ℕ) (p : Processor) (ls : List CacheLine) (may : Bool) → k < length ps → p ≡ slice_index_or ps k p → ls ≡ p.lines
     → may ≡ not (count_by (has_residue (n % 4096)) ls == 0) → may ≡ false
     → count_by (has_residue (n % 4096)) (lines_in k ps) ≡ 0
-none_there ps k n p ls may at lent is none =
-    ap (λ (o : Option Processor). count_by (has_residue (n % 4096)) (option_map_or (λ x. x.lines) o [])) at
-    ∙ ap (count_by (has_residue (n % 4096))) (sym lent)
+none_there ps k n p ls may within lent own is none =
+    ap (λ (o : Option Processor). count_by (has_residue (n % 4096)) (option_map_or (λ x. x.lines) o [])) (lent_at ps k p within lent)
+    ∙ ap (count_by (has_residue (n % 4096))) (sym own)
     ∙ eqb-true _ _ (not-false _ (sym is ∙ none))
 
 pub nowhere : (ps : List Processor) (masks : List ℕ) (n : ℕ) → AreHeldBy ps masks → length ps ≤ 16 → ((j : ℕ) → j < 16 → may_hold masks j n ≡ false) → IsNowhere n ps
@@ -205,29 +186,6 @@ nowhere_else ps masks k n h few none = record { each = λ j other. one j other (
     one j other None is = refl
     one j other (Some p) is = absent masks j n p.lines (h.each j p is) (none j (omega (arith, slice_get_within ps j p is, few)) other)
 
--- ---- what leaves the lines, or writes into one
-
-pub held_beside : (ps : List Processor) (masks : List ℕ) (i : ℕ) (p q : Processor) → slice_get ps i ≡ Some p → q.lines ≡ p.lines → AreHeldBy ps masks → AreHeldBy (slice_set ps i q) masks
-held_beside ps masks i p q at same h = held_put ps masks i p q at (λ g. ap (all_may masks i) same ∙ g) h
-
-entered_lines : (e : Entry) (p : Processor) → (keep_entry e p).lines ≡ p.lines
-entered_lines e p = one (is_some (find_entry e.vpage p.entries))
-  where
-    one : (b : Bool) → (if b then p else record p { entries = add_entry e p.entries }).lines ≡ p.lines
-    one true = refl
-    one false = refl
-
-pub switched_lines : (on : Bool) (p : Processor) → (set_page_global on p).lines ≡ p.lines
-switched_lines on p = one (same_bool on p.page_global)
-  where
-    one : (b : Bool) → (if b then p else record p { page_global = on; entries = [] }).lines ≡ p.lines
-    one true = refl
-    one false = refl
-
-pub held_entered : (ps qs : List Processor) (masks : List ℕ) (k : ℕ) (o : Option Entry) → qs ≡ option_map_or (λ e. with_changed (keep_entry e) k ps) o ps → AreHeldBy ps masks → AreHeldBy qs masks
-held_entered ps qs masks k None is h = subst (λ (xs : List Processor). AreHeldBy xs masks) (sym is) h
-held_entered ps qs masks k (Some e) is h = held_aside (keep_entry e) k ps qs masks (λ p. entered_lines e p) is h
-
 -- ---- a line is filled
 
 less_room : (ls : List CacheLine) → IsLess (with_room 64 ls) ls
@@ -237,34 +195,31 @@ less_room ls masks k h = one (oldest_of_full 64 ls)
     one None = h
     one (Some l) = less_without l.number ls masks k h
 
-pub held_filled : (k n : ℕ) (words : List ℕ) (ps qs : List Processor) (masks others : List ℕ) → may_hold masks k n ≡ true → Covers masks others
-    → qs ≡ with_changed (λ p. record p { lines = with_room 64 p.lines ++ clean_line_of n words p.era ∷ [] }) k ps → AreHeldBy ps others → AreHeldBy qs masks
-held_filled k n words ps qs masks others added covers is h =
-    subst (λ (xs : List Processor). AreHeldBy xs masks) (sym is)
-    (held_changed (λ p. record p { lines = with_room 64 p.lines ++ clean_line_of n words p.era ∷ [] }) k ps masks
-    (λ p g. passes_append (λ l. may_hold masks k l.number) (with_room 64 p.lines) (clean_line_of n words p.era) (less_room p.lines masks k g) added) (held_more ps masks others covers h))
+pub held_filled : (k n era : ℕ) (words : List ℕ) (ps : List Processor) (p q : Processor) (masks others : List ℕ) → may_hold masks k n ≡ true → Covers masks others
+    → k < length ps → p ≡ slice_index_or ps k p → q.lines ≡ with_room 64 p.lines ++ clean_line_of n words era ∷ [] → AreHeldBy ps others → AreHeldBy (slice_set ps k q) masks
+held_filled k n era words ps p q masks others added covers within lent is h =
+    held_put ps masks k p q (lent_at ps k p within lent)
+    (λ g. ap (all_may masks k) is ∙ passes_append (λ l. may_hold masks k l.number) (with_room 64 p.lines) (clean_line_of n words era) (less_room p.lines masks k g) added)
+    (held_more ps masks others covers h)
 
 -- ---- processors that come and go
 
-pub held_pushed : (ps : List Processor) (q : Processor) (masks : List ℕ) → q.lines ≡ [] → AreHeldBy ps masks → AreHeldBy (ps ++ q ∷ []) masks
-held_pushed ps q masks empty h = record {
-  each = λ k p at.
-      ⊎_elim (λ (old : slice_get ps k ≡ Some p). h.each k p old)
-      (λ (last : (k ≡ length ps) × (q ≡ p)). ap (all_may masks k) (ap (λ (x : Processor). x.lines) (sym last.1) ∙ empty)) (pushed_at ps q p k at);
-}
+pub held_pushed : (ps qs : List Processor) (q : Processor) (masks : List ℕ) (b : Bool) → qs ≡ (if b then ps ++ q ∷ [] else ps) → q.lines ≡ [] → AreHeldBy ps masks → AreHeldBy qs masks
+held_pushed ps qs q masks false is empty h = subst (λ (xs : List Processor). AreHeldBy xs masks) (sym is) h
+held_pushed ps qs q masks true is empty h =
+    subst (λ (xs : List Processor). AreHeldBy xs masks) (sym is)
+    (record {
+      each = λ k p at.
+          ⊎_elim (λ (old : slice_get ps k ≡ Some p). h.each k p old)
+          (λ (last : (k ≡ length ps) × (q ≡ p)). ap (all_may masks k) (ap (λ (x : Processor). x.lines) (sym last.1) ∙ empty)) (pushed_at ps q p k at);
+    })
 
-newcomer_lines : (ps : List Processor) (q : Processor) → option_map newcomer_beside (slice_get ps 0) ≡ Some q → q.lines ≡ []
+pub newcomer_lines : (ps : List Processor) (q : Processor) → option_map newcomer_beside (slice_get ps 0) ≡ Some q → q.lines ≡ []
 newcomer_lines ps q is = one (slice_get ps 0) is
   where
     one : (o : Option Processor) → option_map newcomer_beside o ≡ Some q → q.lines ≡ []
     one None e = absurd (cc)
     one (Some p) e = let same : newcomer_beside p ≡ q = cc in ap (λ (x : Processor). x.lines) (sym same)
-
--- both lists grow, or neither
-pub held_come : (ps qs : List Processor) (ts us : List TypeTable) (q : Processor) (t : TypeTable) (masks : List ℕ) → option_map newcomer_beside (slice_get ps 0) ≡ Some q
-    → (b : Bool) → (b ≡ true → (qs ≡ ps ++ q ∷ []) × (us ≡ ts ++ t ∷ [])) → (b ≡ false → (qs ≡ ps) × (us ≡ ts)) → AreHeldBy ps masks → AreHeldBy qs masks
-held_come ps qs ts us q t masks is true added kept h = subst (λ (xs : List Processor). AreHeldBy xs masks) (sym (added refl).0) (held_pushed ps q masks (newcomer_lines ps q is) h)
-held_come ps qs ts us q t masks is false added kept h = subst (λ (xs : List Processor). AreHeldBy xs masks) (sym (kept refl).0) h
 
 pub held_front : (ps : List Processor) (n : ℕ) (masks : List ℕ) → AreHeldBy ps masks → AreHeldBy (take n ps) masks
 held_front ps n masks h = record { each = λ k p at. h.each k p (get_front ps n k p at) }

@@ -1,4 +1,5 @@
 pub mod Changed
+mod Counts
 mod Newcomers
 mod Combining
 mod Emptying

@@ -1,5 +1,5 @@
 -- What a system keeps where a processor comes up or goes, with its table of types.
-use Rattle.std.proofs.Common.{◌≡◌, ap, sym, refl, subst, arith, ℕ, zero, suc, ◌<◌, Bool, true, false, List, [], ◌∷◌, ◌++◌, length, length-append, take, Option, None, Some, slice_get}
+use Rattle.std.proofs.Common.{◌≡◌, ap, sym, refl, subst, arith, ℕ, zero, suc, ◌<◌, Bool, true, false, if◌then◌else◌, List, [], ◌∷◌, ◌++◌, length, length-append, take, Option, None, Some, slice_get}
 use Rattle.std.specs.Option.{option_map, option_map_or}
 use Rattle.mt_types.specs.Tables.{IsTableOf, TypeTable}
 use Rattle.mt_machine.specs.System.{IsSound, Processor, System, is_writing}
@@ -45,17 +45,14 @@ come_is s q = one (slice_get s.processors 0)
 
 -- both lists grow, or neither
 pub come_keeps : (s : System) (ts : List TypeTable) (q : Processor) (t : TypeTable) → IsSound s → AreTablesOf s.processors ts
-    → option_map newcomer_beside (slice_get s.processors 0) ≡ Some q → IsTableOf q.file t
-    → (b : Bool) (ps : List Processor) (us : List TypeTable)
-    → (b ≡ true → (ps ≡ s.processors ++ q ∷ []) × (us ≡ ts ++ t ∷ [])) → (b ≡ false → (ps ≡ s.processors) × (us ≡ ts))
-    → IsSound (system ps s.memory) × AreTablesOf ps us
-come_keeps s ts q t sound tables is own true ps us added kept =
-    let more = added refl in
-    subst (λ (v : List Processor × List TypeTable). IsSound (system v.0 s.memory) × AreTablesOf v.0 v.1) (λ i. (sym more.0 i, sym more.1 i))
-    (subst IsSound (come_is s q is) (reset_stays_sound s sound), tables_more s.processors ts q t tables own)
-come_keeps s ts q t sound tables is own false ps us added kept =
-    let same = kept refl in
-    subst (λ (v : List Processor × List TypeTable). IsSound (system v.0 s.memory) × AreTablesOf v.0 v.1) (λ i. (sym same.0 i, sym same.1 i)) (sound, tables)
+    → option_map newcomer_beside (slice_get s.processors 0) ≡ Some q → IsTableOf q.file t → (b : Bool) (u : System) (us : List TypeTable)
+    → u ≡ (if b then system (s.processors ++ q ∷ []) s.memory else s) → us ≡ (if b then ts ++ t ∷ [] else ts) → IsSound u × AreTablesOf u.processors us
+come_keeps s ts q t sound tables is own b u us come added =
+    subst (λ (v : System × List TypeTable). IsSound v.0 × AreTablesOf v.0.processors v.1) (λ i. (sym come i, sym added i)) (one b)
+  where
+    one : (b : Bool) → IsSound (if b then system (s.processors ++ q ∷ []) s.memory else s) × AreTablesOf (if b then system (s.processors ++ q ∷ []) s.memory else s).processors (if b then ts ++ t ∷ [] else ts)
+    one true = (subst IsSound (come_is s q is) (reset_stays_sound s sound), tables_more s.processors ts q t tables own)
+    one false = (sound, tables)
 
 -- ---- the last one less
 

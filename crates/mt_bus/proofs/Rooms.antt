@@ -10,7 +10,7 @@ use Rattle.mt_machine.specs.System.{Processor, System, change}
 use Rattle.mt_machine.specs.Bus.{fill_line, with_lines}
 use Rattle.mt_laws.proofs.Words.AccessLaws.{change_at}
 use Rattle.mt_bus.specs.Parts.{lines_in, system, with_changed}
-use Rattle.mt_bus.proofs.Changed.{changed_there, processor_of, set_there}
+use Rattle.mt_bus.proofs.Changed.{changed_is, changed_there, processor_of, set_there}
 
 -- the clean line is added, and a full cache hands its oldest back
 abbrev pub add : ℕ → List ℕ → Processor → Processor
@@ -46,12 +46,12 @@ module _ (k n : ℕ) (ps : List Processor) (m : Memory) (p : Processor) (at : sl
       ∙ cases (oldest_of_full 64 p.lines)
       ∙ ap (λ (o : Option Processor). filled_from (oldest_of_full 64 (option_map_or (λ (x : Processor). x.lines) o []))) (sym at)
 
-pub filled : (k n : ℕ) (ps qs : List Processor) (m w : Memory) (words : List ℕ) → k < length ps
-    → w ≡ written_if m (oldest_of_full 64 (lines_in k ps)) → words ≡ line_words w n → qs ≡ with_changed (add n words) k ps
-    → system qs w ≡ fill_line k n (system ps m)
-filled k n ps qs m w words among written read added =
+pub filled : (k n : ℕ) (ps : List Processor) (m w : Memory) (u : System) (words : List ℕ) (ls : List CacheLine) → k < length ps → lines_in k ps ≡ ls
+    → w ≡ written_if m (oldest_of_full 64 ls) → words ≡ line_words w n → u ≡ change (add n words) k (system ps w) → u ≡ fill_line k n (system ps m)
+filled k n ps m w u words ls among own written read added =
     let p = processor_of ps k among in
-    ap (λ xs. system xs w) added
+    added
+    ∙ sym (changed_is (add n words) k ps w)
     ∙ ap (λ ws. system (with_changed (add n ws) k ps) w) read
-    ∙ ap (λ u. system (with_changed (add n (line_words u n)) k ps) u) written
+    ∙ ap (λ x. system (with_changed (add n (line_words x n)) k ps) x) (written ∙ ap (λ x. written_if m (oldest_of_full 64 x)) (sym own))
     ∙ at_place k n ps m p.0 p.1

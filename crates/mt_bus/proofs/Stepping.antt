@@ -67,11 +67,6 @@ unprepared Take ph k s other h = absurd (other refl)
 unprepared (WriteBack address value) ph k s other h = absurd (cc)
 unprepared e ph k s other h = refl
 
-pub before_local : (e : Event) (k : ℕ) (s : System) → e ≢ Take → (before_own e k s).processors ≡ s.processors
-before_local Take k s other = absurd (other refl)
-before_local (WriteBack a v) k s other = refl
-before_local e k s other = refl
-
 pub shift_leaves : (e : Event) (ph : Phase) (k : ℕ) (t : TypeTable) (ts : List TypeTable) → is_shift e ph ≡ true → tables_after e k t ts ≡ ts
 shift_leaves Enable ph k t ts h = absurd (cc)
 shift_leaves e ph k t ts h = refl

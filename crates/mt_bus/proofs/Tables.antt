@@ -8,6 +8,9 @@ use Rattle.mt_regs.specs.RegisterFile.{RegisterFile}
 use Rattle.mt_types.specs.Tables.{IsTableOf, TypeTable}
 use Rattle.mt_machine.specs.declared.op.Op.{Op}
 use Rattle.mt_machine.specs.declared.control.Control.{Control}
+use Rattle.mt_machine.specs.declared.event.Event.{Event}
+use Rattle.mt_machine.specs.declared.event.Event.TheVariants.{Take, WriteBack}
+use Rattle.mt_machine.specs.Machine.{before_own}
 use Rattle.mt_machine.specs.declared.phase.Phase.{Phase}
 use Rattle.mt_machine.specs.declared.phase.Phase.TheVariants.{Running}
 use Rattle.mt_machine.specs.System.{IsProcessor, IsSound, Processor, System, is_writing, start_processor, snooping, with_self_snoop}
@@ -40,6 +43,11 @@ tables_controlled s k c ts h = tables_follow k s (control s k c).after ts (contr
 
 pub tables_drained : (k : ℕ) (s : System) (ts : List TypeTable) → AreTablesOf s.processors ts → AreTablesOf (drain k s).processors ts
 tables_drained k s ts h = tables_follow k s (drain k s) ts (drain_stages k s) (follows_drain k s) h
+
+pub tables_before : (e : Event) (k : ℕ) (s : System) (ts : List TypeTable) → AreTablesOf s.processors ts → AreTablesOf (before_own e k s).processors ts
+tables_before Take k s ts h = tables_drained k s ts h
+tables_before (WriteBack address value) k s ts h = h
+tables_before e k s ts h = h
 
 pub tables_snooping : (k : ℕ) (s : System) (ts : List TypeTable) → AreTablesOf s.processors ts → AreTablesOf (with_self_snoop k s).processors ts
 tables_snooping k s ts h = record {
@@ -105,9 +113,9 @@ translated_at s ts sound h k d within p at runs = record {
 }
 
 -- the table is lent out of the list
-pub translated_by : (s : System) (ts shown : List TypeTable) (ps : List Processor) (t : TypeTable) → IsSound s → AreTablesOf s.processors ts → (k : ℕ) → k < length s.processors
-    → shown ≡ ts → ps ≡ s.processors → t ≡ slice_index_or shown k t
-    → (p : Processor) → slice_get ps k ≡ Some p → is_running p.phase ≡ true → IsTranslatedBy p t
-translated_by s ts shown ps t sound h k within seen same is p at runs =
+pub translated_by : (s : System) (ts shown : List TypeTable) (t : TypeTable) → IsSound s → AreTablesOf s.processors ts → (k : ℕ) → k < length s.processors
+    → shown ≡ ts → t ≡ slice_index_or shown k t
+    → (p : Processor) → slice_get s.processors k ≡ Some p → is_running p.phase ≡ true → IsTranslatedBy p t
+translated_by s ts shown t sound h k within seen is p at runs =
     subst (IsTranslatedBy p) (sym (is ∙ ap (λ (xs : List TypeTable). slice_index_or xs k t) seen))
-    (translated_at s ts sound h k t within p (subst (λ (qs : List Processor). slice_get qs k ≡ Some p) same at) runs)
+    (translated_at s ts sound h k t within p at runs)

@@ -1,5 +1,5 @@
 // Processors that come up and go.
-ghost use Rattle.std.specs.Prelude.{◌≡◌, ◌<◌, ◌≤◌, ◌∷◌, ◌++◌, [], IfOk, IsTrue, OnErr, OnOk, Some, false, length, slice_get, take, true};
+ghost use Rattle.std.specs.Prelude.{◌≡◌, ◌<◌, ◌≤◌, ◌∷◌, ◌++◌, [], IfOk, OnErr, OnOk, Some, if◌then◌else◌, length, slice_get, true};
 ghost use Rattle.std.specs.List.{All, fold};
 ghost use Rattle.std.specs.Option.{option_map};
 ghost use Rattle.mt_regs.specs.Faults.{IsAccepted};
@@ -8,11 +8,9 @@ ghost use Rattle.mt_machine.specs.Access.{is_running};
 ghost use Rattle.mt_machine.specs.Bus.{drain};
 ghost use Rattle.mt_machine.specs.Machine.{FitsGoal, common_era};
 ghost use Rattle.mt_machine.specs.ComingAndGoing.{gone, last_number, newcomer_beside, reset, taken_away};
-ghost use Rattle.mt_bus.specs.Holders.{AreHeldBy};
-ghost use Rattle.mt_bus.specs.Parts.{lines_in, system};
+ghost use Rattle.mt_bus.specs.Parts.{system};
 
-use crate::buffers::drain;
-use crate::holders::Holders;
+use crate::bus::Bus;
 use crate::system::System;
 use crate::words::write_back;
 use mt_cache::Cache;
@@ -21,6 +19,15 @@ use mt_ports::NoMemory;
 use mt_ram::Ram;
 use mt_types::KindTable;
 use std::alloc::Global;
+
+// The dirty words of a cache's lines go to memory, the oldest line first.
+fn write_lines(cache: &Cache, ram: &mut Ram)
+    ensures { ram.new ≡ fold write_back ram.old cache.now }
+{
+    for i in 0..cache.len() {
+        write_back(ram, cache.nth(i));
+    }
+}
 
 // A processor as it comes up beside these.
 fn newcomer(alloc: Global, cpus: &[Cpu]) -> Result<Cpu, NoMemory>
@@ -34,50 +41,44 @@ fn newcomer(alloc: Global, cpus: &[Cpu]) -> Result<Cpu, NoMemory>
     Cpu::come_up(alloc, regs.maxphy, regs.cap, first.era())
 }
 
+impl Bus {
+    // Adds a processor without lines. Returns whether there was memory for it.
+    fn add(&mut self, cpu: Cpu) -> bool
+        requires { cpu.lines ≡ [] }
+        ensures { self.new ≡ (if result then system (self.old.processors ++ cpu ∷ []) self.old.memory else self.old) }
+    {
+        if self.cpus.push(cpu).is_err() {
+            return false;
+        }
+        true
+    }
+
+    // Takes the last processor away, once memory has what it holds.
+    fn take_away(&mut self, k: usize)
+        requires { k < length self.old.processors }
+        ensures { self.new ≡ taken_away k (drain k self.old) }
+    {
+        self.drain(k);
+        write_lines(self.cpus[k].cache(), &mut self.ram);
+        self.cpus.truncate(k);
+    }
+}
+
 // Adds a processor and its table. Where there is no memory for one of them neither is added.
-fn add(cpus: &mut Vec<Cpu>, tables: &mut Vec<KindTable>, cpu: Cpu, table: KindTable) -> bool
-    requires { length tables.old.items ≡ length cpus.old.items }
-    ensures added { IsTrue result → (cpus.new.items ≡ cpus.old.items ++ cpu ∷ []) × (tables.new.items ≡ tables.old.items ++ table ∷ []) }
-    ensures kept { result ≡ false → (cpus.new.items ≡ cpus.old.items) × (tables.new.items ≡ tables.old.items) }
+fn add(bus: &mut Bus, tables: &mut Vec<KindTable>, cpu: Cpu, table: KindTable) -> bool
+    requires { cpu.lines ≡ [] }
+    ensures bus { bus.new ≡ (if result then system (bus.old.processors ++ cpu ∷ []) bus.old.memory else bus.old) }
+    ensures tables { tables.new.items ≡ (if result then tables.old.items ++ table ∷ [] else tables.old.items) }
 {
+    let count = tables.len();
     if tables.push(table).is_err() {
         return false;
     }
-    if cpus.push(cpu).is_err() {
-        tables.truncate(cpus.len());
+    if !bus.add(cpu) {
+        tables.truncate(count);
         return false;
     }
     true
-}
-
-fn cache_of(cpus: &[Cpu], k: usize) -> &Cache
-    requires { k < length cpus.now }
-    ensures { lines_in k cpus.now ≡ result.now }
-{
-    cpus[k].cache()
-}
-
-// The dirty words of a processor's lines go to memory, the oldest line first.
-fn write_lines(cpus: &[Cpu], ram: &mut Ram, k: usize)
-    requires { k < length cpus.now }
-    ensures { ram.new ≡ fold write_back ram.old (lines_in k cpus.now) }
-{
-    let cache = cache_of(cpus, k);
-    for i in 0..cache.len() {
-        write_back(ram, cache.nth(i));
-    }
-}
-
-// Memory gets what the last processor holds.
-fn hand_over(cpus: &mut [Cpu], ram: &mut Ram, holders: &mut Holders, k: usize)
-    requires processor { k < length cpus.old }
-    requires held { AreHeldBy cpus.old holders.old }
-    ensures left { system (take k cpus.new) ram.new ≡ taken_away k (drain k (system cpus.old ram.old)) }
-    ensures processors { cpus.new ≡ (drain k (system cpus.old ram.old)).processors }
-    ensures held { AreHeldBy cpus.new holders.new }
-{
-    drain(cpus, ram, holders, k);
-    write_lines(cpus, ram, k);
 }
 
 impl System {
@@ -96,11 +97,11 @@ impl System {
         ensures come { OnOk result (self.new ≡ reset self.old) }
         ensures kept { OnErr result (self.new ≡ self.old) }
     {
-        let k = self.cpus.len() as u32;
-        let alloc = *self.cpus.allocator();
-        let cpu = newcomer(alloc, self.cpus.as_slice())?;
+        let k = self.cpus().len() as u32;
+        let alloc = *self.tables.allocator();
+        let cpu = newcomer(alloc, self.cpus())?;
         let table = KindTable::of(cpu.regs());
-        if add(&mut self.cpus, &mut self.tables, cpu, table) {
+        if add(&mut self.bus, &mut self.tables, cpu, table) {
             Ok(k)
         } else {
             Err(NoMemory)
@@ -116,14 +117,8 @@ impl System {
         ensures number { result ≡ last_number self.old }
         ensures gone { self.new ≡ gone self.old }
     {
-        let k = self.cpus.len() - 1;
-        hand_over(
-            self.cpus.as_mut_slice(),
-            &mut self.ram,
-            &mut self.holders,
-            k,
-        );
-        self.cpus.truncate(k);
+        let k = self.cpus().len() - 1;
+        self.bus.take_away(k);
         self.tables.truncate(k);
         k as u32
     }

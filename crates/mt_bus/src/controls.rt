@@ -1,129 +1,110 @@
-ghost use Rattle.std.specs.Prelude.{◌≡◌, ℕ, List, ◌<◌, ◌/◌, length, slice_get, is_err, OnOk, OnErr, Some, IsTrue};
+ghost use Rattle.std.specs.Prelude.{◌≡◌, ◌<◌, ◌/◌, length, slice_get, is_err, OnOk, OnErr, Some, IsTrue};
 ghost use Rattle.mt_kinds.specs.Sizes.{page_bytes};
 ghost use Rattle.mt_tlb.specs.Entries.{is_full_for, set_mapping};
 ghost use Rattle.mt_machine.specs.Machine.{FitsControl};
-ghost use Rattle.mt_machine.specs.System.{Processor, snooping};
+ghost use Rattle.mt_machine.specs.System.{Processor, change, with_self_snoop};
 ghost use Rattle.mt_machine.specs.Control.{control, drop_page, reload_cr3, set_page_global};
-ghost use Rattle.mt_bus.specs.Holders.{AreHeldBy};
-ghost use Rattle.mt_bus.specs.Parts.{is_running_in, mappings_in, ruled, system, with_changed};
+ghost use Rattle.mt_bus.specs.Parts.{is_running_in, mappings_in, ruled};
 
-use crate::accesses::is_running;
-use crate::buffers::drain;
-use crate::holders::Holders;
-use mt_cpu::Cpu;
+use crate::bus::Bus;
 use mt_kinds::PAGE_BYTES;
 use mt_machine::{Control, Ruled};
-use mt_ram::Ram;
 use mt_tlb::{Full, Mapping};
 
-fn map(cpus: &mut [Cpu], k: usize, x: Mapping) -> Result<(), Full>
-    requires processor { k < length cpus.old }
-    requires fits { (p : Processor) → slice_get cpus.old k ≡ Some p → FitsControl p (Control.Map x) }
-    ensures full { is_err result ≡ is_full_for x (mappings_in k cpus.old) }
-    ensures done { OnOk result (cpus.new ≡ with_changed (λ p. record p { mappings = set_mapping x p.mappings }) k cpus.old) }
-    ensures kept { OnErr result (cpus.new ≡ cpus.old) }
-{
-    let cpu = &mut cpus[k];
-    match cpu.map(x) {
-        Ok(()) => Ok(()),
-        Err(Full) => Err(Full),
+impl Bus {
+    fn map(&mut self, k: usize, x: Mapping) -> Result<(), Full>
+        requires processor { k < length self.old.processors }
+        requires fits { (p : Processor) → slice_get self.old.processors k ≡ Some p → FitsControl p (Control.Map x) }
+        ensures full { is_err result ≡ is_full_for x (mappings_in k self.old.processors) }
+        ensures done { OnOk result (self.new ≡ change (λ p. record p { mappings = set_mapping x p.mappings }) k self.old) }
+        ensures kept { OnErr result (self.new ≡ self.old) }
+    {
+        let cpu = &mut self.cpus[k];
+        cpu.map(x)?;
+        Ok(())
     }
-}
 
-fn invlpg(cpus: &mut [Cpu], k: usize, va: u64)
-    requires { k < length cpus.old }
-    ensures after { cpus.new ≡ with_changed (drop_page (va / page_bytes)) k cpus.old }
-    ensures held { (masks : List ℕ) → AreHeldBy cpus.old masks → AreHeldBy cpus.new masks }
-{
-    let cpu = &mut cpus[k];
-    cpu.invlpg(va / PAGE_BYTES);
-}
-
-fn reload_cr3(cpus: &mut [Cpu], k: usize)
-    requires { k < length cpus.old }
-    ensures after { cpus.new ≡ with_changed reload_cr3 k cpus.old }
-    ensures held { (masks : List ℕ) → AreHeldBy cpus.old masks → AreHeldBy cpus.new masks }
-{
-    let cpu = &mut cpus[k];
-    cpu.reload_cr3();
-}
-
-fn set_pge(cpus: &mut [Cpu], k: usize, on: bool)
-    requires { k < length cpus.old }
-    ensures after { cpus.new ≡ with_changed (set_page_global on) k cpus.old }
-    ensures held { (masks : List ℕ) → AreHeldBy cpus.old masks → AreHeldBy cpus.new masks }
-{
-    let cpu = &mut cpus[k];
-    cpu.set_pge(on);
-}
-
-/// Makes a processor a self-snooping one.
-pub(crate) fn set_self_snoop(cpus: &mut [Cpu], k: usize)
-    requires { k < length cpus.old }
-    ensures after { cpus.new ≡ with_changed snooping k cpus.old }
-    ensures held { (masks : List ℕ) → AreHeldBy cpus.old masks → AreHeldBy cpus.new masks }
-{
-    let cpu = &mut cpus[k];
-    cpu.set_self_snoop();
-}
-
-fn set_cd(cpus: &mut [Cpu], k: usize, on: bool)
-    requires { k < length cpus.old }
-    ensures after { cpus.new ≡ with_changed (λ p. record p { cache_disabled = on }) k cpus.old }
-    ensures held { (masks : List ℕ) → AreHeldBy cpus.old masks → AreHeldBy cpus.new masks }
-{
-    let cpu = &mut cpus[k];
-    cpu.set_cd(on);
-}
-
-fn map_at(cpus: &mut [Cpu], ram: &Ram, k: usize, x: Mapping) -> Ruled
-    requires processor { k < length cpus.old }
-    requires running { IsTrue (is_running_in k cpus.old) }
-    requires fits { (p : Processor) → slice_get cpus.old k ≡ Some p → FitsControl p (Control.Map x) }
-    ensures after { ruled result (system cpus.new ram.now) ≡ control (system cpus.old ram.now) k (Control.Map x) }
-    ensures held { (masks : List ℕ) → AreHeldBy cpus.old masks → AreHeldBy cpus.new masks }
-{
-    match map(cpus, k, x) {
-        Ok(()) => Ruled::Okay,
-        Err(Full) => Ruled::Full,
+    fn invlpg(&mut self, k: usize, va: u64)
+        requires { k < length self.old.processors }
+        ensures { self.new ≡ change (drop_page (va / page_bytes)) k self.old }
+    {
+        let cpu = &mut self.cpus[k];
+        cpu.invlpg(va / PAGE_BYTES);
     }
-}
 
-/// One control instruction of one processor.
-pub(crate) fn control(
-    cpus: &mut [Cpu],
-    ram: &mut Ram,
-    holders: &mut Holders,
-    k: usize,
-    c: Control,
-) -> Ruled
-    requires processor { k < length cpus.old }
-    requires fits { (p : Processor) → slice_get cpus.old k ≡ Some p → FitsControl p c }
-    requires held { AreHeldBy cpus.old holders.old }
-    ensures after { ruled result (system cpus.new ram.new) ≡ control (system cpus.old ram.old) k c }
-    ensures held { AreHeldBy cpus.new holders.new }
-{
-    if !is_running(cpus, k) {
-        return Ruled::Busy;
+    fn reload_cr3(&mut self, k: usize)
+        requires { k < length self.old.processors }
+        ensures { self.new ≡ change reload_cr3 k self.old }
+    {
+        let cpu = &mut self.cpus[k];
+        cpu.reload_cr3();
     }
-    match c {
-        Control::Map(x) => return map_at(cpus, ram, k, x),
-        Control::Invlpg(va) => {
-            drain(cpus, ram, holders, k);
-            invlpg(cpus, k, va);
-        }
-        Control::Cr3 => {
-            drain(cpus, ram, holders, k);
-            reload_cr3(cpus, k);
-        }
-        Control::Pge(on) => {
-            drain(cpus, ram, holders, k);
-            set_pge(cpus, k, on);
-        }
-        Control::Cd(on) => {
-            drain(cpus, ram, holders, k);
-            set_cd(cpus, k, on);
+
+    fn set_pge(&mut self, k: usize, on: bool)
+        requires { k < length self.old.processors }
+        ensures { self.new ≡ change (set_page_global on) k self.old }
+    {
+        let cpu = &mut self.cpus[k];
+        cpu.set_pge(on);
+    }
+
+    /// Makes a processor a self-snooping one.
+    pub(crate) fn set_self_snoop(&mut self, k: usize)
+        requires { k < length self.old.processors }
+        ensures { self.new ≡ with_self_snoop k self.old }
+    {
+        let cpu = &mut self.cpus[k];
+        cpu.set_self_snoop();
+    }
+
+    fn set_cd(&mut self, k: usize, on: bool)
+        requires { k < length self.old.processors }
+        ensures { self.new ≡ change (λ p. record p { cache_disabled = on }) k self.old }
+    {
+        let cpu = &mut self.cpus[k];
+        cpu.set_cd(on);
+    }
+
+    fn map_at(&mut self, k: usize, x: Mapping) -> Ruled
+        requires processor { k < length self.old.processors }
+        requires running { IsTrue (is_running_in k self.old.processors) }
+        requires fits { (p : Processor) → slice_get self.old.processors k ≡ Some p → FitsControl p (Control.Map x) }
+        ensures { ruled result self.new ≡ control self.old k (Control.Map x) }
+    {
+        match self.map(k, x) {
+            Ok(()) => Ruled::Okay,
+            Err(Full) => Ruled::Full,
         }
     }
-    Ruled::Okay
+
+    /// One control instruction of one processor.
+    pub(crate) fn control(&mut self, k: usize, c: Control) -> Ruled
+        requires processor { k < length self.old.processors }
+        requires fits { (p : Processor) → slice_get self.old.processors k ≡ Some p → FitsControl p c }
+        ensures { ruled result self.new ≡ control self.old k c }
+    {
+        if !self.is_running(k) {
+            return Ruled::Busy;
+        }
+        match c {
+            Control::Map(x) => return self.map_at(k, x),
+            Control::Invlpg(va) => {
+                self.drain(k);
+                self.invlpg(k, va);
+            }
+            Control::Cr3 => {
+                self.drain(k);
+                self.reload_cr3(k);
+            }
+            Control::Pge(on) => {
+                self.drain(k);
+                self.set_pge(k, on);
+            }
+            Control::Cd(on) => {
+                self.drain(k);
+                self.set_cd(k, on);
+            }
+        }
+        Ruled::Okay
+    }
 }

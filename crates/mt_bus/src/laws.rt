@@ -8,7 +8,7 @@ use crate::system::System;
 pub fn a_system_is_sound(system: &System)
     ensures { IsSound system.now }
 {
-    let _ = &system.ram; // a fact for the proof
+    let _ = &system.bus; // a fact for the proof
 }
 
 /// Specifies when each refusal of an access is returned, and what then changes.

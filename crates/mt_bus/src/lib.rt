@@ -3,6 +3,7 @@
 
 mod accesses;
 mod buffers;
+mod bus;
 mod coming;
 mod controls;
 mod copies;

@@ -3,60 +3,15 @@ ghost use Rattle.mt_cache.specs.declared.line.CacheLine.{CacheLine};
 ghost use Rattle.mt_cache.specs.Lines.{change_line, clean_line, find_line, without_line};
 ghost use Rattle.mt_machine.specs.Memory.{write_back_of};
 ghost use Rattle.mt_machine.specs.Bus.{bus_read, empty_buffer, invalidate, invalidate_others, with_lines, write_back_others};
-ghost use Rattle.mt_bus.specs.Holders.{AreHeldBy, IsNowhere, IsNowhereElse};
-ghost use Rattle.mt_bus.specs.Parts.{system};
+ghost use Rattle.mt_bus.specs.Holders.{IsNowhere, IsNowhereElse};
 
+use crate::bus::Bus;
 use crate::copies::{clean_copy, drop_copy};
-use crate::holders::{BITS, Holders};
+use crate::holders::BITS;
 use crate::words::write_back;
 use mt_cache::CacheLine;
 use mt_cpu::Cpu;
 use mt_ram::Ram;
-
-// Whether no cache may have a line.
-#[inline(always)]
-fn is_nowhere(cpus: &[Cpu], holders: &Holders, number: u64) -> bool
-    requires { AreHeldBy cpus.now holders.now }
-    ensures { IsTrue result → IsNowhere number cpus.now }
-{
-    cpus.len() <= BITS && holders.none(number)
-}
-
-// Whether no cache but that of one processor may have a line.
-#[inline(always)]
-fn is_nowhere_else(cpus: &[Cpu], holders: &Holders, k: usize, number: u64) -> bool
-    requires held { AreHeldBy cpus.now holders.now }
-    requires processor { k < length cpus.now }
-    ensures { IsTrue result → IsNowhereElse k number cpus.now }
-{
-    cpus.len() <= BITS && holders.only(k, number)
-}
-
-// Looks whether the cache of a processor may still have a line.
-pub(crate) fn look_at(cpus: &[Cpu], holders: &mut Holders, k: usize, number: u64)
-    requires held { AreHeldBy cpus.now holders.old }
-    requires processor { k < length cpus.now }
-    ensures { AreHeldBy cpus.now holders.new }
-{
-    if !cpus[k].cache().may_have(number) {
-        holders.remove(k, number);
-    }
-}
-
-// Finds anew which caches may have a line.
-fn look_again(cpus: &[Cpu], holders: &mut Holders, number: u64)
-    requires { AreHeldBy cpus.now holders.old }
-    ensures { AreHeldBy cpus.now holders.new }
-{
-    if !holders.is_known() {
-        return;
-    }
-    for i in 0..cpus.len() {
-        if holders.may_hold(i, number) {
-            look_at(cpus, holders, i, number);
-        }
-    }
-}
 
 fn clean_in(cpu: &mut Cpu, ram: &mut Ram, number: u64)
     ensures cpu { cpu.new ≡ with_lines (change_line number clean_line) cpu.old }
@@ -122,139 +77,140 @@ fn drop_unless(cpu: &mut Cpu, ram: &mut Ram, number: u64, own: bool, may: bool)
     }
 }
 
-// A read on the bus, one cache after the other.
-fn read_each(cpus: &mut [Cpu], ram: &mut Ram, holders: &Holders, number: u64)
-    requires { AreHeldBy cpus.old holders.now }
-    ensures after { system cpus.new ram.new ≡ bus_read number (system cpus.old ram.old) }
-    ensures held { AreHeldBy cpus.new holders.now }
-{
-    for i in 0..cpus.len() {
-        let may = holders.may_hold(i, number);
-        clean_if(&mut cpus[i], ram, number, may);
+impl Bus {
+    // Whether no cache may have a line.
+    #[inline(always)]
+    fn is_nowhere(&self, number: u64) -> bool
+        ensures { IsTrue result → IsNowhere number self.now.processors }
+    {
+        self.cpus.len() <= BITS && self.holders.none(number)
     }
-}
 
-fn read_and_drop_each(cpus: &mut [Cpu], ram: &mut Ram, holders: &Holders, number: u64)
-    requires { AreHeldBy cpus.old holders.now }
-    ensures after { system cpus.new ram.new ≡ invalidate number (bus_read number (system cpus.old ram.old)) }
-    ensures held { AreHeldBy cpus.new holders.now }
-{
-    for i in 0..cpus.len() {
-        let may = holders.may_hold(i, number);
-        drop_if(&mut cpus[i], ram, number, may);
+    // Whether no cache but that of one processor may have a line.
+    #[inline(always)]
+    fn is_nowhere_else(&self, k: usize, number: u64) -> bool
+        requires { k < length self.now.processors }
+        ensures { IsTrue result → IsNowhereElse k number self.now.processors }
+    {
+        self.cpus.len() <= BITS && self.holders.only(k, number)
     }
-}
 
-fn read_and_drop_each_other(
-    cpus: &mut [Cpu],
-    ram: &mut Ram,
-    holders: &Holders,
-    k: usize,
-    number: u64,
-)
-    requires { AreHeldBy cpus.old holders.now }
-    ensures after { system cpus.new ram.new ≡ invalidate_others k number (bus_read number (system cpus.old ram.old)) }
-    ensures held { AreHeldBy cpus.new holders.now }
-{
-    for i in 0..cpus.len() {
-        let may = holders.may_hold(i, number);
-        clean_or_drop_in(&mut cpus[i], ram, number, i == k, may);
+    /// Looks whether the cache of a processor may still have a line.
+    pub(crate) fn look_at(&mut self, k: usize, number: u64)
+        requires { k < length self.old.processors }
+        ensures { self.new ≡ self.old }
+    {
+        if !self.cpus[k].cache().may_have(number) {
+            self.holders.remove(k, number);
+        }
     }
-}
 
-fn take_from_each(cpus: &mut [Cpu], ram: &mut Ram, holders: &Holders, k: usize, number: u64)
-    requires processor { k < length cpus.old }
-    requires held { AreHeldBy cpus.old holders.now }
-    ensures after { system cpus.new ram.new ≡ invalidate_others k number (write_back_others k number (system cpus.old ram.old)) }
-    ensures held { AreHeldBy cpus.new holders.now }
-{
-    for i in 0..cpus.len() {
-        let may = holders.may_hold(i, number);
-        drop_unless(&mut cpus[i], ram, number, i == k, may);
+    // Finds anew which caches may have a line.
+    fn look_again(&mut self, number: u64)
+        ensures { self.new ≡ self.old }
+    {
+        if !self.holders.is_known() {
+            return;
+        }
+        for i in 0..self.cpus.len() {
+            if self.holders.may_hold(i, number) {
+                self.look_at(i, number);
+            }
+        }
     }
-}
 
-/// Reads a line on the bus: each cache's dirty words of it go to memory, and the copies stay.
-pub(crate) fn bus_read(cpus: &mut [Cpu], ram: &mut Ram, holders: &mut Holders, number: u64)
-    requires { AreHeldBy cpus.old holders.old }
-    ensures after { system cpus.new ram.new ≡ bus_read number (system cpus.old ram.old) }
-    ensures held { AreHeldBy cpus.new holders.new }
-{
-    if is_nowhere(cpus, holders, number) {
-        return;
+    // A read on the bus, one cache after the other.
+    fn read_each(&mut self, number: u64)
+        ensures { self.new ≡ bus_read number self.old }
+    {
+        for i in 0..self.cpus.len() {
+            let may = self.holders.may_hold(i, number);
+            clean_if(&mut self.cpus[i], &mut self.ram, number, may);
+        }
     }
-    read_each(cpus, ram, holders, number);
-    look_again(cpus, holders, number);
-}
 
-/// Reads a line on the bus, and drops the copies of it in all caches.
-pub(crate) fn read_and_drop(cpus: &mut [Cpu], ram: &mut Ram, holders: &mut Holders, number: u64)
-    requires { AreHeldBy cpus.old holders.old }
-    ensures after { system cpus.new ram.new ≡ invalidate number (bus_read number (system cpus.old ram.old)) }
-    ensures held { AreHeldBy cpus.new holders.new }
-{
-    if is_nowhere(cpus, holders, number) {
-        return;
+    fn read_and_drop_each(&mut self, number: u64)
+        ensures { self.new ≡ invalidate number (bus_read number self.old) }
+    {
+        for i in 0..self.cpus.len() {
+            let may = self.holders.may_hold(i, number);
+            drop_if(&mut self.cpus[i], &mut self.ram, number, may);
+        }
     }
-    read_and_drop_each(cpus, ram, holders, number);
-    look_again(cpus, holders, number);
-}
 
-/// Reads a line on the bus, and drops the copies of it in the caches of all processors but one.
-pub(crate) fn read_and_drop_others(
-    cpus: &mut [Cpu],
-    ram: &mut Ram,
-    holders: &mut Holders,
-    k: usize,
-    number: u64,
-)
-    requires processor { k < length cpus.old }
-    requires held { AreHeldBy cpus.old holders.old }
-    ensures after { system cpus.new ram.new ≡ invalidate_others k number (bus_read number (system cpus.old ram.old)) }
-    ensures held { AreHeldBy cpus.new holders.new }
-{
-    if is_nowhere_else(cpus, holders, k, number) {
-        let cpu = &mut cpus[k];
-        clean_in(cpu, ram, number);
-        return;
+    fn read_and_drop_each_other(&mut self, k: usize, number: u64)
+        ensures { self.new ≡ invalidate_others k number (bus_read number self.old) }
+    {
+        for i in 0..self.cpus.len() {
+            let may = self.holders.may_hold(i, number);
+            clean_or_drop_in(&mut self.cpus[i], &mut self.ram, number, i == k, may);
+        }
     }
-    read_and_drop_each_other(cpus, ram, holders, k, number);
-    look_again(cpus, holders, number);
-}
 
-/// Takes a line over: the dirty words of it in the caches of all processors but one go to memory, and
-/// their copies are dropped.
-pub(crate) fn take_over(
-    cpus: &mut [Cpu],
-    ram: &mut Ram,
-    holders: &mut Holders,
-    k: usize,
-    number: u64,
-)
-    requires processor { k < length cpus.old }
-    requires held { AreHeldBy cpus.old holders.old }
-    ensures after { system cpus.new ram.new ≡ invalidate_others k number (write_back_others k number (system cpus.old ram.old)) }
-    ensures held { AreHeldBy cpus.new holders.new }
-{
-    if is_nowhere_else(cpus, holders, k, number) {
-        return;
+    fn take_from_each(&mut self, k: usize, number: u64)
+        requires { k < length self.old.processors }
+        ensures { self.new ≡ invalidate_others k number (write_back_others k number self.old) }
+    {
+        for i in 0..self.cpus.len() {
+            let may = self.holders.may_hold(i, number);
+            drop_unless(&mut self.cpus[i], &mut self.ram, number, i == k, may);
+        }
     }
-    take_from_each(cpus, ram, holders, k, number);
-    look_again(cpus, holders, number);
-}
 
-/// Empties a buffer: its line is read on the bus and dropped by all caches, and its written words
-/// are stored in memory.
-pub(crate) fn empty_buffer(
-    cpus: &mut [Cpu],
-    ram: &mut Ram,
-    holders: &mut Holders,
-    buffer: &CacheLine,
-)
-    requires { AreHeldBy cpus.old holders.old }
-    ensures after { system cpus.new ram.new ≡ empty_buffer (system cpus.old ram.old) buffer.now }
-    ensures held { AreHeldBy cpus.new holders.new }
-{
-    read_and_drop(cpus, ram, holders, buffer.number);
-    write_back(ram, buffer);
+    /// Reads a line on the bus: each cache's dirty words of it go to memory, and the copies stay.
+    pub(crate) fn bus_read(&mut self, number: u64)
+        ensures { self.new ≡ bus_read number self.old }
+    {
+        if self.is_nowhere(number) {
+            return;
+        }
+        self.read_each(number);
+        self.look_again(number);
+    }
+
+    /// Reads a line on the bus, and drops the copies of it in all caches.
+    pub(crate) fn read_and_drop(&mut self, number: u64)
+        ensures { self.new ≡ invalidate number (bus_read number self.old) }
+    {
+        if self.is_nowhere(number) {
+            return;
+        }
+        self.read_and_drop_each(number);
+        self.look_again(number);
+    }
+
+    /// Reads a line on the bus, and drops the copies of it in the caches of all processors but one.
+    pub(crate) fn read_and_drop_others(&mut self, k: usize, number: u64)
+        requires { k < length self.old.processors }
+        ensures { self.new ≡ invalidate_others k number (bus_read number self.old) }
+    {
+        if self.is_nowhere_else(k, number) {
+            clean_in(&mut self.cpus[k], &mut self.ram, number);
+            return;
+        }
+        self.read_and_drop_each_other(k, number);
+        self.look_again(number);
+    }
+
+    /// Takes a line over: the dirty words of it in the caches of all processors but one go to memory, and
+    /// their copies are dropped.
+    pub(crate) fn take_over(&mut self, k: usize, number: u64)
+        requires { k < length self.old.processors }
+        ensures { self.new ≡ invalidate_others k number (write_back_others k number self.old) }
+    {
+        if self.is_nowhere_else(k, number) {
+            return;
+        }
+        self.take_from_each(k, number);
+        self.look_again(number);
+    }
+
+    /// Empties a buffer: its line is read on the bus and dropped by all caches, and its written words
+    /// are stored in memory.
+    pub(crate) fn empty_buffer(&mut self, buffer: &CacheLine)
+        ensures { self.new ≡ empty_buffer self.old buffer.now }
+    {
+        self.read_and_drop(buffer.number);
+        write_back(&mut self.ram, buffer);
+    }
 }

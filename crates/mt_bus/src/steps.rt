@@ -1,38 +1,22 @@
 // What the events of an update do to a system.
-ghost use Rattle.std.specs.Prelude.{◌≡◌, ◌<◌, ◌-◌, ◌^◌, [], length, slice_get, IsTrue, List, Some};
+ghost use Rattle.std.specs.Prelude.{◌≡◌, ◌<◌, ◌^◌, length, slice_get, IsTrue, Some};
 ghost use Rattle.std.specs.List.{All};
 ghost use Rattle.mt_regs.specs.RegisterFile.{RegisterFile};
 ghost use Rattle.mt_regs.specs.Faults.{IsAccepted};
 ghost use Rattle.mt_types.specs.Tables.{TypeTable};
-ghost use Rattle.mt_cpu.specs.Steps.{HasWritten, is_local, is_shift};
-ghost use Rattle.mt_machine.specs.System.{Processor};
-ghost use Rattle.mt_machine.specs.Machine.{FitsGoal, Order, before_own, due, own_step, step};
+ghost use Rattle.mt_cpu.specs.Steps.{is_shift};
+ghost use Rattle.mt_machine.specs.System.{Processor, change};
+ghost use Rattle.mt_machine.specs.Machine.{before_own, own_step, step};
 ghost use Rattle.mt_bus.specs.Holders.{CoversOthers};
-ghost use Rattle.mt_bus.specs.Parts.{with_changed};
 ghost use Rattle.mt_bus.specs.Steps.{IsBetween, IsDueAlone, IsReady, KeepsSystem, tables_after, with_word_of};
 
+use crate::bus::Bus;
 use crate::holders::Holders;
 use crate::system::System;
-use mt_cpu::Cpu;
 use mt_machine::Event;
 use mt_ram::Ram;
 use mt_regs::RegFile;
 use mt_types::KindTable;
-
-// The processor's part of its local event.
-fn do_own_part(cpus: &mut [Cpu], k: usize, goal: &RegFile) -> Event
-    requires processor { k < length cpus.old }
-    requires accepted { IsAccepted goal.now }
-    requires phase { (p : Processor) → slice_get cpus.old k ≡ Some p → IsTrue (is_local p.phase) }
-    requires fits { (p : Processor) → slice_get cpus.old k ≡ Some p → FitsGoal goal.now p }
-    requires written { (p : Processor) → slice_get cpus.old k ≡ Some p → HasWritten goal.now p }
-    requires numbers { (p : Processor) → slice_get cpus.old k ≡ Some p → All (λ l. l.number < 2 ^ 46) p.lines }
-    ensures event { (p : Processor) → slice_get cpus.old k ≡ Some p → (o : Order) (ps : List Processor) → due o ps p p.phase ≡ Some result }
-    ensures step { cpus.new ≡ with_changed (own_step goal.now result) k cpus.old }
-{
-    let cpu = &mut cpus[k];
-    cpu.local(goal)
-}
 
 // The word that a write-back writes to memory.
 fn write_word_of(ram: &mut Ram, e: Event)
@@ -64,15 +48,55 @@ fn forget_lines(holders: &mut Holders, k: usize, e: Event)
     }
 }
 
-fn move_phase(cpus: &mut [Cpu], k: usize, e: Event)
-    requires processor { k < length cpus.old }
-    requires enabled { (p : Processor) → slice_get cpus.old k ≡ Some p → IsTrue (is_shift e p.phase) }
-    requires room { (p : Processor) → slice_get cpus.old k ≡ Some p → e ≡ Event.Release → p.era < 2 ^ 64 - 1 }
-    requires empty { (p : Processor) → slice_get cpus.old k ≡ Some p → e ≡ Event.Take → p.buffers ≡ [] }
-    ensures { (goal : RegisterFile) → cpus.new ≡ with_changed (own_step goal e) k cpus.old }
-{
-    let cpu = &mut cpus[k];
-    cpu.shift(e);
+impl Bus {
+    /// Does the event of a processor that is due between the barriers of an update to a goal, and returns which one it was.
+    pub(crate) fn do_local(&mut self, k: usize, goal: &RegFile) -> Event
+        requires processor { k < length self.old.processors }
+        requires accepted { IsAccepted goal.now }
+        requires between { (p : Processor) → slice_get self.old.processors k ≡ Some p → IsBetween goal.now p }
+        requires numbers { (p : Processor) → slice_get self.old.processors k ≡ Some p → All (λ l. l.number < 2 ^ 46) p.lines }
+        ensures event { IsDueAlone k self.old result }
+        ensures step { self.new ≡ step goal.now result k self.old }
+    {
+        let cpu = &mut self.cpus[k];
+        let e = cpu.local(goal);
+        write_word_of(&mut self.ram, e);
+        forget_lines(&mut self.holders, k, e);
+        e
+    }
+
+    // Take is a fence: the buffers are emptied first. No other barrier event does anything before it.
+    fn prepare(&mut self, k: usize, e: Event)
+        requires processor { k < length self.old.processors }
+        requires shift { (p : Processor) → slice_get self.old.processors k ≡ Some p → IsTrue (is_shift e p.phase) }
+        ensures { self.new ≡ before_own e k self.old }
+    {
+        match e {
+            Event::Take => self.drain(k),
+            _ => {}
+        }
+    }
+
+    // Moves the phase of a processor.
+    fn move_phase(&mut self, k: usize, e: Event)
+        requires processor { k < length self.old.processors }
+        requires ready { (p : Processor) → slice_get self.old.processors k ≡ Some p → IsReady e p }
+        ensures { (goal : RegisterFile) → self.new ≡ change (own_step goal e) k self.old }
+    {
+        let cpu = &mut self.cpus[k];
+        cpu.shift(e);
+    }
+
+    /// Does an event of the barriers: it moves the processor's phase. Take empties the buffers first.
+    pub(crate) fn do_shift(&mut self, k: usize, e: Event)
+        requires processor { k < length self.old.processors }
+        requires shift { (p : Processor) → slice_get self.old.processors k ≡ Some p → IsTrue (is_shift e p.phase) }
+        requires ready { (p : Processor) → slice_get (before_own e k self.old).processors k ≡ Some p → IsReady e p }
+        ensures { (goal : RegisterFile) → self.new ≡ step goal e k self.old }
+    {
+        self.prepare(k, e);
+        self.move_phase(k, e);
+    }
 }
 
 impl System {
@@ -86,23 +110,9 @@ impl System {
         ensures event { IsDueAlone k self.old result }
         ensures step { self.new ≡ step goal.now result k self.old }
     {
-        let e = do_own_part(self.cpus.as_mut_slice(), k as usize, goal);
-        write_word_of(&mut self.ram, e);
+        let e = self.bus.do_local(k as usize, goal);
         renew_table(self.tables.as_mut_slice(), k as usize, e, kinds);
-        forget_lines(&mut self.holders, k as usize, e);
         e
-    }
-
-    // Take is a fence: the buffers are emptied first. No other barrier event does anything before it.
-    fn prepare(&mut self, k: u32, e: Event)
-        requires processor { k < length self.old.processors }
-        requires shift { (p : Processor) → slice_get self.old.processors k ≡ Some p → IsTrue (is_shift e p.phase) }
-        ensures { self.new ≡ before_own e k self.old }
-    {
-        match e {
-            Event::Take => self.drain(k),
-            _ => {}
-        }
     }
 
     /// Does an event of the barriers: it moves the processor's phase. Take empties the buffers first.
@@ -113,7 +123,6 @@ impl System {
         requires keeps { (goal : RegisterFile) × ((t : TypeTable) × KeepsSystem goal e k self.old t) }
         ensures { (goal : RegisterFile) → self.new ≡ step goal e k self.old }
     {
-        self.prepare(k, e);
-        move_phase(self.cpus.as_mut_slice(), k as usize, e);
+        self.bus.do_shift(k as usize, e);
     }
 }

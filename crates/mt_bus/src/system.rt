@@ -15,9 +15,9 @@ ghost use Rattle.mt_bus.specs.Parts.{system};
 ghost use Rattle.mt_bus.specs.Tables.{AreTablesOf};
 ghost use Rattle.mt_bus.specs.Whole.{IsWhole};
 
+use crate::bus::Bus;
 use crate::holders::Holders;
 use crate::system_parts::SystemParts;
-use crate::{accesses, buffers, controls};
 use mt_cpu::Cpu;
 use mt_machine::{Control, Done, Op, Ruled};
 use mt_ports::NoMemory;
@@ -29,26 +29,22 @@ use std::marker::Model;
 
 /// Processors over one memory. Caches and memory agree, and each cached or buffered line lies in a window. Each
 /// processor translates by its own table of types. The table has the types of the processor's registers, except while
-/// these are written. The holders say of each line of each cache that this cache may have it. Tables and holders are no
-/// part of the system's value.
+/// these are written. The tables, as the holders of the bus, are no part of the system's value.
 #[derive(Drop)]
 pub struct System {
-    pub(crate) cpus: Vec<Cpu>,
-    pub(crate) ram: Ram,
+    pub(crate) bus: Bus,
     pub(crate) tables: Vec<KindTable>,
-    pub(crate) holders: Holders,
 }
 
 impl Model for System {
     ghost use Rattle.mt_machine.specs.System.{System as MachineSystem, IsSound};
-    ghost use Rattle.mt_bus.specs.Holders.{AreHeldBy};
     ghost use Rattle.mt_bus.specs.Tables.{AreTablesOf};
 
     ghost Value = { MachineSystem };
 
-    ghost view = { λ s. record { processors = s.cpus.items; memory = s.ram } };
+    ghost view = { λ s. s.bus };
 
-    ghost invariant = { λ s. IsSound (record { processors = s.cpus.items; memory = s.ram }) × AreTablesOf s.cpus.items s.tables.items × AreHeldBy s.cpus.items s.holders };
+    ghost invariant = { λ s. IsSound s.bus × AreTablesOf s.bus.processors s.tables.items };
 }
 
 // A processor at the start for each file.
@@ -92,6 +88,17 @@ fn start_holders(alloc: Global, count: usize) -> Result<Holders, NoMemory>
     }
 }
 
+// A bus with a processor for each file, over memory without windows.
+fn start_bus(alloc: Global, files: &[RegFile]) -> Result<Bus, NoMemory>
+    requires { All IsAccepted files.now }
+    ensures { IfOk result (λ bus. bus ≡ (start_machine files.now []).system) }
+{
+    let cpus = start_cpus(alloc, files)?;
+    let holders = start_holders(alloc, files.len())?;
+    let ram = Ram::new(alloc);
+    Ok(Bus { cpus, ram, holders })
+}
+
 impl System {
     /// A processor for each file, which runs with it, over memory without windows. Fails only if an allocation fails.
     pub fn new(alloc: Global, files: &[RegFile]) -> Result<System, NoMemory>
@@ -101,26 +108,22 @@ impl System {
         ensures { IfOk result (λ s. s ≡ (start_machine files.now []).system) }
     {
         let tables = start_tables(alloc, files)?;
-        let cpus = start_cpus(alloc, files)?;
-        let holders = start_holders(alloc, files.len())?;
-        let ram = Ram::new(alloc);
-        Ok(System {
-            cpus,
-            ram,
-            tables,
-            holders,
-        })
+        let bus = start_bus(alloc, files)?;
+        Ok(System { bus, tables })
     }
 
     /// A system without processors and windows.
     pub fn empty(alloc: Global) -> System
         ensures { result ≡ system [] (record { windows = []; words = [] }) }
     {
-        System {
+        let bus = Bus {
             cpus: Vec::new(alloc),
             ram: Ram::new(alloc),
-            tables: Vec::new(alloc),
             holders: Holders::unknown(alloc),
+        };
+        System {
+            bus,
+            tables: Vec::new(alloc),
         }
     }
 
@@ -136,12 +139,8 @@ impl System {
             tables,
             holders,
         } = parts;
-        System {
-            cpus,
-            ram,
-            tables,
-            holders,
-        }
+        let bus = Bus { cpus, ram, holders };
+        System { bus, tables }
     }
 
     /// Takes the system apart.
@@ -149,12 +148,8 @@ impl System {
         ensures whole { IsWhole result }
         ensures value { system result.cpus.items result.ram ≡ self }
     {
-        let System {
-            cpus,
-            ram,
-            tables,
-            holders,
-        } = self;
+        let System { bus, tables } = self;
+        let Bus { cpus, ram, holders } = bus;
         SystemParts {
             cpus,
             ram,
@@ -167,14 +162,16 @@ impl System {
     pub fn cpus(&self) -> &[Cpu]
         ensures { result.now ≡ self.now.processors }
     {
-        self.cpus.as_slice()
+        let bus = &self.bus;
+        bus.cpus.as_slice()
     }
 
     /// The memory.
     pub fn ram(&self) -> &Ram
         ensures { result.now ≡ self.now.memory }
     {
-        &self.ram
+        let bus = &self.bus;
+        &bus.ram
     }
 
     /// Adds a window of zero words to the memory, from an address in bytes on.
@@ -190,8 +187,9 @@ impl System {
         ensures added { OnOk result (self.new ≡ record self.old { memory = with_window (window base lines) self.old.memory }) }
         ensures kept { OnErr result (self.new ≡ self.old) }
     {
-        self.ram.add(base, lines)?;
-        let _ = self.ram.words(); // a fact for the proof
+        let bus = &mut self.bus;
+        bus.ram.add(base, lines)?;
+        let _ = bus.ram.words(); // a fact for the proof
         Ok(())
     }
 
@@ -200,7 +198,7 @@ impl System {
         requires { k < length self.old.processors }
         ensures { self.new ≡ with_self_snoop k self.old }
     {
-        controls::set_self_snoop(self.cpus.as_mut_slice(), k as usize);
+        self.bus.set_self_snoop(k as usize);
     }
 
     /// One control instruction of a processor. A mapping that is set has an index below 8, a
@@ -211,13 +209,7 @@ impl System {
         ensures answer { result ≡ (control self.old k c).answer }
         ensures after { self.new ≡ (control self.old k c).after }
     {
-        controls::control(
-            self.cpus.as_mut_slice(),
-            &mut self.ram,
-            &mut self.holders,
-            k as usize,
-            c,
-        )
+        self.bus.control(k as usize, c)
     }
 
     /// One access of a processor, an address being in bytes.
@@ -227,14 +219,7 @@ impl System {
         ensures after { self.new ≡ (access self.old k op).after }
     {
         let table = &self.tables.as_slice()[k as usize];
-        accesses::access(
-            self.cpus.as_mut_slice(),
-            table,
-            &mut self.ram,
-            &mut self.holders,
-            k as usize,
-            op,
-        )
+        self.bus.access(table, k as usize, op)
     }
 
     /// Empties the buffers of a processor, the oldest first, in any phase.
@@ -242,11 +227,6 @@ impl System {
         requires { k < length self.old.processors }
         ensures { self.new ≡ drain k self.old }
     {
-        buffers::drain(
-            self.cpus.as_mut_slice(),
-            &mut self.ram,
-            &mut self.holders,
-            k as usize,
-        );
+        self.bus.drain(k as usize);
     }
 }

@@ -6,6 +6,6 @@ use Rattle.mt_bus.proofs.coming.write_lines.Goals as goal
 
 pub loop-i-preserved : goal.loop-i-preserved
 loop-i-preserved c =
-    ap (λ m. fold write_back m (drop (c.loop-i.i + 1) c.cache_of-cache.result.now)) c.write_back.ensures
-    ∙ sym (ap (fold write_back c.loop-i.ram) (drop_at c.cache_of-cache.result.now c.loop-i.i c.nth.result.now c.nth.ensures))
+    ap (λ m. fold write_back m (drop (c.loop-i.i + 1) c.args.cache.now)) c.write_back.ensures
+    ∙ sym (ap (fold write_back c.loop-i.ram) (drop_at c.args.cache.now c.loop-i.i c.nth.result.now c.nth.ensures))
     ∙ c.loop-i.invariant

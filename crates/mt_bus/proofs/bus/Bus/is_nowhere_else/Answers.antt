@@ -1,0 +1,10 @@
+use Rattle.std.proofs.Common.{rules, subst}
+use Rattle.mt_machine.specs.System.{System}
+use Rattle.mt_bus.specs.Holders.{IsNowhereElse}
+use Rattle.mt_bus.proofs.Held.{nowhere_else}
+use Rattle.mt_bus.proofs.bus.Bus.is_nowhere_else.Goals as goal
+
+pub returns-then-len-le-BITS : goal.returns-then-len-le-BITS
+returns-then-len-le-BITS c =
+    λ is. subst (λ (s : System). IsNowhereElse c.args.k c.args.number s.processors) c.self.view_is
+    (nowhere_else c.self.inside.cpus.items c.self.inside.holders c.args.k c.args.number c.self.invariant (search rules) (c.only.ensures is))

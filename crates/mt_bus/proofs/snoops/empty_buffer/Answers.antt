@@ -1,9 +1,0 @@
-use Rattle.std.proofs.Common.{ap}
-use Rattle.mt_machine.specs.Memory.{write_back}
-use Rattle.mt_machine.specs.System.{System}
-use Rattle.mt_bus.proofs.snoops.empty_buffer.Goals as goal
-
-pub returns-clause-after : goal.returns-clause-after
-returns-clause-after c =
-    rw c.write_back.ensures
-    (ap (λ (s : System). record s { memory = write_back s.memory c.args.buffer.now }) c.read_and_drop.ensures.after)
