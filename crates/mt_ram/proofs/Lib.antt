@@ -1,2 +1,3 @@
 pub mod Windows
 mod Addresses
+mod Front

@@ -1,15 +1,15 @@
 -- Lists of windows: what holds from a place on, where words lie, and one window more.
-use Rattle.std.proofs.Common.{◌≡◌, ◌∙◌, ap, sym, subst, inl, inr, refl, arith, ℕ, zero, suc, ◌<◌, ◌≤◌, ◌+◌, ◌-◌, ◌*◌, ◌/◌, ◌%◌, ◌^◌, ◌==◌, ◌&&◌, ◌||◌, nat_le, nat_lt, Bool, true, false, IfSome, if◌then◌else◌, List, [], ◌∷◌, ◌++◌, map, length, drop, take, replicate, slice_index_or, Some, None, Vec}
+use Rattle.std.proofs.Common.{◌≡◌, ◌∙◌, ap, sym, subst, inl, inr, refl, arith, ℕ, zero, suc, ◌<◌, ◌≤◌, ◌+◌, ◌-◌, ◌*◌, ◌/◌, ◌%◌, ◌^◌, ◌==◌, ◌&&◌, ◌||◌, nat_le, nat_lt, Bool, true, false, IfSome, if◌then◌else◌, List, [], ◌∷◌, ◌++◌, map, length, drop, take, replicate, slice_index_or, Some, None}
 use Rattle.std.proofs.lemmas.Bool.{eqb-true, ltb-false, leb-false, leb-true, ltb-true}
-use Rattle.std.proofs.lemmas.List.{append_assoc, drop-drop, drop_more, length-append, length-drop, length-replicate, length-take, map-append, take-append-le, take_all}
+use Rattle.std.proofs.lemmas.List.{drop_more, length-append, length-drop, length-replicate, map-append}
 use Rattle.std.proofs.lemmas.List.Elements.{All-head, All-tail, All-push}
 use Rattle.std.proofs.lemmas.List.Quantifiers.{all_pairs_push}
-use Rattle.std.specs.List.{All, slice_range}
-use Rattle.std.specs.Vec.{with_items_from}
+use Rattle.std.specs.List.{All}
 use Rattle.mt_ram.specs.declared.fault.RamFault.TheVariants.{Misaligned, Overlaps, TooMuch}
 use Rattle.mt_ram.specs.declared.window.Window.{Window}
 use Rattle.mt_machine.specs.Memory as machine
-use Rattle.mt_ram.specs.Windows.{IsRam, is_overlap, refusal, shares_byte, window, window_of, with_window}
+use Rattle.mt_ram.proofs.Front.{grown}
+use Rattle.mt_ram.specs.Windows.{IsRam, behind_front, is_overlap, refusal, shares_byte, window, window_of, with_window}
 
 abbrev pub IsBounded : List machine.Window → Type 0
 IsBounded ws = All (λ w. machine.window_end w ≤ 2 ^ 52) ws
@@ -103,19 +103,21 @@ pub words_pushed : (ws : List machine.Window) (w : machine.Window) → machine.w
 words_pushed [] w = omega arith
 words_pushed (v ∷ vs) w = let e = words_pushed vs w in omega arith
 
-pub added : (m : machine.Memory) (w : machine.Window) → IsRam m → 0 < w.lines → machine.window_end w ≤ 2 ^ 52 → IsAdmitted m.windows w → IsRam (with_window w m)
-added m w h some bound f =
-    let long : length (m.words ++ replicate (8 * w.lines) 0) ≡ machine.word_count m.windows + 8 * w.lines =
-    length-append m.words (replicate (8 * w.lines) 0) ∙ ap (λ n. length m.words + n) (length-replicate (8 * w.lines) 0) ∙ ap (λ n. n + 8 * w.lines) h.memory.counted in
+added : (ws : List machine.Window) (w : machine.Window) (xs long : List ℕ) → IsRam ws xs → 0 < w.lines → machine.window_end w ≤ 2 ^ 52 → IsAdmitted ws w
+    → drop 18 long ≡ drop 18 xs ++ replicate (8 * w.lines) 0 → take 18 long ≡ replicate 18 0 → IsRam (ws ++ w ∷ []) long
+added ws w xs long h some bound f more front =
+    let total : length (drop 18 long) ≡ machine.word_count ws + 8 * w.lines =
+    ap length more ∙ length-append (drop 18 xs) (replicate (8 * w.lines) 0) ∙ ap (λ n. length (drop 18 xs) + n) (length-replicate (8 * w.lines) 0) ∙ ap (λ n. n + 8 * w.lines) h.memory.counted in
     record {
       memory = record {
-        some_lines = All-push (λ v. 0 < v.lines) m.windows w h.memory.some_lines some;
-        aligned = All-push (λ v. v.base % 64 ≡ 0) m.windows w h.memory.aligned f.aligned;
-        bounded = All-push (λ v. machine.window_end v ≤ 2 ^ 52) m.windows w h.memory.bounded bound;
-        apart = all_pairs_push machine.AreApart m.windows w h.memory.apart (apart_from_all m.windows w f.apart);
-        counted = long ∙ sym (words_pushed m.windows w);
+        some_lines = All-push (λ v. 0 < v.lines) ws w h.memory.some_lines some;
+        aligned = All-push (λ v. v.base % 64 ≡ 0) ws w h.memory.aligned f.aligned;
+        bounded = All-push (λ v. machine.window_end v ≤ 2 ^ 52) ws w h.memory.bounded bound;
+        apart = all_pairs_push machine.AreApart ws w h.memory.apart (apart_from_all ws w f.apart);
+        counted = total ∙ sym (words_pushed ws w);
       };
       few = let few = f.few in omega arith;
+      front = inr front;
     }
 
 -- ---- a line that is lent
@@ -124,37 +126,26 @@ words_whole : (ws : List machine.Window) → machine.word_count ws ≡ 8 * (mach
 words_whole [] = omega arith
 words_whole (w ∷ ws) = let e = words_whole ws in omega arith
 
-pub line_within : (m : machine.Memory) (i : ℕ) → machine.IsMemory m → i % 8 ≡ 0 → i < length m.words → i + 8 ≤ length m.words
-line_within m i h line within = let e = words_whole m.windows in let counted = h.counted in omega arith
-
-pub line_whole : (m : machine.Memory) (i : ℕ) → machine.IsMemory m → i % 8 ≡ 0 → i < length m.words → length (slice_range m.words i (i + 8)) ≡ 8
-line_whole m i h line within = let e = line_within m i h line within in simp (length-take, length-drop) (omega arith)
-
-pub line_written : {Z : Type 0} (v : Vec ℕ Z) (i : ℕ) (ws : List ℕ) → v.len ≡ length v.items → i ≤ length v.items
-    → (with_items_from v i ws).items ≡ take (length v.items) (take i v.items ++ ws ++ drop (i + length ws) v.items)
-line_written v i ws full within =
-    let long : length v.items ≤ length (take i v.items ++ (ws ++ drop (length ws) (drop i v.items))) =
-    simp (length-append, length-take, length-drop) (omega arith) in
-    ap (λ n. take n ((take i v.items ++ (ws ++ drop (length ws) (drop i v.items))) ++ drop (length (take i v.items ++ (ws ++ drop (length ws) (drop i v.items)))) v.items)) full
-    ∙ take-append-le (length v.items) (take i v.items ++ (ws ++ drop (length ws) (drop i v.items))) _ long
-    ∙ ap (λ d. take (length v.items) (take i v.items ++ (ws ++ d))) (drop-drop (length ws) i v.items)
-    ∙ ap (take (length v.items)) (sym (append_assoc (take i v.items) ws (drop (i + length ws) v.items)))
+pub line_within : (ws : List machine.Window) (xs : List ℕ) (m : machine.Memory) (i : ℕ) → IsRam ws xs → behind_front ws xs ≡ m → i % 8 ≡ 0 → i < length m.words → 18 + i + 8 ≤ length xs
+line_within ws xs m i h is line within =
+    let inside = subst (λ (n : machine.Memory). i < length n.words) (sym is) within in
+    let e = words_whole ws in let counted = h.memory.counted in let left = length-drop 18 xs in omega arith
 
 -- ---- the lists of a memory whose words have grown
 
 pub added_lists : (ws more : List Window) (xs long : List ℕ) (base lines n held : ℕ) (done : Bool)
-    → IsRam (record { windows = map window_of ws; words = xs }) → refusal (map window_of ws) (window base lines) ≡ None → 0 < lines → base + 64 * lines ≤ 2 ^ 52
-    → more ≡ ws ++ record { base = base; lines = lines } ∷ [] → n ≡ held → held ≡ length xs → done ≡ true
-    → long ≡ (if done then take (n + 8 * lines) xs ++ replicate (n + 8 * lines - held) 0 else xs)
-    → IsRam (record { windows = map window_of more; words = long })
-added_lists ws more xs long base lines n held done h fit some bound pushed same len ok grown =
-    let words : long ≡ xs ++ replicate (8 * lines) 0 =
-    grown
-    ∙ ap (λ b. if b then take (n + 8 * lines) xs ++ replicate (n + 8 * lines - held) 0 else xs) ok
-    ∙ ap (λ ys. ys ++ replicate (n + 8 * lines - held) 0) (take_all (n + 8 * lines) xs (omega arith))
-    ∙ ap (λ k. xs ++ replicate k 0) (let e : n + 8 * lines - held ≡ 8 * lines = omega arith in e) in
+    → IsRam (map window_of ws) xs → refusal (map window_of ws) (window base lines) ≡ None → 0 < lines → base + 64 * lines ≤ 2 ^ 52
+    → more ≡ ws ++ record { base = base; lines = lines } ∷ [] → n ≡ length (drop 18 xs) → held ≡ length xs → done ≡ true
+    → long ≡ (if done then take (18 + n + 8 * lines) xs ++ replicate (18 + n + 8 * lines - held) 0 else xs)
+    → IsRam (map window_of more) long × (behind_front (map window_of more) long ≡ with_window (window base lines) (behind_front (map window_of ws) xs))
+added_lists ws more xs long base lines n held done h fit some bound pushed same len ok is =
+    let words = grown xs long (18 + n + 8 * lines) (8 * lines) h.front (ap (λ k. 18 + k + 8 * lines) same)
+    (is
+    ∙ ap (λ b. if b then take (18 + n + 8 * lines) xs ++ replicate (18 + n + 8 * lines - held) 0 else xs) ok
+    ∙ ap (λ k. take (18 + n + 8 * lines) xs ++ replicate (18 + n + 8 * lines - k) 0) len) in
     let windows : map window_of more ≡ map window_of ws ++ window base lines ∷ [] =
-    ap (map window_of) pushed ∙ map-append window_of ws (record { base = base; lines = lines } ∷ []) in
-    subst (λ (vs : List machine.Window). IsRam (record { windows = vs; words = long })) (sym windows)
-    (subst (λ (ys : List ℕ). IsRam (record { windows = map window_of ws ++ window base lines ∷ []; words = ys })) (sym words)
-    (added (record { windows = map window_of ws; words = xs }) (window base lines) h some bound (fits (map window_of ws) (window base lines) fit)))
+    ap (map window_of) pushed ∙ map-append window_of ws (record { base = base; lines = lines } ∷ []) in (
+      subst (λ (vs : List machine.Window). IsRam vs long) (sym windows)
+          (added (map window_of ws) (window base lines) xs long h some bound (fits (map window_of ws) (window base lines) fit) words.0 words.1),
+      (λ i. record { windows = windows i; words = words.0 i }),
+    )

@@ -1,5 +1,5 @@
 -- Windows of memory as they are added (own).
-use Rattle.std.specs.Prelude.{◌≡◌, ◌↔◌, ◌<◌, ◌≤◌, ℕ, ◌+◌, ◌*◌, ◌%◌, ◌==◌, nat_lt, nat_le, Bool, true, false, ◌&&◌, ◌||◌, List, [], ◌∷◌, ◌++◌, length, replicate, take, drop, if◌then◌else◌, Option, None, Some, Result, Ok, Err}
+use Rattle.std.specs.Prelude.{◌≡◌, ◌↔◌, ◌⊎◌, ◌<◌, ◌≤◌, ℕ, ◌+◌, ◌*◌, ◌%◌, ◌==◌, nat_lt, nat_le, Bool, true, false, ◌&&◌, ◌||◌, List, [], ◌∷◌, ◌++◌, length, replicate, take, drop, if◌then◌else◌, Option, None, Some, Result, Ok, Err}
 use Rattle.mt_kinds.specs.Sizes.{most_lines}
 use Rattle.mt_ram.specs.declared.fault.RamFault.{RamFault}
 use Rattle.mt_ram.specs.declared.fault.RamFault.TheVariants.{Misaligned, Overlaps, TooMuch, NoMemory}
@@ -52,10 +52,19 @@ with_line i m ws = record m { words = take (length m.words) (take i m.words ++ w
 abbrev pub with_words : machine.Memory → List ℕ → machine.Memory
 with_words m ws = record m { words = take (length m.words) (ws ++ drop (length ws) m.words) }
 
+-- memory whose words are those of a list behind its first 18
+abbrev pub behind_front : List machine.Window → List ℕ → machine.Memory
+behind_front ws xs = record { windows = ws; words = drop 18 xs }
+
+-- a list that is empty or begins with 18 zeros
+abbrev pub HasFront : List ℕ → Type 0
+HasFront xs = (xs ≡ []) ⊎ (take 18 xs ≡ replicate 18 0)
+
 -- what a memory of windows keeps
-pub record IsRam (m : machine.Memory) : Type 0 where
-  pub memory : machine.IsMemory m
-  pub few : length m.words ≤ 8 * most_lines
+pub record IsRam (ws : List machine.Window) (xs : List ℕ) : Type 0 where
+  pub memory : machine.IsMemory (behind_front ws xs)
+  pub few : length (drop 18 xs) ≤ 8 * most_lines
+  pub front : HasFront xs
 
 -- the byte at an address is in the window
 abbrev pub HasByte : machine.Window → ℕ → Type 0

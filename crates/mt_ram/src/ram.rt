@@ -1,4 +1,4 @@
-ghost use Rattle.std.specs.Prelude.{◌≡◌, ℕ, ◌<◌, ◌≤◌, ◌+◌, ◌*◌, ◌^◌, ◌%◌, [], length, map, replicate, slice_index, slice_range, slice_set, OnOk, OnErr, IfSome, None, nat_le, nat_lt, ◌&&◌};
+ghost use Rattle.std.specs.Prelude.{◌≡◌, ℕ, ◌<◌, ◌≤◌, ◌+◌, ◌*◌, ◌^◌, ◌%◌, ◌++◌, [], length, map, replicate, slice_index, slice_range, slice_set, MatchOption, OnOk, OnErr, IfSome, None, nat_le, nat_lt, ◌&&◌};
 ghost use Rattle.std.specs.Borrow.{Array, Lends, sem, u64};
 ghost use Rattle.std.specs.List.{All};
 ghost use Rattle.mt_kinds.specs.Sizes.{most_lines};
@@ -17,23 +17,27 @@ use std::marker::Model;
 /// The words of all windows together are at most these, those of as many lines as memory has at most.
 const MOST_WORDS: usize = 8 * MOST_LINES as usize;
 
+/// The zeros in front of the words: an update on threads has two words of its own and one for each of 16 processors.
+const FRONT: usize = 18;
+
 /// Memory: at most 16 windows, which share no byte, and the words of all of them in a row.
 #[derive(Drop)]
 pub struct Ram {
     windows: ArrayVec<Window, 16>,
+    // Empty, or `FRONT` zeros and the words of all windows.
     words: Vec<u64>,
 }
 
 impl Model for Ram {
     ghost use Rattle.std.specs.Prelude.{map};
     ghost use Rattle.mt_machine.specs.Memory.{Memory};
-    ghost use Rattle.mt_ram.specs.Windows.{IsRam, window_of};
+    ghost use Rattle.mt_ram.specs.Windows.{IsRam, behind_front, window_of};
 
     ghost Value = { Memory };
 
-    ghost view = { λ r. record { windows = map window_of r.windows.items; words = r.words.items } };
+    ghost view = { λ r. behind_front (map window_of r.windows.items) r.words.items };
 
-    ghost invariant = { λ r. IsRam (record { windows = map window_of r.windows.items; words = r.words.items }) };
+    ghost invariant = { λ r. IsRam (map window_of r.windows.items) r.words.items };
 }
 
 impl Window {
@@ -135,7 +139,7 @@ impl Ram {
             Some(RamFault::Misaligned)
         } else if is_overlap(self.windows.as_slice(), base, lines) {
             Some(RamFault::Overlaps)
-        } else if self.words.len() + 8 * lines as usize > MOST_WORDS || self.windows.is_full() {
+        } else if self.words() + 8 * lines as usize > MOST_WORDS || self.windows.is_full() {
             Some(RamFault::TooMuch)
         } else {
             None
@@ -160,8 +164,8 @@ impl Ram {
         if let Some(fault) = self.refusal(base, lines) {
             return Err(fault);
         }
-        let words = self.words.len() + 8 * lines as usize;
-        if self.words.resize(words, 0).is_err() {
+        let size = FRONT + self.words() + 8 * lines as usize;
+        if self.words.resize(size, 0).is_err() {
             return Err(RamFault::NoMemory);
         }
         self.windows.push(Window { base, lines });
@@ -187,14 +191,20 @@ impl Ram {
         ensures count { result ≡ length self.now.words }
         ensures memory { IsMemory self.now }
     {
-        self.words.len()
+        self.words.len().saturating_sub(FRONT)
     }
 
-    /// Borrows all words, in the order of their places.
-    pub fn as_slice(&self) -> &[u64]
-        ensures { result.now ≡ self.now.words }
+    /// Borrows n zeros and all words behind them, in the order of their places. There is nothing to borrow if memory has
+    /// no window.
+    pub fn behind_zeros(&self, n: usize) -> Option<&[u64]>
+        requires { n ≤ 18 }
+        ensures { MatchOption result (self.now.words ≡ []) (λ s. s.now ≡ replicate n 0 ++ self.now.words) }
     {
-        self.words.as_slice()
+        if self.words.is_empty() {
+            None
+        } else {
+            Some(&self.words[FRONT - n..])
+        }
     }
 
     /// Borrows all words for writing, in the order of their places.
@@ -203,7 +213,8 @@ impl Ram {
         ensures value { result.now ≡ self.old.words }
         ensures whole { length result.now ≡ length self.old.words }
     {
-        self.words.as_mut_slice()
+        let size = self.words.len();
+        self.words.slice_mut(FRONT.min(size)..size)
     }
 
     /// The word at a place.
@@ -211,7 +222,7 @@ impl Ram {
         requires { i < length self.now.words }
         ensures { result ≡ slice_index self.now.words i }
     {
-        self.words[i]
+        self.words[FRONT + i]
     }
 
     /// The word at this address, in bytes; 0 where no window has it.
@@ -241,7 +252,7 @@ impl Ram {
         ensures value { result.now ≡ slice_range self.old.words i (i + 8) }
         ensures whole { length result.now ≡ 8 }
     {
-        self.words.slice_mut(i..i + 8)
+        self.words.slice_mut(FRONT + i..FRONT + i + 8)
     }
 
     /// Writes the word at a place.
@@ -249,7 +260,7 @@ impl Ram {
         requires { i < length self.old.words }
         ensures { self.new ≡ record self.old { words = slice_set self.old.words i v } }
     {
-        self.words[i] = v;
+        self.words[FRONT + i] = v;
     }
 
     /// The address of the word at a place, in bytes.

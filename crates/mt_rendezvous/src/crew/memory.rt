@@ -1,9 +1,9 @@
 // What an update on threads asks of the allocator, which may refuse it. No clause says that a refusal comes of the allocator,
 // nor how much is asked for: read these lines.
-ghost use Rattle.std.specs.Prelude.{◌≡◌, ◌+◌, ◌<◌, ◌≤◌, [], IfOk, length, replicate, vec_capacity, vec_len};
+ghost use Rattle.std.specs.Prelude.{◌≡◌, ◌<◌, ◌≤◌, [], IfOk, vec_capacity, vec_len};
 ghost use Rattle.mt_machine.specs.declared.go.Go.TheVariants.{Pending};
 ghost use Rattle.mt_rendezvous.specs.Station.{Begins};
-ghost use Rattle.mt_rendezvous.specs.Calls.{gathered, opening_words};
+ghost use Rattle.mt_rendezvous.specs.Calls.{gathered};
 ghost use Rattle.mt_rendezvous.specs.InStation.{LeadsIn, OffersIn, start_at};
 
 use super::Refusal;
@@ -31,20 +31,6 @@ pub fn room<T>(alloc: Global, n: usize) -> Result<Vec<T>, Refusal>
     }
 }
 
-// The words at the start: the counts and the phases, which are 0, and the words of memory.
-fn opening_words(alloc: Global, count: usize, ram: &Ram) -> Result<Vec<u64>, Refusal>
-    requires { count < 65536 }
-    ensures { IfOk result (λ v. v.items ≡ opening_words count ram.now.words) }
-{
-    let Ok(mut words) = vec![in alloc; 0u64; count + 2] else {
-        return Err(Refusal { made: () });
-    };
-    match words.extend_from_slice(ram.as_slice()) {
-        Ok(()) => Ok(words),
-        Err(_) => Err(Refusal { made: () }),
-    }
-}
-
 // Asks for a table for these processors, all of which the root has.
 pub(crate) fn open(
     alloc: Global,
@@ -59,14 +45,15 @@ pub(crate) fn open(
     ensures key { IfOk result (λ t. start_at t.0 ≡ gathered cpus.now.items ram.now goal.now) }
 {
     let count = cpus.len();
-    let words = opening_words(alloc, count, ram)?;
+    // The counts and the phases, which are 0, and the words of memory.
+    let zeros = [0u64; 18];
+    let words = ram.behind_zeros(count + 2).unwrap_or(&zeros[..count + 2]);
     let key = Key {
         cpus: Snapshot::of(cpus),
         ram: Snapshot::of(ram),
         goal: Snapshot::of(goal),
     };
-    let _all = words.len();
-    let Ok((table, seat)) = Table::of_words(alloc, words.as_slice(), &key) else {
+    let Ok((table, seat)) = Table::of_words(alloc, words, &key) else {
         return Err(Refusal { made: () });
     };
     let station = Station {
