@@ -5,7 +5,7 @@ import pathlib
 import re
 
 FUNCTION = re.compile(r'^( *)(pub )?(?:unsafe )?(?:extern "C" )?fn (\w+)')
-OWNER = re.compile(r"^(?:pub )?(?:impl|trait)\b(?:<[^{]*?>)? *(.*?)\s*(?:\{|$)")
+OWNER = re.compile(r"^(?:pub )?(?:impl|trait)\b(?:<[^{]*?>)? *(.*?)\s*(?:: |\{|$)")
 
 
 @dataclasses.dataclass

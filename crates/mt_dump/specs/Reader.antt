@@ -6,13 +6,14 @@ use Rattle.std.specs.Prelude.{ℕ, ◌≡◌, ◌≤◌, ◌<◌, ◌-◌, ◌==
 use Rattle.std.specs.List.{slice_index_or}
 use Rattle.std.specs.Option.{option_and_then, option_map, option_map_or}
 use Rattle.std.specs.Result.{result_err}
+use Rattle.mt_text.specs.Reader.{Course}
 use Rattle.mt_text.specs.Text.{end_of}
 use Rattle.mt_text.specs.declared.place.Place.{Place}
 use Rattle.mt_regs.specs.RegisterFile.{RegisterFile, low_byte, blank_file}
 use Rattle.mt_regs.specs.Registers.{written}
 use Rattle.mt_dump.specs.Line.{Reading, fault_at}
 use Rattle.mt_dump.specs.Dumps.{Dump}
-use Rattle.mt_dump.specs.Dump.{given, widths, times, version_of, said_by, is_given, is_spoken, up_to_section, section_count, first_width, offence_of}
+use Rattle.mt_dump.specs.Dump.{given, widths, times, version_of, said_by, is_given, is_spoken, up_to_section, section_count, first_width, offence_of, said_from}
 use Rattle.mt_dump.specs.declared.fault.DumpFault.{DumpFault}
 use Rattle.mt_dump.specs.declared.fault.DumpReason.TheVariants.{NoCap}
 use Rattle.mt_dump.specs.declared.said.Said.TheVariants.{Nothing, Version, Section, Width, Register}
@@ -94,6 +95,12 @@ pub record HasRead (state : State) (before : List Reading) : Type 0 where
   pub has_capabilities_is : state.has_capabilities ≡ is_given 0xfe (up_to_section before)
   pub size : length state.marks ≡ 256
   pub marked : (number : ℕ) → 0x200 ≤ number → number < 0x300 → slice_index_or state.marks (number - 0x200) false ≡ nat_lt 0 (times number (given (up_to_section before)))
+
+-- The lines that follow, of which the first has this number, lead a reader to this.
+pub record LeadsTo (state : State) (number : ℕ) (course : Course (Result Dump DumpFault)) : Type 0 where
+  pub before : List Reading
+  pub read : HasRead state before
+  pub leads : (lines : List (List ℕ)) (end : Place) → course lines end ≡ read_from end before (said_from number lines)
 
 -- the lines in their order, before others
 abbrev pub onto : {X : Type 0} → List X → List X → List X

@@ -1,8 +1,7 @@
 ghost use Rattle.std.specs.Prelude.{◌≡◌, ◌≢◌, ◌≤◌, ◌<◌, ◌+◌, ◌-◌, ◌==◌, ◌&&◌, nat_lt, not, ◌∷◌, ℕ, List, [], length, Some, None, is_some, Ok, Err, ◌↔◌, IfErr, IfOk, IsErrOf, MatchResult, MatchOption};
-ghost use Rattle.std.specs.Io.KnownBytes.{Consumes, IsAtEnd};
 ghost use Rattle.mt_text.specs.Text.{longest_input};
 ghost use Rattle.mt_ports.specs.Causes.{Rose};
-ghost use Rattle.mt_text.specs.Feed.{GaveTooMuch, IsLong, at_start, taken};
+ghost use Rattle.mt_text.specs.Feed.{GaveTooMuch};
 ghost use Rattle.mt_text.specs.declared.fault.FeedFault.{FeedFault};
 ghost use Rattle.mt_regs.specs.RegisterFile.{blank_file, low_byte};
 ghost use Rattle.mt_dump.specs.declared.fault.DumpFault.{DumpFault};
@@ -18,7 +17,7 @@ use crate::{DumpFault, DumpReason};
 use arrayvec::ArrayVec;
 use mt_ports::Source;
 use mt_regs::{CAPABILITIES, FIRST_PAIR, RegFile};
-use mt_text::{Feed, FeedFault, Line, Place, end_place, next_line};
+use mt_text::{FeedFault, Line, LineReader, Place, end_place, next_line, read_lines};
 use std::marker::Model;
 
 const CAP: u64 = CAPABILITIES as u64;
@@ -303,6 +302,28 @@ impl DumpReader {
     }
 }
 
+impl LineReader for DumpReader {
+    type Answer = Dump;
+
+    type Fault = DumpFault;
+
+    ghost use Rattle.std.specs.Prelude.{⊤};
+    ghost use Rattle.mt_dump.specs.Reader.{LeadsTo};
+
+    ghost at = { LeadsTo };
+
+    ghost fits = { λ _. ⊤ };
+
+    #[inline(always)]
+    fn take_line(&mut self, line: &Line<'_>) -> Result<(), DumpFault> {
+        self.take(line)
+    }
+
+    fn finish_at(self, end: Place) -> Result<Dump, DumpFault> {
+        self.finish(end)
+    }
+}
+
 /// The dump that a text shows, or its first offence.
 pub fn read_dump(source: &[u8]) -> Result<Dump, DumpFault>
     ensures answer { MatchResult result (λ dump. Shown source.now dump) (λ fault. dump_offence source.now ≡ Some fault) }
@@ -325,31 +346,6 @@ pub fn read_dump(source: &[u8]) -> Result<Dump, DumpFault>
     reader.finish(end)
 }
 
-// Reads the dump through a feed that has taken nothing. Behind an offence the rest is read too.
-fn read_lines<S: Source>(
-    feed: &mut Feed,
-    source: &mut S,
-) -> Result<Result<Dump, DumpFault>, FeedFault>
-    requires { feed.old ≡ at_start }
-    ensures answer { (bytes : List ℕ) → S.left source.old ≡ Some bytes → IfOk result (λ answer. MatchResult answer (λ dump. Shown bytes dump) (λ fault. dump_offence bytes ≡ Some fault)) }
-    ensures end { IfOk result (λ _. IsAtEnd (S.left source.new)) }
-    ensures fault { MatchResult result (λ _. feed.new.fault ≡ None) (λ fault. feed.new.fault ≡ Some fault) }
-    ensures consumed { (taken_now : List ℕ) × Consumes (S.left source.old) (S.left source.new) taken_now × (taken feed.new ≡ length taken_now) }
-    ensures counted { S.given source.new ≡ S.given source.old + taken feed.new }
-    ensures long { IsLong feed.new }
-    ensures failed { IsErrOf result FeedFault.ReadFault → Rose (S.faults source.old) (S.faults source.new) }
-    ensures stands { (IsErrOf result FeedFault.ReadFault → ⊥) → S.faults source.new ≡ S.faults source.old }
-{
-    let mut reader = DumpReader::new();
-    'lines: while let Some(line) = feed.line(source)? {
-        if let Err(fault) = reader.take(&line) {
-            feed.drain(source)?;
-            return Ok(Err(fault));
-        }
-    }
-    Ok(reader.finish(feed.end()))
-}
-
 /// The dump that the bytes of a source show, or their first offence, line by line out of one
 /// buffer. Behind an offence the rest is read too, so that a failed read and too many bytes come
 /// before it.
@@ -361,5 +357,5 @@ pub fn read_dump_from<S: Source>(source: &mut S) -> Result<Result<Dump, DumpFaul
     ensures failed { IsErrOf result FeedFault.ReadFault → Rose (S.faults source.old) (S.faults source.new) }
     ensures stands { (IsErrOf result FeedFault.ReadFault → ⊥) → S.faults source.new ≡ S.faults source.old }
 {
-    read_lines(&mut Feed::new(), source)
+    read_lines(DumpReader::new(), source)
 }

@@ -1,27 +1,28 @@
 -- Facts behind facts.
 use Rattle.std.proofs.Common.{◌≡◌, ◌+◌, ℕ, zero, suc, List, [], ◌∷◌, ◌++◌, take, drop, Option, Some, None, refl, sym, subst, ap, ◌∙◌, add-one, append_assoc}
 use Rattle.std.specs.Prelude.{slice_get}
+use Rattle.std.specs.Option.{option_or}
 use Rattle.std.proofs.lemmas.List.{append-nil, take-append-drop}
 use Rattle.mt_import.specs.declared.fault.ImportFault.{ImportFault}
 use Rattle.mt_import.specs.declared.shape.Shown.{Shown}
 use Rattle.mt_import.specs.Readings.{Fact, shown_facts, shows_facts}
 use Rattle.mt_import.specs.Supplied.{Supplied}
-use Rattle.mt_import.specs.Outcome.{Seen, fact_fault, facts_fault, or_fault, seen_after, seen_with}
+use Rattle.mt_import.specs.Outcome.{Seen, fact_fault, facts_fault, seen_after, seen_with}
 use Rattle.mt_import.specs.Reader.{HasTakenFacts, State}
 
 pub seen_append : (seen : Seen) (facts others : List Fact) → seen_after seen (facts ++ others) ≡ seen_after (seen_after seen facts) others
 seen_append seen [] others = refl
 seen_append seen (fact ∷ facts) others = seen_append (seen_with seen fact) facts others
 
-or_fault_assoc : (a b c : Option ImportFault) → or_fault a (or_fault b c) ≡ or_fault (or_fault a b) c
-or_fault_assoc None b c = refl
-or_fault_assoc (Some fault) b c = refl
+or_assoc : (a b c : Option ImportFault) → option_or a (option_or b c) ≡ option_or (option_or a b) c
+or_assoc None b c = refl
+or_assoc (Some fault) b c = refl
 
-pub fault_append : (supplied : Supplied) (seen : Seen) (facts others : List Fact) → facts_fault supplied seen (facts ++ others) ≡ or_fault (facts_fault supplied seen facts) (facts_fault supplied (seen_after seen facts) others)
+pub fault_append : (supplied : Supplied) (seen : Seen) (facts others : List Fact) → facts_fault supplied seen (facts ++ others) ≡ option_or (facts_fault supplied seen facts) (facts_fault supplied (seen_after seen facts) others)
 fault_append supplied seen [] others = refl
 fault_append supplied seen (fact ∷ facts) others =
-    ap (or_fault (fact_fault supplied seen fact)) (fault_append supplied (seen_with seen fact) facts others)
-    ∙ or_fault_assoc (fact_fault supplied seen fact) (facts_fault supplied (seen_with seen fact) facts) (facts_fault supplied (seen_after (seen_with seen fact) facts) others)
+    ap (option_or (fact_fault supplied seen fact)) (fault_append supplied (seen_with seen fact) facts others)
+    ∙ or_assoc (fact_fault supplied seen fact) (facts_fault supplied (seen_with seen fact) facts) (facts_fault supplied (seen_after (seen_with seen fact) facts) others)
 
 -- ---- the registers that a line shows
 
@@ -50,7 +51,7 @@ module _ (supplied : Supplied) (seen : Seen) (processor table i : ℕ) (shows : 
   more = shows_more processor table i shows shown at
 
   fault_more : facts_fault supplied seen first ≡ None → facts_fault supplied seen (shows_facts processor table (take (i + 1) shows)) ≡ facts_fault supplied (seen_after seen first) (shown_facts processor table shown)
-  fault_more none = ap (facts_fault supplied seen) more ∙ fault_append supplied seen first (shown_facts processor table shown) ∙ ap (λ o. or_fault o (facts_fault supplied (seen_after seen first) (shown_facts processor table shown))) none
+  fault_more none = ap (facts_fault supplied seen) more ∙ fault_append supplied seen first (shown_facts processor table shown) ∙ ap (λ o. option_or o (facts_fault supplied (seen_after seen first) (shown_facts processor table shown))) none
 
   pub takes_next : (old new : State) → HasTakenFirst old supplied seen processor table i shows
       → HasTakenFacts new (seen_after (seen_after seen first) (shown_facts processor table shown)) → facts_fault supplied (seen_after seen first) (shown_facts processor table shown) ≡ None
@@ -68,4 +69,4 @@ module _ (supplied : Supplied) (seen : Seen) (processor table i : ℕ) (shows : 
       ap (λ xs. facts_fault supplied seen (shows_facts processor table xs)) (sym (take-append-drop (i + 1) shows))
       ∙ ap (facts_fault supplied seen) (shows_append processor table (take (i + 1) shows) (drop (i + 1) shows))
       ∙ fault_append supplied seen (shows_facts processor table (take (i + 1) shows)) rest
-      ∙ ap (λ o. or_fault o (facts_fault supplied (seen_after seen (shows_facts processor table (take (i + 1) shows))) rest)) here
+      ∙ ap (λ o. option_or o (facts_fault supplied (seen_after seen (shows_facts processor table (take (i + 1) shows))) rest)) here

@@ -1,14 +1,14 @@
--- Reading a log through a feed: what holds between two lines, and how each line keeps it.
-use Rattle.std.proofs.Common.{◌≡◌, ◌+◌, ◌≤◌, ◌<◌, ℕ, Bool, true, false, nat_lt, List, ◌++◌, length, take, Option, Some, None, refl, sym, ◌∙◌, ap, arith, inl, inr}
-use Rattle.std.specs.Prelude.{Ok}
+-- How a line that a feed lends leads a reader on.
+use Rattle.std.proofs.Common.{◌≡◌, ◌+◌, ◌≤◌, ◌<◌, ℕ, Bool, true, false, nat_lt, List, [], ◌∷◌, ◌++◌, length, take, Option, Some, None, refl, sym, subst, ◌∙◌, ap, arith, inl, inr}
+use Rattle.std.specs.Prelude.{Result, Ok, Err, IfOk, MatchResult}
+use Rattle.std.specs.Option.{option_map_or}
 use Rattle.std.proofs.lemmas.Bool.{cases_lt}
 use Rattle.std.proofs.lemmas.Bool.Decides.{nat_tests}
 use Rattle.std.proofs.lemmas.List.{length-take-le, take_all}
 use Rattle.mt_text.specs.Text.{lines_of, past_limit}
-use Rattle.mt_text.specs.Feed.{Feeding, LendsFirst, Lines, at_start, draw}
+use Rattle.mt_text.specs.Reader.{Course, TakesLine}
 use Rattle.mt_text.specs.declared.line.Line.{Line}
-use Rattle.mt_text.proofs.Lent.{lends_lines, told_next}
-use Rattle.mt_dump.proofs.Counted.{IsFed, fed_at_first, fed_on, few_first}
+use Rattle.mt_text.specs.declared.place.Place.{Place}
 use Rattle.mt_import.specs.declared.fault.ImportFault.{ImportFault}
 use Rattle.mt_import.specs.declared.format.Choice.{Choice}
 use Rattle.mt_import.specs.declared.format.Format.{Format}
@@ -16,43 +16,20 @@ use Rattle.mt_import.specs.declared.reading.Context.{Context}
 use Rattle.mt_import.specs.declared.reading.LineSays.{LineSays}
 use Rattle.mt_import.specs.declared.reading.LineSays.TheVariants.{Long}
 use Rattle.mt_import.specs.Readings.{Fact, context_after, line_facts, starts}
-use Rattle.mt_import.specs.Shown.{chosen, context_behind, facts_from, facts_of_line, format_of, is_auto, said_in}
+use Rattle.mt_import.specs.Shown.{chosen, context_behind, facts_from, facts_of_line, format_of, is_auto, said_in, shown}
 use Rattle.mt_import.specs.Supplied.{Supplied}
-use Rattle.mt_import.specs.Outcome.{Seen, Outcome, ended_by, facts_fault, nothing_seen, facts_outcome, seen_after, unless}
+use Rattle.mt_import.specs.Outcome.{Seen, Outcome, ended, facts_fault, nothing_seen, seen_after, unless}
 use Rattle.mt_import.specs.Import.{log_outcome}
-use Rattle.mt_import.specs.Reader.{HasTakenFacts, State, summary_in}
+use Rattle.mt_import.specs.Reader.{HasTakenFacts, LeadsTo, State, facts_answer}
 use Rattle.mt_import.proofs.Facts.{fault_append, seen_append}
-use Rattle.mt_import.proofs.Same.{same_end}
-
--- What the bytes that are left come to behind the facts that were taken is what all bytes come to.
-pub record LeadsOn (choice : Choice) (supplied : Supplied) (bytes : List ℕ) (left : Option (List ℕ)) (feed : Feeding) (context : Context) (seen : Seen) : Type 0 where
-  pub after : List ℕ
-  pub left_is : left ≡ Some after
-  pub says : facts_outcome (is_auto choice) supplied seen (facts_from context feed.place.line (lines_of (feed.pending ++ after))) ≡ log_outcome choice supplied bytes
-
--- between two lines
-pub record IsReading (choice : Choice) (supplied : Supplied) (left_first left : Option (List ℕ)) (given_first given : ℕ) (feed : Feeding) (reader : State) : Type 0 where
-  pub fed : IsFed left_first left given_first given feed
-  pub seen : Seen
-  pub held : HasTakenFacts reader seen
-  pub told : (bytes : List ℕ) → left_first ≡ Some bytes → LeadsOn choice supplied bytes left feed reader.context seen
-
-pub at_first : (choice : Choice) (supplied : Supplied) (left : Option (List ℕ)) (given : ℕ) (feed : Feeding) (reader : State) → feed ≡ at_start → HasTakenFacts reader (nothing_seen (format_of choice))
-    → reader.context ≡ starts (format_of choice) → IsReading choice supplied left left given given feed reader
-at_first choice supplied left given feed reader start held context = record {
-  fed = fed_at_first left given feed start;
-  seen = nothing_seen (format_of choice);
-  held = held;
-  told = λ bytes is. rw (start, context) (record { after = bytes; left_is = is; says = refl });
-}
 
 -- ---- the facts of a line
 
-goes_past : (auto : Bool) (supplied : Supplied) (seen : Seen) (facts others : List Fact) → facts_fault supplied seen facts ≡ None → facts_outcome auto supplied seen (facts ++ others) ≡ facts_outcome auto supplied (seen_after seen facts) others
+goes_past : (auto : Bool) (supplied : Supplied) (seen : Seen) (facts others : List Fact) → facts_fault supplied seen facts ≡ None → facts_answer auto supplied seen (facts ++ others) ≡ facts_answer auto supplied (seen_after seen facts) others
 goes_past auto supplied seen facts others none = rw (fault_append supplied seen facts others, none, seen_append seen facts others) refl
 
-fails : (auto : Bool) (supplied : Supplied) (seen : Seen) (facts others : List Fact) (fault : ImportFault) (told : Outcome) → facts_fault supplied seen facts ≡ Some fault → facts_outcome auto supplied seen (facts ++ others) ≡ unless (Some fault) told
-fails auto supplied seen facts others fault told found = rw (fault_append supplied seen facts others, found) refl
+fails : (auto : Bool) (supplied : Supplied) (seen : Seen) (facts others : List Fact) (fault : ImportFault) → facts_fault supplied seen facts ≡ Some fault → facts_answer auto supplied seen (facts ++ others) ≡ Err fault
+fails auto supplied seen facts others fault found = rw (fault_append supplied seen facts others, found) refl
 
 -- ---- one line
 
@@ -101,69 +78,59 @@ facts_cut context number line = by_line (λ format said. line_facts number forma
 context_cut : (context : Context) (number : ℕ) (line : List ℕ) → context_behind context number (take 4097 line) ≡ context_behind context number line
 context_cut context number line = by_line (λ format said. context_after context format said) context.format number line
 
-module _ (old new : Feeding) (before after : List ℕ) (line : Line) (lent : LendsFirst old new before after line) (context : Context) where
-  facts_lent : facts_of_line context line.number line.bytes.now ≡ facts_of_line context old.place.line lent.first
-  facts_lent = ap (facts_of_line context line.number) lent.bytes ∙ facts_cut context line.number lent.first ∙ ap (λ n. facts_of_line context n lent.first) lent.number
+-- ---- the call that takes it
 
-  context_lent : context_behind context line.number line.bytes.now ≡ context_behind context old.place.line lent.first
-  context_lent = ap (context_behind context line.number) lent.bytes ∙ context_cut context line.number lent.first ∙ ap (λ n. context_behind context n lent.first) lent.number
+module _ {U : Type 0} (auto : Bool) (supplied : Supplied) (old new : State) (line : Line) where
+  -- what the call says of the line that it was lent
+  abbrev Taken : Result U ImportFault → Type 0
+  Taken result = (seen : Seen) → HasTakenFacts old seen → let facts = facts_of_line old.context line.number line.bytes.now in MatchResult result
+      (λ _. HasTakenFacts new (seen_after seen facts) × (facts_fault supplied seen facts ≡ None))
+      (λ fault. facts_fault supplied seen facts ≡ Some fault)
 
-module _ (left_first left after : Option (List ℕ)) (given_first given given_after : ℕ) (feed new : Feeding) (choice : Choice) (supplied : Supplied) (reader : State) (reading : IsReading choice supplied left_first left given_first given feed reader)
-    (line : Line) (lines : Lines feed new (draw left after given given_after) (Ok (Some line))) where
-  abbrev facts : List Fact
-  facts = facts_of_line reader.context line.number line.bytes.now
+  pub takes_line : (result : Result U ImportFault) → Taken result → IfOk result (λ _. new.context ≡ context_behind old.context line.number line.bytes.now) → TakesLine (LeadsTo auto supplied) old new line result
+  takes_line (Ok value) took context course whole led cut =
+      let same = ap (facts_of_line old.context line.number) cut ∙ facts_cut old.context line.number whole in
+      let parts = took led.seen led.taken in
+      let none = ap (facts_fault supplied led.seen) (sym same) ∙ parts.1 in
+      let behind = context ∙ ap (context_behind old.context line.number) cut ∙ context_cut old.context line.number whole in (
+        short_line supplied line.number old.context led.seen whole none,
+        record {
+          seen = seen_after led.seen (facts_of_line old.context line.number whole);
+          taken = subst (λ facts. HasTakenFacts new (seen_after led.seen facts)) same parts.0;
+          leads = λ lines end. led.leads (whole ∷ lines) end
+              ∙ goes_past auto supplied led.seen (facts_of_line old.context line.number whole) (facts_from (context_behind old.context line.number whole) (line.number + 1) lines) none
+              ∙ ap (λ c. facts_answer auto supplied (seen_after led.seen (facts_of_line old.context line.number whole)) (facts_from c (line.number + 1) lines)) (sym behind);
+        },
+      )
+  takes_line (Err fault) took context course whole led cut = λ lines end.
+      let same = ap (facts_of_line old.context line.number) cut ∙ facts_cut old.context line.number whole in
+      led.leads (whole ∷ lines) end
+      ∙ fails auto supplied led.seen (facts_of_line old.context line.number whole) (facts_from (context_behind old.context line.number whole) (line.number + 1) lines) fault (ap (facts_fault supplied led.seen) (sym same) ∙ took led.seen led.taken)
 
-  abbrev behind : Context
-  behind = context_behind reader.context line.number line.bytes.now
+-- ---- all lines
 
-  -- the line that is lent is the next of all
-  next_of : (bytes : List ℕ) (told : LeadsOn choice supplied bytes left feed reader.context reading.seen) → (later : List ℕ) × (after ≡ Some later) × LendsFirst feed new told.after later line
-  next_of bytes told = lends_lines feed new told.after after given given_after (Ok (Some line)) (rw told.left_is at lines)
+module _ (choice : Choice) (supplied : Supplied) where
+  -- what all lines lead to
+  abbrev pub log_course : Course (Result Outcome ImportFault)
+  log_course lines end = facts_answer (is_auto choice) supplied (nothing_seen (format_of choice)) (facts_from (starts (format_of choice)) 1 lines)
 
-  -- what this line and those behind it come to
-  leads : (bytes : List ℕ) (told : LeadsOn choice supplied bytes left feed reader.context reading.seen)
-      → facts_outcome (is_auto choice) supplied reading.seen (facts ++ facts_from behind (line.number + 1) (next_of bytes told).2.others) ≡ log_outcome choice supplied bytes
-  leads bytes told =
-      let lent = (next_of bytes told).2 in
-      let later = (next_of bytes told).0 in
-      ap (λ fs. facts_outcome (is_auto choice) supplied reading.seen (fs ++ facts_from behind (line.number + 1) lent.others)) (facts_lent feed new told.after later line lent reader.context)
-      ∙ ap (λ c. facts_outcome (is_auto choice) supplied reading.seen (facts_of_line reader.context feed.place.line lent.first ++ facts_from c (line.number + 1) lent.others)) (context_lent feed new told.after later line lent reader.context)
-      ∙ ap (λ n. facts_outcome (is_auto choice) supplied reading.seen (facts_of_line reader.context feed.place.line lent.first ++ facts_from (context_behind reader.context feed.place.line lent.first) (n + 1) lent.others)) lent.number
-      ∙ sym (ap (λ ls. facts_outcome (is_auto choice) supplied reading.seen (facts_from reader.context feed.place.line ls)) lent.lines) ∙ told.says
+  pub begins : (auto : Bool) (format : Option Format) (state : State) → auto ≡ is_auto choice → format ≡ format_of choice → HasTakenFacts state (nothing_seen format) → state.context ≡ starts format → LeadsTo auto supplied state 1 log_course
+  begins auto format state same known taken context = record {
+    seen = nothing_seen (format_of choice);
+    taken = subst (λ f. HasTakenFacts state (nothing_seen f)) known taken;
+    leads = λ lines end. rw (same, context, known) refl;
+  }
 
-  pub offends : (bytes : List ℕ) (fault : ImportFault) (result : Outcome) → left_first ≡ Some bytes → facts_fault supplied reading.seen facts ≡ Some fault → result ≡ unless (Some fault) result → result ≡ log_outcome choice supplied bytes
-  offends bytes fault result is found told_is =
-      let told = reading.told bytes is in
-      told_is ∙ sym (fails (is_auto choice) supplied reading.seen facts (facts_from behind (line.number + 1) (next_of bytes told).2.others) fault result found) ∙ leads bytes told
+  pub writes_outcome : (bytes : List ℕ) (end : Place) (outcome : Outcome) → Ok outcome ≡ log_course (lines_of bytes) end → outcome ≡ log_outcome choice supplied bytes
+  writes_outcome bytes end outcome = by (facts_fault supplied (nothing_seen (format_of choice)) (shown (format_of choice) bytes)) (ended (is_auto choice) supplied (seen_after (nothing_seen (format_of choice)) (shown (format_of choice) bytes)))
+    where
+      by : (fault : Option ImportFault) (told : Outcome) → Ok outcome ≡ option_map_or (λ f. Err f) fault (Ok told) → outcome ≡ unless fault told
+      by None told is = cc is
+      by (Some fault) told is = cc is
 
-  told_on : (bytes : List ℕ) → facts_fault supplied reading.seen facts ≡ None → LeadsOn choice supplied bytes left feed reader.context reading.seen → LeadsOn choice supplied bytes after new behind (seen_after reading.seen facts)
-  told_on bytes none told =
-      let next = next_of bytes told in
-      let lent = next.2 in
-      let short : length lent.first ≤ 4096 = few_first lent.first (rw lent.bytes at (short_line supplied line.number reader.context reading.seen line.bytes.now none)) in
-      let same = told_next (facts_from behind) (λ m n. refl) feed new told.after next.0 line lent short in
-      record {
-        after = next.0;
-        left_is = next.1;
-        says = ap (facts_outcome (is_auto choice) supplied (seen_after reading.seen facts)) same
-            ∙ sym (goes_past (is_auto choice) supplied reading.seen facts (facts_from behind (line.number + 1) lent.others) none) ∙ leads bytes told;
-      }
-
-  pub goes_on : (reader_new : State) → HasTakenFacts reader_new (seen_after reading.seen facts) → facts_fault supplied reading.seen facts ≡ None → reader_new.context ≡ behind → IsReading choice supplied left_first after given_first given_after new reader_new
-  goes_on reader_new held none context =
-      record {
-        fed = fed_on reading.fed new after given_after line lines;
-        seen = seen_after reading.seen facts;
-        held = held;
-        told = λ bytes is. rw context (told_on bytes none (reading.told bytes is));
-      }
-
--- at the end of all lines
-module _ (left_first left after : Option (List ℕ)) (given_first given given_after : ℕ) (feed new : Feeding) (choice : Choice) (supplied : Supplied) (reader : State) (reading : IsReading choice supplied left_first left given_first given feed reader)
-    (lines : Lines feed new (draw left after given given_after) (Ok None)) where
-  pub ends : (bytes : List ℕ) → left_first ≡ Some bytes → ended_by (summary_in (is_auto choice) supplied reader) ≡ log_outcome choice supplied bytes
-  ends bytes is =
-      let told = reading.told bytes is in
-      let next = lends_lines feed new told.after after given given_after (Ok None) (rw told.left_is at lines) in
-      same_end (is_auto choice) supplied reader reading.seen reading.held
-      ∙ ap (λ l. facts_outcome (is_auto choice) supplied reading.seen (facts_from reader.context feed.place.line (lines_of l))) (sym next.2.0) ∙ told.says
+  pub writes_fault : (bytes : List ℕ) (end : Place) (fault : ImportFault) (outcome : Outcome) → Err fault ≡ log_course (lines_of bytes) end → ((told : Outcome) → outcome ≡ unless (Some fault) told) → outcome ≡ log_outcome choice supplied bytes
+  writes_fault bytes end fault outcome is writes = by (facts_fault supplied (nothing_seen (format_of choice)) (shown (format_of choice) bytes)) (ended (is_auto choice) supplied (seen_after (nothing_seen (format_of choice)) (shown (format_of choice) bytes))) is
+    where
+      by : (found : Option ImportFault) (told : Outcome) → Err fault ≡ option_map_or (λ f. Err f) found (Ok told) → outcome ≡ unless found told
+      by None told is = cc is
+      by (Some other) told is = let e : fault ≡ other = cc is in writes told ∙ ap (λ f. unless (Some f) told) e

@@ -1,6 +1,7 @@
 -- What facts and supplied words come to: the texts and the status (own).
 --     facts_outcome auto supplied seen facts      what facts come to that stand behind others
 use Rattle.std.specs.Prelude.{ℕ, zero, suc, ◌+◌, ◌-◌, ◌*◌, ◌/◌, ◌%◌, ◌==◌, ◌&&◌, ◌||◌, nat_lt, not, max, bit_or, codes, decimal, Bool, true, false, List, [], ◌∷◌, ◌++◌, map, replicate, if◌then◌else◌, Option, Some, None, is_none, unwrap_or}
+use Rattle.std.specs.Option.{option_or}
 use Rattle.mt_ports.specs.Causes.{one_more}
 use Rattle.mt_ports.specs.declared.status.Status.{Status}
 use Rattle.mt_ports.specs.declared.status.Status.TheVariants.{Done, Refused, BadText}
@@ -111,10 +112,6 @@ processors (reading ∷ before) = max (reading.processor + 1) (processors before
 
 -- ---- faults
 
-abbrev pub or_fault : Option ImportFault → Option ImportFault → Option ImportFault
-or_fault (Some fault) other = Some fault
-or_fault None other = other
-
 -- VCNT, bits 7:0 of the capability register, is less than this
 abbrev pub counts_fewer : Option ℕ → ℕ → Bool
 counts_fewer None pairs = false
@@ -180,10 +177,6 @@ fixed_rival word before reading =
     else if shows_no_fix reading then ranged_rival (last_fixed_line before)
     else None
 
-abbrev pub or_rival : Option Rival → Option Rival → Option Rival
-or_rival None other = other
-or_rival (Some found) other = Some found
-
 abbrev pub contradiction : Reading → Option Rival → Option ImportFault
 contradiction reading None = None
 contradiction reading (Some other) = Some (Contradiction reading.place reading.number other)
@@ -197,7 +190,7 @@ pairs_fault before reading =
 abbrev pub reading_fault : Supplied → List Reading → Reading → Option ImportFault
 reading_fault supplied before reading =
     if nat_lt 15 reading.processor then Some (BadProcessor reading.place)
-    else or_fault (contradiction reading (or_rival (rival supplied before reading) (fixed_rival (supplied_value supplied 0xfe) before reading))) (pairs_fault before reading)
+    else option_or (contradiction reading (option_or (rival supplied before reading) (fixed_rival (supplied_value supplied 0xfe) before reading))) (pairs_fault before reading)
 
 -- a width that a dump may have
 abbrev pub is_fit_width : ℕ → Bool
@@ -229,7 +222,7 @@ fact_fault supplied seen (is_fault fault) = Some fault
 -- the first fault of facts
 abbrev pub facts_fault : Supplied → Seen → List Fact → Option ImportFault
 facts_fault supplied seen [] = None
-facts_fault supplied seen (fact ∷ facts) = or_fault (fact_fault supplied seen fact) (facts_fault supplied (seen_with seen fact) facts)
+facts_fault supplied seen (fact ∷ facts) = option_or (fact_fault supplied seen fact) (facts_fault supplied (seen_with seen fact) facts)
 
 abbrev pub rival_text : Rival → List ℕ
 rival_text (Line number) = codes ": line " ++ decimal number ++ codes " shows it otherwise"

@@ -1,6 +1,9 @@
 -- What a reader of a log keeps of the facts that it has taken (own).
-use Rattle.std.specs.Prelude.{ℕ, ◌≡◌, ◌≤◌, ◌+◌, ◌-◌, ◌*◌, ◌==◌, nat_lt, Bool, List, length, if◌then◌else◌, Option, Some, None, IfSome, ⊤}
+use Rattle.std.specs.Prelude.{ℕ, ◌≡◌, ◌≤◌, ◌+◌, ◌-◌, ◌*◌, ◌==◌, nat_lt, Bool, List, length, if◌then◌else◌, Option, Some, None, IfSome, Result, Ok, Err, ⊤}
 use Rattle.std.specs.List.{slice_index_or}
+use Rattle.std.specs.Option.{option_map_or}
+use Rattle.mt_text.specs.Reader.{Course}
+use Rattle.mt_text.specs.declared.place.Place.{Place}
 use Rattle.mt_regs.specs.RegisterFile.{low_byte}
 use Rattle.mt_regs.specs.Registers.{HasThreeDigits}
 use Rattle.mt_import.specs.declared.fault.ImportFault.{ImportFault}
@@ -11,7 +14,9 @@ use Rattle.mt_import.specs.declared.shape.Slot.{Slot}
 use Rattle.mt_import.specs.declared.shape.Tally.{Tally}
 use Rattle.mt_import.specs.Slot.{blank_slot}
 use Rattle.mt_import.specs.Supplied.{Supplied}
-use Rattle.mt_import.specs.Outcome.{Findings, Seen, Summary, capabilities_shown, firm_of, hint_of, last_fixed_line, last_shown, processors, slot_shown, summary_of, values_of}
+use Rattle.mt_import.specs.Readings.{Fact}
+use Rattle.mt_import.specs.Shown.{facts_from}
+use Rattle.mt_import.specs.Outcome.{Findings, Outcome, Seen, Summary, capabilities_shown, ended, facts_fault, firm_of, hint_of, last_fixed_line, last_shown, processors, seen_after, slot_shown, summary_of, values_of}
 
 pub record State : Type 0 where
   pub context : Context
@@ -85,3 +90,13 @@ IsShort (TooManyPairs place) = ⊤
 IsShort (BadWidth place) = ⊤
 IsShort (Contradiction place number rival) = HasThreeDigits number
 IsShort (WidthContradiction place rival) = ⊤
+
+-- what facts come to: the first fault, or the outcome behind them
+abbrev pub facts_answer : Bool → Supplied → Seen → List Fact → Result Outcome ImportFault
+facts_answer auto supplied seen facts = option_map_or (λ fault. Err fault) (facts_fault supplied seen facts) (Ok (ended auto supplied (seen_after seen facts)))
+
+-- The lines that follow, of which the first has this number, lead a reader to this.
+pub record LeadsTo (auto : Bool) (supplied : Supplied) (state : State) (number : ℕ) (course : Course (Result Outcome ImportFault)) : Type 0 where
+  pub seen : Seen
+  pub taken : HasTakenFacts state seen
+  pub leads : (lines : List (List ℕ)) (end : Place) → course lines end ≡ facts_answer auto supplied seen (facts_from state.context number lines)

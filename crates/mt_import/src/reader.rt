@@ -1,16 +1,14 @@
 ghost use Rattle.std.specs.Prelude.{◌≡◌, ◌≤◌, ◌<◌, ◌+◌, ◌-◌, ◌*◌, ℕ, List, [], ◌∷◌, bit_or, length, max, slice_get, unwrap_or, true, false, Some, None, Ok, IfErr, IfOk, IfSome, IsErrOf, MatchOption, MatchResult, ◌↔◌};
-ghost use Rattle.std.specs.Io.KnownBytes.{Consumes, IsAtEnd};
 ghost use Rattle.mt_text.specs.Text.{longest_input};
 ghost use Rattle.mt_ports.specs.Causes.{Rose};
-ghost use Rattle.mt_text.specs.Feed.{GaveTooMuch, IsLong, at_start, taken};
+ghost use Rattle.mt_text.specs.Feed.{GaveTooMuch};
 ghost use Rattle.mt_text.specs.declared.fault.FeedFault.{FeedFault};
 ghost use Rattle.mt_import.specs.declared.shape.Reading.{Reading as ReadingValue};
 ghost use Rattle.mt_regs.specs.RegisterFile.{low_byte};
 ghost use Rattle.mt_import.specs.Readings.{Fact, fixed_clash, fixed_facts, is_line, is_register, is_register_value, is_warning, is_width, line_facts, reading_facts, said_facts, shown_facts, shows_facts, starts, unlike, value_facts};
 ghost use Rattle.mt_import.specs.Shown.{context_behind, facts_of_line};
 ghost use Rattle.mt_import.specs.Slot.{slot_with};
-ghost use Rattle.mt_import.specs.Outcome.{Seen, capabilities_after, capability_rival, contradiction, count_of, count_rival, counted, counts_fewer, facts_fault, fix_shown, fixed_line_after, fixed_rival, fixless_rival, is_fit_width, lacks_fix, last_after, least_count, nothing_seen, one_if, or_fault, or_rival, pairs_fault, ranged_rival, reading_fault, rival, seen_after, seen_with, shows_fixed, shows_no_fix, slot_shown, tally_warned, tally_with, uncounted_rival, width_fault, width_rival};
-ghost use Rattle.mt_import.specs.Supplied.{bits_differ, differs};
+ghost use Rattle.mt_import.specs.Outcome.{Seen, capabilities_after, count_of, facts_fault, fixed_line_after, is_fit_width, last_after, least_count, nothing_seen, one_if, reading_fault, seen_after, seen_with, shows_fixed, tally_warned, tally_with, width_fault};
 ghost use Rattle.mt_import.specs.Import.{IsWritten, dump_text, log_outcome};
 ghost use Rattle.mt_import.specs.Reader.{HasTakenFacts, IsFit, IsReader, IsShort, held_at, slot_of, slots_of};
 
@@ -23,11 +21,13 @@ use crate::values::is_pair_number;
 use crate::{Choice, Context, Format, ImportFault, LineSays, Rival, Shows, Supplied};
 use mt_kinds::is_bit_set;
 use mt_ports::Source;
-use mt_regs::{CAPABILITIES, DEFAULT_TYPE, FIRST_PAIR, MAX_PAIRS};
-use mt_text::{Feed, FeedFault, Line, Place};
+use mt_regs::{CAPABILITIES, DEFAULT_TYPE, FIRST_PAIR};
+use mt_text::{FeedFault, Line, LineReader, Place, read_lines};
 use std::marker::Model;
 
-const MOST_PROCESSORS: u32 = 16;
+mod rivals;
+
+use rivals::width_rival;
 
 // Registers of a processor: 0FEH, and those from 200H to 2FFH.
 const SLOTS: usize = 257;
@@ -36,9 +36,6 @@ const LAST_REGISTER: u32 = 0x2ff;
 
 // V of PhysMask.
 const VALID: u8 = 11;
-
-// FIX of IA32_MTRRCAP.
-const FIX: u8 = 8;
 
 // The fixed-range registers have numbers from here.
 const FIRST_FIXED: u32 = 0x250;
@@ -90,29 +87,10 @@ fn slot_of(number: u32) -> Option<usize>
     }
 }
 
-// Whether a word's value is another in these bits.
-fn bits_differ(word: Option<u64>, bits: u64, value: u64) -> bool
-    ensures { result ≡ bits_differ word bits value }
-{
-    match word {
-        Some(word) => word & bits != value,
-        None => false,
-    }
-}
-
 fn is_fit_width(width: u64) -> bool
     ensures { result ≡ is_fit_width width }
 {
     31 < width && width < 53
-}
-
-fn differs_in_width(other: Option<u8>, width: u64) -> bool
-    ensures { result ≡ differs other width }
-{
-    match other {
-        Some(other) => other as u64 != width,
-        None => false,
-    }
 }
 
 // The capability register's behind one more reading.
@@ -182,133 +160,6 @@ fn fixed_line_after(reading: &Reading, before: Option<u64>) -> Option<u64>
     }
 }
 
-// Whether VCNT is less than this.
-fn counts_fewer(capabilities: Option<u64>, pairs: u64) -> bool
-    ensures { result ≡ counts_fewer capabilities pairs }
-{
-    match capabilities {
-        Some(capabilities) => capabilities % 256 < pairs,
-        None => false,
-    }
-}
-
-// The capability register, if all bits of VCNT are shown.
-fn counted(capabilities: &Slot) -> Option<u64>
-    ensures { result ≡ counted capabilities.now }
-{
-    if capabilities.bits % 256 == 255 {
-        Some(capabilities.value)
-    } else {
-        None
-    }
-}
-
-// The last pair, if VCNT doesn't count it.
-fn uncounted_rival(capabilities: Option<u64>, last: Option<LastPair>) -> Option<Rival>
-    ensures { result ≡ uncounted_rival capabilities last }
-{
-    match last {
-        Some(last) if counts_fewer(capabilities, last.count) => {
-            Some(Rival::RegisterLine(last.line))
-        }
-        _ => None,
-    }
-}
-
-// What gives the capability register other bits than this reading of it, or shows a pair that its VCNT doesn't count.
-fn capability_rival(capabilities: &Slot, last: Option<LastPair>, reading: &Reading) -> Option<Rival>
-    ensures { result ≡ capability_rival capabilities.now last reading.now }
-{
-    if capabilities.clashes(reading) {
-        return Some(Rival::Line(capabilities.line));
-    }
-    uncounted_rival(counted(&capabilities.with(reading)), last)
-}
-
-fn count_rival(capabilities: &Slot, last: Option<LastPair>, reading: &Reading) -> Option<Rival>
-    ensures { result ≡ count_rival capabilities.now last reading.now }
-{
-    if counts_fewer(counted(capabilities), least_count(reading)) {
-        Some(Rival::CapabilityLine(capabilities.line))
-    } else if reading.number == CAPABILITIES {
-        capability_rival(capabilities, last, reading)
-    } else {
-        None
-    }
-}
-
-fn lacks_fix(capabilities: Option<u64>) -> bool
-    ensures { result ≡ lacks_fix capabilities }
-{
-    match capabilities {
-        Some(capabilities) => !is_bit_set(capabilities, FIX),
-        None => false,
-    }
-}
-
-// The capability register, if FIX is shown.
-fn fix_shown(capabilities: &Slot) -> Option<u64>
-    ensures { result ≡ fix_shown capabilities.now }
-{
-    if is_bit_set(capabilities.bits, FIX) {
-        Some(capabilities.value)
-    } else {
-        None
-    }
-}
-
-// What gives a capability register without FIX.
-fn fixless_rival(word: Option<u64>, capabilities: &Slot) -> Option<Rival>
-    ensures { result ≡ fixless_rival word capabilities.now }
-{
-    if lacks_fix(word) {
-        Some(Rival::CapabilityWord)
-    } else if lacks_fix(fix_shown(capabilities)) {
-        Some(Rival::CapabilityLine(capabilities.line))
-    } else {
-        None
-    }
-}
-
-fn shows_no_fix(reading: &Reading) -> bool
-    ensures { result ≡ shows_no_fix reading.now }
-{
-    reading.number == CAPABILITIES
-        && is_bit_set(reading.bits, FIX)
-        && !is_bit_set(reading.value, FIX)
-}
-
-fn ranged_rival(line: Option<u64>) -> Option<Rival>
-    ensures { result ≡ ranged_rival line }
-{
-    match line {
-        Some(line) => Some(Rival::RegisterLine(line)),
-        None => None,
-    }
-}
-
-fn or_rival(found: Option<Rival>, other: Option<Rival>) -> Option<Rival>
-    ensures { result ≡ or_rival found other }
-{
-    match found {
-        Some(found) => Some(found),
-        None => other,
-    }
-}
-
-// What gives another width: a word, or the last line that shows one.
-fn width_rival(word: Option<u8>, shown: Option<u8>, line: u64, width: u64) -> Option<Rival>
-    ensures { result ≡ width_rival word shown line width }
-{
-    if differs_in_width(word, width) {
-        Some(Rival::Word)
-    } else if differs_in_width(shown, width) {
-        Some(Rival::Line(line))
-    } else {
-        None
-    }
-}
-
 fn greater(a: u32, b: u32) -> u32
     ensures { result ≡ max a b }
 {
@@ -326,25 +177,6 @@ fn one_if(matches: bool, count: u64) -> u64
     ensures { result ≡ one_if matches count }
 {
     if matches { count_on(count) } else { count }
-}
-
-fn or_fault(found: Option<ImportFault>, other: Option<ImportFault>) -> Option<ImportFault>
-    ensures fault { result ≡ or_fault found other }
-    ensures no_other { result ≡ None → other ≡ None }
-{
-    match found {
-        Some(found) => Some(found),
-        None => other,
-    }
-}
-
-fn contradiction(reading: &Reading, rival: Option<Rival>) -> Option<ImportFault>
-    ensures { result ≡ contradiction reading.now rival }
-{
-    match rival {
-        Some(rival) => Some(ImportFault::Contradiction(reading.place, reading.number, rival)),
-        None => None,
-    }
 }
 
 // The line on fixed ranges before, if it says something else.
@@ -435,79 +267,6 @@ impl LogReader {
         ensures { result ≡ self.now.tally }
     {
         self.tally
-    }
-
-    // What else gives other bits than a reading, or doesn't agree with it on VCNT.
-    fn rival(&self, supplied: &Supplied, reading: &Reading) -> Option<Rival>
-        requires { reading.now.processor < 16 }
-        ensures { (seen : Seen) → HasTakenFacts self.now seen → result ≡ rival supplied.now seen.readings reading.now }
-    {
-        if bits_differ(supplied.value(reading.number), reading.bits, reading.value) {
-            return Some(Rival::Word);
-        }
-        if counts_fewer(supplied.value(CAPABILITIES), least_count(reading)) {
-            return Some(Rival::CapabilityWord);
-        }
-        let slot = self.slot(reading.processor, reading.number);
-        if slot.clashes(reading) {
-            Some(Rival::Line(slot.line))
-        } else {
-            count_rival(&self.capabilities, self.last, reading)
-        }
-    }
-
-    // What else shows that a dump has no fixed ranges, or that it has them.
-    fn fixed_rival(&self, word: Option<u64>, reading: &Reading) -> Option<Rival>
-        ensures { (seen : Seen) → HasTakenFacts self.now seen → result ≡ fixed_rival word seen.readings reading.now }
-    {
-        if shows_fixed(reading) {
-            fixless_rival(word, &self.capabilities)
-        } else if shows_no_fix(reading) {
-            ranged_rival(self.line_of_fixed)
-        } else {
-            None
-        }
-    }
-
-    // The low byte of the capability register of a reading's processor behind the reading.
-    fn pairs_after(&self, reading: &Reading) -> u64
-        requires { reading.now.processor < 16 }
-        ensures held { result ≡ low_byte (bit_or (slots_of self.now reading.now.processor 0xfe).value reading.now.value) }
-        ensures shown { (seen : Seen) → HasTakenFacts self.now seen → result ≡ low_byte (bit_or (slot_shown seen.readings reading.now.processor 0xfe).value reading.now.value) }
-    {
-        (self.slot(reading.processor, CAPABILITIES).value | reading.value) % 256
-    }
-
-    // Whether the capability register has more pairs than a dump may have, as this line and those before it show it.
-    fn pairs_fault(&self, reading: &Reading) -> Option<ImportFault>
-        requires { reading.now.processor < 16 }
-        ensures sound { result ≡ None → reading.now.number ≡ 0xfe → low_byte (bit_or (slots_of self.now reading.now.processor 0xfe).value reading.now.value) ≤ 32 }
-        ensures short { IfSome result IsShort }
-        ensures fault { (seen : Seen) → HasTakenFacts self.now seen → result ≡ pairs_fault seen.readings reading.now }
-    {
-        if reading.number == CAPABILITIES && self.pairs_after(reading) > MAX_PAIRS as u64 {
-            Some(ImportFault::TooManyPairs(reading.place))
-        } else {
-            None
-        }
-    }
-
-    fn reading_fault(&self, supplied: &Supplied, reading: &Reading) -> Option<ImportFault>
-        requires { slot_of reading.now.number ≡ None → ⊥ }
-        ensures sound { result ≡ None → (reading.now.processor < 16)
-            × (reading.now.number ≡ 0xfe → low_byte (bit_or (slots_of self.now reading.now.processor 0xfe).value reading.now.value) ≤ 32) }
-        ensures short { IfSome result IsShort }
-        ensures fault { (seen : Seen) → HasTakenFacts self.now seen → result ≡ reading_fault supplied.now seen.readings reading.now }
-    {
-        if reading.processor >= MOST_PROCESSORS {
-            return Some(ImportFault::BadProcessor(reading.place));
-        }
-        let rival = self.rival(supplied, reading);
-        let fixed_rival = self.fixed_rival(supplied.value(CAPABILITIES), reading);
-        or_fault(
-            contradiction(reading, or_rival(rival, fixed_rival)),
-            self.pairs_fault(reading),
-        )
     }
 
     // Keeps a reading that has no fault.
@@ -792,32 +551,32 @@ impl LogReader {
     }
 }
 
-// Reads the log through a feed that has taken nothing. Behind a fault the rest is read too.
-fn read_lines<S: Source>(
-    choice: Choice,
-    supplied: &Supplied,
-    feed: &mut Feed,
-    source: &mut S,
-) -> Result<Outcome, FeedFault>
-    requires { feed.old ≡ at_start }
-    ensures answer { (bytes : List ℕ) → S.left source.old ≡ Some bytes → IfOk result (λ answer. answer ≡ log_outcome choice supplied.now bytes) }
-    ensures written { IfOk result (λ answer. IsWritten answer.status (dump_text answer)) }
-    ensures end { IfOk result (λ _. IsAtEnd (S.left source.new)) }
-    ensures fault { MatchResult result (λ _. feed.new.fault ≡ None) (λ fault. feed.new.fault ≡ Some fault) }
-    ensures consumed { (taken_now : List ℕ) × Consumes (S.left source.old) (S.left source.new) taken_now × (taken feed.new ≡ length taken_now) }
-    ensures counted { S.given source.new ≡ S.given source.old + taken feed.new }
-    ensures long { IsLong feed.new }
-    ensures failed { IsErrOf result FeedFault.ReadFault → Rose (S.faults source.old) (S.faults source.new) }
-    ensures stands { (IsErrOf result FeedFault.ReadFault → ⊥) → S.faults source.new ≡ S.faults source.old }
-{
-    let mut reader = LogReader::new(choice.format());
-    'lines: while let Some(line) = feed.line(source)? {
-        if let Err(fault) = reader.take(supplied, &line) {
-            feed.drain(source)?;
-            return Ok(faulted(&fault));
-        }
+// A reader with what the command line says.
+#[derive(Drop)]
+struct CommandReader<'a> {
+    reader: LogReader,
+    is_auto: bool,
+    supplied: &'a Supplied,
+}
+
+impl<'a> LineReader for CommandReader<'a> {
+    type Answer = Outcome;
+
+    type Fault = ImportFault;
+
+    ghost use Rattle.mt_import.specs.Reader.{LeadsTo};
+
+    ghost at = { λ c. LeadsTo c.is_auto c.supplied.now c.reader };
+
+    ghost fits = { λ answer. MatchResult answer (λ outcome. IsWritten outcome.status (dump_text outcome)) IsShort };
+
+    fn take_line(&mut self, line: &Line<'_>) -> Result<(), ImportFault> {
+        self.reader.take(self.supplied, line)
     }
-    Ok(reader.finish(choice.is_auto(), supplied))
+
+    fn finish_at(self, _end: Place) -> Result<Outcome, ImportFault> {
+        Ok(self.reader.finish(self.is_auto, self.supplied))
+    }
 }
 
 /// What a log comes to, line by line out of one buffer. Behind a fault the rest is read too, since a failed read and
@@ -835,5 +594,14 @@ pub fn read_log<S: Source>(
     ensures failed { IsErrOf result FeedFault.ReadFault → Rose (S.faults source.old) (S.faults source.new) }
     ensures stands { (IsErrOf result FeedFault.ReadFault → ⊥) → S.faults source.new ≡ S.faults source.old }
 {
-    read_lines(choice, supplied, &mut Feed::new(), source)
+    let reader = CommandReader {
+        reader: LogReader::new(choice.format()),
+        is_auto: choice.is_auto(),
+        supplied,
+    };
+    match read_lines(reader, source) {
+        Ok(Ok(outcome)) => Ok(outcome),
+        Ok(Err(fault)) => Ok(faulted(&fault)),
+        Err(fault) => Err(fault),
+    }
 }

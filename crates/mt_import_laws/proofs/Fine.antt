@@ -2,6 +2,7 @@
 use Rattle.std.proofs.Common.{◌≡◌, ◌<◌, ℕ, Bool, true, false, ◌==◌, nat_lt, List, [], ◌∷◌, Option, Some, None, refl, sym, ◌∙◌, ap, subst, bit_and, inl, inr, arith}
 use Rattle.std.specs.Prelude.{⊤, min, if◌then◌else◌}
 use Rattle.std.specs.Int.{bit_at}
+use Rattle.std.specs.Option.{option_or}
 use Rattle.std.proofs.lemmas.Bool.{eqb-true}
 use Rattle.std.proofs.lemmas.Bool.Decides.{nat_tests}
 use Rattle.std.proofs.lemmas.Nat.Bits.{bit_at-lt, bit_at_and}
@@ -14,7 +15,7 @@ use Rattle.mt_import.specs.declared.shape.Slot.{Slot}
 use Rattle.mt_import.specs.Readings.{Fact, is_fault, is_line, is_register_value, is_warning, is_width}
 use Rattle.mt_import.specs.Slot.{clashes}
 use Rattle.mt_import.specs.Supplied.{Supplied, bits_differ, supplied_value}
-use Rattle.mt_import.specs.Outcome.{Seen, capabilities_shown, contradiction, count_rival, counts_fewer, least_count, fact_fault, last_shown, facts_fault, fixed_rival, or_fault, or_rival, pairs_fault, reading_fault, rival, seen_after, seen_with, slot_shown}
+use Rattle.mt_import.specs.Outcome.{Seen, capabilities_shown, contradiction, count_rival, counts_fewer, least_count, fact_fault, last_shown, facts_fault, fixed_rival, pairs_fault, reading_fault, rival, seen_after, seen_with, slot_shown}
 use Rattle.mt_import_laws.specs.Origins.{IsAmong}
 use Rattle.mt_import_laws.proofs.Bits.{bit_first, bit_second, not_false, same_number, value_kept, value_new}
 
@@ -29,7 +30,7 @@ IsFine supplied (reading ∷ before) = HasNoRival supplied before reading × IsF
 
 -- ---- facts without a fault
 
-pub both_none : (a b : Option ImportFault) → or_fault a b ≡ None → (a ≡ None) × (b ≡ None)
+pub both_none : (a b : Option ImportFault) → option_or a b ≡ None → (a ≡ None) × (b ≡ None)
 both_none None b is = (refl, is)
 both_none (Some fault) b is = cc is
 
@@ -38,7 +39,7 @@ no_contradiction reading None is = refl
 no_contradiction reading (Some other) is = cc is
 
 neither : (supplied : Supplied) (before : List Reading) (reading : Reading) (found other : Option Rival) → rival supplied before reading ≡ found → fixed_rival (supplied_value supplied 0xfe) before reading ≡ other
-    → or_rival found other ≡ None → HasNoRival supplied before reading
+    → option_or found other ≡ None → HasNoRival supplied before reading
 neither supplied before reading None other one two is = record { rival_is = one; fixed_is = two ∙ is }
 neither supplied before reading (Some found) other one two is = cc is
 
@@ -46,13 +47,13 @@ no_rival : (supplied : Supplied) (before : List Reading) (reading : Reading) →
 no_rival supplied before reading is = by (nat_lt 15 reading.processor) is
   where
     by : (far : Bool) → (if far then Some (BadProcessor reading.place)
-        else or_fault (contradiction reading (or_rival (rival supplied before reading) (fixed_rival (supplied_value supplied 0xfe) before reading))) (pairs_fault before reading)) ≡ None
+        else option_or (contradiction reading (option_or (rival supplied before reading) (fixed_rival (supplied_value supplied 0xfe) before reading))) (pairs_fault before reading)) ≡ None
         → HasNoRival supplied before reading
     by true is = cc is
     by false is =
         neither supplied before reading (rival supplied before reading) (fixed_rival (supplied_value supplied 0xfe) before reading) refl refl
-        (no_contradiction reading (or_rival (rival supplied before reading) (fixed_rival (supplied_value supplied 0xfe) before reading))
-        (both_none (contradiction reading (or_rival (rival supplied before reading) (fixed_rival (supplied_value supplied 0xfe) before reading))) (pairs_fault before reading) is).0)
+        (no_contradiction reading (option_or (rival supplied before reading) (fixed_rival (supplied_value supplied 0xfe) before reading))
+        (both_none (contradiction reading (option_or (rival supplied before reading) (fixed_rival (supplied_value supplied 0xfe) before reading))) (pairs_fault before reading) is).0)
 
 pub fine_after : (supplied : Supplied) (facts : List Fact) (seen : Seen) → facts_fault supplied seen facts ≡ None → IsFine supplied seen.readings → IsFine supplied (seen_after seen facts).readings
 fine_after supplied [] seen none fine = fine

@@ -1,6 +1,7 @@
 -- `auto` comes to what the format of the first telling line comes to.
 use Rattle.std.proofs.Common.{◌≡◌, ◌∙◌, ◌+◌, ℕ, Bool, true, false, List, [], ◌∷◌, ◌++◌, take, Option, Some, None, Result, Ok, Err, refl, sym, ap, subst, inl, inr}
 use Rattle.std.specs.Prelude.{if◌then◌else◌}
+use Rattle.std.specs.Option.{option_or}
 use Rattle.mt_text.specs.Text.{is_too_long, lines_of, past_limit, words_of}
 use Rattle.mt_text.specs.declared.fault.NumberFault.{NumberFault}
 use Rattle.mt_text.specs.declared.place.Place.{Place}
@@ -14,7 +15,7 @@ use Rattle.mt_import.specs.declared.reading.Turn.TheVariants.{To}
 use Rattle.mt_import.specs.declared.shape.Tally.{Tally}
 use Rattle.mt_import.specs.Import.{log_outcome}
 use Rattle.mt_import.specs.Kernel.{is_warning_line}
-use Rattle.mt_import.specs.Outcome.{Seen, Summary, Outcome, dump_outcome, ended, ended_by, fact_fault, facts_fault, findings_of, is_empty, nothing_seen, or_fault, refusal, seen_after, seen_with, summary_of, unless}
+use Rattle.mt_import.specs.Outcome.{Seen, Summary, Outcome, dump_outcome, ended, ended_by, fact_fault, facts_fault, findings_of, is_empty, nothing_seen, refusal, seen_after, seen_with, summary_of, unless}
 use Rattle.mt_import.specs.Pieces.{shows_width}
 use Rattle.mt_import.specs.Readings.{Fact, announced_after, context_after, fixed_after, is_fault, is_line, is_match, is_register_value, is_warning, is_width, line_facts, processor_after, said_facts, starts, table_behind}
 use Rattle.mt_import.specs.Shown.{context_behind, facts_from, facts_of_line, format_told, said_in, said_of, shown}
@@ -71,7 +72,7 @@ module _ (supplied : Supplied) where
       let later = same_rest (seen_with a fact) (seen_with b fact) facts (next_uncounted a fact ∙ ap (λ s. uncounted (seen_with s fact)) same ∙ sym (next_uncounted b fact)) in
       let here : fact_fault supplied a fact ≡ fact_fault supplied b fact = fault_uncounted a fact ∙ ap (λ s. fact_fault supplied s fact) same ∙ sym (fault_uncounted b fact) in
       record {
-        fault = ap (λ f. or_fault f (facts_fault supplied (seen_with a fact) facts)) here ∙ ap (or_fault (fact_fault supplied b fact)) later.fault;
+        fault = ap (λ f. option_or f (facts_fault supplied (seen_with a fact) facts)) here ∙ ap (option_or (fact_fault supplied b fact)) later.fault;
         seen = later.seen;
       }
 
@@ -82,7 +83,7 @@ module _ (supplied : Supplied) where
       let later = same_front front (seen_with a fact) (seen_with b fact) xs ys (next_untold a fact ∙ ap (λ s. untold (seen_with s fact)) same ∙ sym (next_untold b fact)) rest in
       let here : fact_fault supplied a fact ≡ fact_fault supplied b fact = fault_untold a fact ∙ ap (λ s. fact_fault supplied s fact) same ∙ sym (fault_untold b fact) in
       record {
-        fault = ap (λ f. or_fault f (facts_fault supplied (seen_with a fact) (front ++ xs))) here ∙ ap (or_fault (fact_fault supplied b fact)) later.fault;
+        fault = ap (λ f. option_or f (facts_fault supplied (seen_with a fact) (front ++ xs))) here ∙ ap (option_or (fact_fault supplied b fact)) later.fault;
         seen = later.seen;
       }
 

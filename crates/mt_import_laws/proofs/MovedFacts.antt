@@ -1,6 +1,7 @@
 -- Lines with other numbers come to the same facts, faults and readings but for the lines that they name.
 use Rattle.std.proofs.Common.{◌≡◌, ◌∙◌, ◌+◌, ◌==◌, ◌&&◌, nat_lt, max, ℕ, Bool, true, false, List, [], ◌∷◌, ◌++◌, bit_or, map, Option, Some, None, refl, sym, ap}
 use Rattle.std.specs.Prelude.{⊤, if◌then◌else◌}
+use Rattle.std.specs.Option.{option_or}
 use Rattle.std.proofs.Math.Path.{fun_ext}
 use Rattle.std.proofs.lemmas.List.{map-append}
 use Rattle.mt_ports.specs.Causes.{one_more}
@@ -25,7 +26,7 @@ use Rattle.mt_import.specs.Readings.{Fact, context_after, fixed_facts, fixed_sho
 use Rattle.mt_import.specs.Shown.{chosen, context_behind, facts_from, facts_of_line, said_in}
 use Rattle.mt_import.specs.Slot.{clashes, slot_with}
 use Rattle.mt_import.specs.Supplied.{Supplied, bits_differ, differs, supplied_value}
-use Rattle.mt_import.specs.Outcome.{Seen, capabilities_shown, capability_rival, contradiction, count_rival, counted, counts_fewer, fact_fault, facts_fault, fix_shown, fixed_rival, fixless_rival, lacks_fix, last_after, last_fixed_line, last_shown, least_count, or_fault, or_rival, pairs_fault, processors, ranged_rival, reading_fault, rival, seen_after, seen_with, shows_fixed, shows_no_fix, slot_shown, uncounted_rival, width_contradiction, width_fault, width_rival}
+use Rattle.mt_import.specs.Outcome.{Seen, capabilities_shown, capability_rival, contradiction, count_rival, counted, counts_fewer, fact_fault, facts_fault, fix_shown, fixed_rival, fixless_rival, lacks_fix, last_after, last_fixed_line, last_shown, least_count, pairs_fault, processors, ranged_rival, reading_fault, rival, seen_after, seen_with, shows_fixed, shows_no_fix, slot_shown, uncounted_rival, width_contradiction, width_fault, width_rival}
 use Rattle.mt_import_laws.specs.Origins.{context_after_lines}
 use Rattle.mt_import_laws.specs.Spare.{moved_fault, moved_place, moved_rival}
 use Rattle.mt_import_laws.proofs.Moved.{each, in_format, moved_said, moved_shown, same_chosen}
@@ -294,7 +295,7 @@ module _ (move : ℕ → ℕ) where
           if_rival (shows_fixed reading) _ _ _ _ (of_fixless word (capabilities_shown before) ∙ ap (fixless_rival word) (of_capabilities before))
           (if_rival (shows_no_fix reading) _ _ _ _ (of_ranged (last_fixed_line before) ∙ ap ranged_rival (of_fixed_line before)) refl)
 
-      either_rival : (a b : Option Rival) → moved_or_none (or_rival a b) ≡ or_rival (moved_or_none a) (moved_or_none b)
+      either_rival : (a b : Option Rival) → moved_or_none (option_or a b) ≡ option_or (moved_or_none a) (moved_or_none b)
       either_rival None b = refl
       either_rival (Some found) b = refl
 
@@ -302,7 +303,7 @@ module _ (move : ℕ → ℕ) where
       of_contradiction reading None = refl
       of_contradiction reading (Some other) = refl
 
-      either_fault : (a b : Option ImportFault) → moved_faults (or_fault a b) ≡ or_fault (moved_faults a) (moved_faults b)
+      either_fault : (a b : Option ImportFault) → moved_faults (option_or a b) ≡ option_or (moved_faults a) (moved_faults b)
       either_fault None b = refl
       either_fault (Some fault) b = refl
 
@@ -318,12 +319,12 @@ module _ (move : ℕ → ℕ) where
           let other : Option Rival = rival supplied before reading in
           let ranges : Option Rival = fixed_rival word before reading in
           each moved_faults (nat_lt 15 reading.processor) _ _ _ _ refl
-          (either_fault (contradiction reading (or_rival other ranges)) (pairs_fault before reading)
-          ∙ ap (λ f. or_fault f (moved_faults (pairs_fault before reading))) (of_contradiction reading (or_rival other ranges))
-          ∙ ap (λ r. or_fault (contradiction (moved_reading reading) r) (moved_faults (pairs_fault before reading)))
-          (either_rival other ranges ∙ ap (λ r. or_rival r (moved_or_none ranges)) (of_rival before reading)
-          ∙ ap (or_rival (rival supplied (map moved_reading before) (moved_reading reading))) (of_fixed_rival word before reading))
-          ∙ ap (or_fault (contradiction (moved_reading reading) (or_rival (rival supplied (map moved_reading before) (moved_reading reading)) (fixed_rival word (map moved_reading before) (moved_reading reading)))))
+          (either_fault (contradiction reading (option_or other ranges)) (pairs_fault before reading)
+          ∙ ap (λ f. option_or f (moved_faults (pairs_fault before reading))) (of_contradiction reading (option_or other ranges))
+          ∙ ap (λ r. option_or (contradiction (moved_reading reading) r) (moved_faults (pairs_fault before reading)))
+          (either_rival other ranges ∙ ap (λ r. option_or r (moved_or_none ranges)) (of_rival before reading)
+          ∙ ap (option_or (rival supplied (map moved_reading before) (moved_reading reading))) (of_fixed_rival word before reading))
+          ∙ ap (option_or (contradiction (moved_reading reading) (option_or (rival supplied (map moved_reading before) (moved_reading reading)) (fixed_rival word (map moved_reading before) (moved_reading reading)))))
           (of_pairs before reading))
 
       of_width_contradiction : (place : Place) (found : Option Rival) → moved_faults (width_contradiction place found) ≡ width_contradiction (moved_place move place) (moved_or_none found)
@@ -357,8 +358,8 @@ module _ (move : ℕ → ℕ) where
       fault_moved [] seen = refl
       fault_moved (fact ∷ facts) seen =
           either_fault (fact_fault supplied seen fact) (facts_fault supplied (seen_with seen fact) facts)
-          ∙ ap (λ f. or_fault f (moved_faults (facts_fault supplied (seen_with seen fact) facts))) (of_fact seen fact)
-          ∙ ap (or_fault (fact_fault supplied (moved_seen seen) (moved_fact fact)))
+          ∙ ap (λ f. option_or f (moved_faults (facts_fault supplied (seen_with seen fact) facts))) (of_fact seen fact)
+          ∙ ap (option_or (fact_fault supplied (moved_seen seen) (moved_fact fact)))
           (fault_moved facts (seen_with seen fact) ∙ ap (λ (s : Seen). facts_fault supplied s (map moved_fact facts)) (next_seen seen fact))
 
       pub seen_moved : (facts : List Fact) (seen : Seen) → moved_seen (seen_after seen facts) ≡ seen_after (moved_seen seen) (map moved_fact facts)

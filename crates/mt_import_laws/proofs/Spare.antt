@@ -1,6 +1,7 @@
 -- A line that matches nothing may be left out.
 use Rattle.std.proofs.Common.{◌≡◌, ◌≢◌, ◌∙◌, ◌+◌, ◌-◌, ◌≤◌, ◌<◌, nat_le, ℕ, Bool, true, false, List, [], ◌∷◌, ◌++◌, length, map, Option, Some, None, refl, sym, ap, subst, arith, length-append}
 use Rattle.std.specs.Prelude.{if◌then◌else◌}
+use Rattle.std.specs.Option.{option_or}
 use Rattle.std.proofs.lemmas.Bool.Decides.{nat_tests}
 use Rattle.std.proofs.lemmas.List.{map-append}
 use Rattle.mt_text.specs.Text.{lines_of}
@@ -15,7 +16,7 @@ use Rattle.mt_import.specs.declared.shape.Announced.{Announced}
 use Rattle.mt_import.specs.declared.shape.Shown.{Shown}
 use Rattle.mt_import.specs.declared.shape.Tally.{Tally}
 use Rattle.mt_import.specs.Import.{log_outcome}
-use Rattle.mt_import.specs.Outcome.{Findings, Outcome, Seen, Slots, Summary, dump_outcome, ended, ended_by, facts_fault, findings_of, firm_of, hint_of, is_empty, missing_of, notes_of, nothing_seen, or_fault, processors, refusal, remarks, seen_after, seen_with, slot_shown, summary_of, unless, values_of, warning_text}
+use Rattle.mt_import.specs.Outcome.{Findings, Outcome, Seen, Slots, Summary, dump_outcome, ended, ended_by, facts_fault, findings_of, firm_of, hint_of, is_empty, missing_of, notes_of, nothing_seen, processors, refusal, remarks, seen_after, seen_with, slot_shown, summary_of, unless, values_of, warning_text}
 use Rattle.mt_import.specs.Pieces.{shown_as}
 use Rattle.mt_import.specs.Readings.{Fact, context_after, fixed_clash, fixed_facts, fixed_shows, is_line, is_match, is_register, is_register_value, line_facts, reading_facts, said_facts, shown_facts, shows_facts, starts, unless_clash, value_facts, variable_shows}
 use Rattle.mt_ports.specs.declared.status.Status.TheVariants.{Done}
@@ -311,7 +312,7 @@ module _ (choice : Choice) (supplied : Supplied) (longer shorter : List ℕ) (ha
       ∙ ap (λ (s : Seen). facts_fault supplied s (map (moved_fact (number_without at)) (shown (format_of choice) longer))) start_stays
       ∙ ap (facts_fault supplied start) moved_facts
       ∙ fault_append supplied start first (moved_blank ∷ later at)
-      ∙ ap (λ (s : Seen). or_fault (facts_fault supplied start first) (facts_fault supplied s (later at))) same_behind
+      ∙ ap (λ (s : Seen). option_or (facts_fault supplied start first) (facts_fault supplied s (later at))) same_behind
       ∙ sym (fault_append supplied start first (later at))
       ∙ ap (facts_fault supplied start) (sym shorter_facts)
 

@@ -1,7 +1,16 @@
-use Rattle.mt_dump.proofs.Counted.{nothing_left}
+use Rattle.std.proofs.Common.{◌∙◌, sym}
+use Rattle.mt_text.specs.Text.{end_of}
+use Rattle.mt_import.proofs.Fed.{begins, log_course, writes_fault, writes_outcome}
 use Rattle.mt_import.proofs.reader.read_log.Goals as goal
 
-pub returns-clause-end : goal.returns-clause-end
-returns-clause-end g c bytes is =
-    let consumed = c.read_lines.ensures.consumed in
-    nothing_left (g.S.Source.left c.args.source.now) (g.S.Source.left c.read_lines.new.source) bytes consumed.0 c.read_lines.result is consumed.1 c.read_lines.ensures.end
+pub returns-in-Ok-Ok-clause-answer : goal.returns-in-Ok-Ok-clause-answer
+returns-in-Ok-Ok-clause-answer g c = λ bytes is.
+    let led = begins c.args.choice c.args.supplied.now c.is_auto.result c.format.result c.new.result c.is_auto.ensures c.format.ensures c.new.ensures.taken c.new.ensures.context in
+    writes_outcome c.args.choice c.args.supplied.now bytes (end_of bytes) c.in-Ok-Ok.outcome
+    (sym c.in-Ok-Ok.field-0-is ∙ c.in-Ok-Ok.ensures.answer (log_course c.args.choice c.args.supplied.now) bytes led is)
+
+pub returns-in-Ok-Err-clause-answer : goal.returns-in-Ok-Err-clause-answer
+returns-in-Ok-Err-clause-answer g c = λ bytes is.
+    let led = begins c.args.choice c.args.supplied.now c.is_auto.result c.format.result c.new.result c.is_auto.ensures c.format.ensures c.new.ensures.taken c.new.ensures.context in
+    writes_fault c.args.choice c.args.supplied.now bytes (end_of bytes) c.in-Ok-Err.fault c.faulted.result
+    (sym c.in-Ok-Err.field-0-is ∙ c.in-Ok-Err.ensures.answer (log_course c.args.choice c.args.supplied.now) bytes led is) c.faulted.ensures.told

@@ -1,48 +1,42 @@
 -- A loop over the lines of a feed that had taken nothing, whatever the lines say: what it has consumed and counted, and what faults say of the source.
-use Rattle.std.proofs.Common.{◌≡◌, ◌+◌, ◌-◌, ◌≤◌, ◌<◌, ℕ, List, [], ◌++◌, length, take, Option, Some, None, refl, sym, ◌∙◌, ap, arith, inl, inr, length-append}
+use Rattle.std.proofs.Common.{◌≡◌, ◌+◌, ◌-◌, ◌<◌, ℕ, List, [], ◌++◌, length, Option, Some, None, refl, sym, ◌∙◌, ap, arith, length-append}
 use Rattle.std.specs.Prelude.{IfOk, IsErrOf, Result, Ok, Err}
 use Rattle.std.specs.Io.KnownBytes.{Consumes, IsAtEnd}
 use Rattle.std.proofs.KnownBytes.{Consumes-nil, Consumes-trans}
-use Rattle.std.proofs.lemmas.Bool.{cases_lt}
-use Rattle.std.proofs.lemmas.List.{length-take-le}
 use Rattle.mt_ports.specs.Causes.{Rose}
-use Rattle.mt_text.specs.Feed.{Feeding, IsLong, Lines, at_start, draw, taken}
+use Rattle.mt_text.specs.Feed.{Draw, Feeding, IsLong, Lines, TakesMore, at_start, draw, taken}
 use Rattle.mt_text.specs.declared.line.Line.{Line}
 use Rattle.mt_text.specs.declared.fault.FeedFault.{FeedFault}
 use Rattle.mt_text.proofs.Lent.{counted, moves_on, within_limit}
 
--- What was consumed since the start, and that as much was counted.
-pub record Counts (left_first left : Option (List ℕ)) (given_first given count : ℕ) : Type 0 where
-  pub consumed : (gone : List ℕ) × Consumes left_first left gone × (count ≡ length gone)
-  pub counted : given ≡ given_first + count
+-- What was consumed since the start was counted.
+abbrev pub Counts : Draw → ℕ → Type 0
+Counts d count = TakesMore d (λ more. count ≡ length more)
 
 -- between two lines
 pub record IsFed (left_first left : Option (List ℕ)) (given_first given : ℕ) (feed : Feeding) : Type 0 where
   pub still : feed.fault ≡ None
   pub long : IsLong feed
-  pub counts : Counts left_first left given_first given (taken feed)
+  pub counts : Counts (draw left_first left given_first given) (taken feed)
 
 pub fed_at_first : (left : Option (List ℕ)) (given : ℕ) (feed : Feeding) → feed ≡ at_start → IsFed left left given given feed
 fed_at_first left given feed start = rw start (record {
   still = refl;
   long = (λ is. cc is, λ more. absurd (omega (arith, more)));
-  counts = record { consumed = ([], Consumes-nil left, refl); counted = omega arith };
+  counts = ([], Consumes-nil left, omega arith, refl);
 })
 
--- a call has taken more
-pub counts_more : {left_first left after : Option (List ℕ)} {given_first given given_after count total : ℕ} → Counts left_first left given_first given count
-    → (more : List ℕ) × Consumes left after more × (given_after ≡ given + length more) × (total ≡ count + length more) → Counts left_first after given_first given_after total
-counts_more {left_first} {left} {after} counts (more, consumes, gives, sum) =
-    let (gone, before, is) = counts.consumed in
-    record {
-      consumed = (gone ++ more, Consumes-trans left_first left after gone more before consumes, omega (arith, sum, is, length-append gone more));
-      counted = omega (arith, gives, sum, counts.counted);
-    }
+module _ {left_first left : Option (List ℕ)} {given_first given : ℕ} {feed : Feeding} (fed : IsFed left_first left given_first given feed) where
+  -- calls that have taken more
+  counts_more : (after : Option (List ℕ)) (given_after total : ℕ) → TakesMore (draw left after given given_after) (λ more. total ≡ taken feed + length more) → Counts (draw left_first after given_first given_after) total
+  counts_more after given_after total (more, consumes, gives, sum) =
+      let (gone, before, gave, is) = fed.counts in
+      (gone ++ more, Consumes-trans left_first left after gone more before consumes, omega (arith, gave, gives, length-append gone more), omega (arith, sum, is, length-append gone more))
 
 module _ {left_first left : Option (List ℕ)} {given_first given : ℕ} {feed : Feeding} (fed : IsFed left_first left given_first given feed) (new : Feeding) (after : Option (List ℕ)) (given_after : ℕ) where
   -- a call that asks for a line
-  pub counts_line : (result : Result (Option Line) FeedFault) → Lines feed new (draw left after given given_after) result → Counts left_first after given_first given_after (taken new)
-  counts_line result lines = counts_more fed.counts (lines.0, lines.1, lines.2, omega (arith, lines.2, counted feed new left after given given_after result lines))
+  pub counts_line : (result : Result (Option Line) FeedFault) → Lines feed new (draw left after given given_after) result → Counts (draw left_first after given_first given_after) (taken new)
+  counts_line result lines = counts_more fed after given_after (taken new) (lines.0, lines.1, lines.2, omega (arith, lines.2, counted feed new left after given given_after result lines))
 
   -- a line that is lent
   module _ (line : Line) (lines : Lines feed new (draw left after given given_after) (Ok (Some line))) where
@@ -51,6 +45,10 @@ module _ {left_first left : Option (List ℕ)} {given_first given : ℕ} {feed :
 
     pub fed_on : IsFed left_first after given_first given_after new
     fed_on = record { still = still_on; long = lines.3.1; counts = counts_line (Ok (Some line)) lines }
+
+    -- a call that drops the rest behind it
+    pub counts_rest : (last : Option (List ℕ)) (given_last total : ℕ) → TakesMore (draw after last given_after given_last) (λ more. total ≡ taken new + length more) → Counts (draw left_first last given_first given_last) total
+    counts_rest last given_last total more = counts_more fed_on last given_last total more
 
     pub comes_nearer : 16777217 - new.offset < 16777217 - feed.offset
     comes_nearer = omega (arith, moves_on feed new left after given given_after line lines, within_limit feed fed.long fed.still)
@@ -61,13 +59,6 @@ nothing_left None left bytes gone result is consumes end = cc is
 nothing_left (Some xs) None bytes gone result is consumes end = absurd consumes
 nothing_left (Some xs) (Some ys) bytes gone (Ok value) is consumes end = ap Some end
 nothing_left (Some xs) (Some ys) bytes gone (Err fault) is consumes end = tt
-
--- a line that is lent in few bytes is short
-pub few_first : (first : List ℕ) → length (take 4097 first) ≤ 4096 → length first ≤ 4096
-few_first first few = elim (cases_lt 4096 (length first)) [
-  | inl many ↦ absurd (omega (arith, few, length-take-le 4097 first (omega (arith, many))))
-  | inr few ↦ few
-]
 
 -- `?` hands a call's fault on, and no fault came before
 module _ {T U : Type 0} {first before after : ℕ} {call : Result T FeedFault} {result : Result U FeedFault} {given fault : FeedFault} (was : call ≡ Err given) (handed : result ≡ Err fault) (same : fault ≡ given) (stood : before ≡ first) where
