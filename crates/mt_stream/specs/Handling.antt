@@ -15,7 +15,7 @@ use Rattle.mt_ports.specs.declared.status.Status.{Status}
 use Rattle.mt_ports.specs.declared.status.Status.TheVariants.{Disabled, NoMemory, ReadFault, TooFew, TooLong, Usage, WriteFault}
 use Rattle.mt_stream.specs.Lines.{IfGoesOn, Path, Running, Takes, at_line, early_of, tells_of}
 use Rattle.mt_output.specs.Ports.{Change, Held, Port, SinkRun, SourceRun, Waiting, change, held, port}
-use Rattle.mt_stream.specs.Results.{EndsAs, RefusedAtLine, RefusesMemory, ResultsIn}
+use Rattle.mt_stream.specs.Results.{EndsAs, RefusedAtLine, ResultsIn}
 use Rattle.mt_stream.specs.Transcript.{Telling, transcript}
 use Rattle.mt_stream.specs.declared.ending.Stop.{Stop}
 use Rattle.mt_stream.specs.declared.ending.Stop.TheVariants as stopped

@@ -1,5 +1,5 @@
 -- Each step of a station is one event of its machine, or none.
-use Rattle.std.proofs.Common.{◌≡◌, ◌≢◌, ◌≤◌, ℕ, ◌+◌, ◌<◌, true, false, [], length, set, sym, refl, ◌∙◌, subst, inl, inr, arith}
+use Rattle.std.proofs.Common.{◌≡◌, ◌≢◌, ◌≤◌, ℕ, ◌+◌, ◌<◌, [], length, set, sym, refl, ◌∙◌, subst, inl, inr, arith}
 use mathlib.Core.Option.{none}
 use Rattle.std.specs.Prelude.{Option, Some, None, slice_index}
 use Rattle.atomic_table.specs.Table.{keeps, stepped, step}

@@ -24,7 +24,7 @@ use Rattle.mt_private.specs.Own.{own_memory}
 use Rattle.mt_private.specs.Pages.{IsPrivate, names, naming}
 use Rattle.mt_private.specs.Residents.{Opens, Yard, held_of, pages_at, system_of, scene}
 use Rattle.mt_thread_laws.specs.WorkedYard.{at_start, both_lodged, first_lodged, lodged, lodger, lodging}
-use Rattle.mt_private.specs.YardLaws.{Has, IsOneEvent, YardState}
+use Rattle.mt_private.specs.YardLaws.{IsOneEvent, YardState}
 use Rattle.mt_private.specs.YardRule.{AreAt, MeetsYard, as_view, first_yard_view, its_machine, residents, rest_of, with_decision, yard_left}
 use Rattle.mt_thread_laws.proofs.JobOnWorked.{is_memory}
 use Rattle.mt_private.proofs.Residents.Opened.{opened, resides}

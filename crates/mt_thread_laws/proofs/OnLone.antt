@@ -1,5 +1,5 @@
 -- The stations of the worked processor that stands alone meet the rule.
-use Rattle.std.proofs.Common.{◌≡◌, ◌<◌, ◌+◌, ℕ, zero, suc, true, false, List, [], ◌∷◌, ap, sym, refl, subst, inl, inr, arith, rules, length, Option, None, Some}
+use Rattle.std.proofs.Common.{◌≡◌, ◌<◌, ◌+◌, ℕ, zero, suc, true, List, [], ◌∷◌, ap, sym, refl, subst, inl, inr, arith, rules, length, Option, None, Some}
 use Rattle.std.specs.Prelude.{slice_index, take}
 use Rattle.std.specs.List.{list_all}
 use mathlib.Core.Option.{some, some-injective, some-ne-none}

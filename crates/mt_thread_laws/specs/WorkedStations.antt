@@ -1,6 +1,6 @@
 -- A worked station: two processors without pairs that have taken, the first with a dirty word, over a memory of one line.
 use Rattle.atomic_table.specs.Table.{State, opening}
-use Rattle.std.specs.Prelude.{ℕ, Bool, false, List, [], ◌∷◌, slice_set}
+use Rattle.std.specs.Prelude.{ℕ, List, [], ◌∷◌, slice_set}
 use Rattle.mt_machine.specs.declared.phase.Phase.{Phase}
 use Rattle.mt_machine.specs.declared.phase.Phase.TheVariants.{Taken}
 use Rattle.mt_machine.specs.System.{Processor, start_processor}

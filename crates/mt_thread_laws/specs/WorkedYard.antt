@@ -1,5 +1,5 @@
 -- A worked yard: two processors without pairs, with a page each, of which the first word is marked.
-use Rattle.std.specs.Prelude.{ℕ, false, List, [], ◌∷◌}
+use Rattle.std.specs.Prelude.{ℕ, List, [], ◌∷◌}
 use Rattle.atomic_table.specs.Table.{opening}
 use Rattle.mt_machine.specs.declared.event.Event.TheVariants.{Take}
 use Rattle.mt_machine.specs.System.{Processor, System, start_processor}

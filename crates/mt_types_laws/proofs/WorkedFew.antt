@@ -3,7 +3,7 @@ use Rattle.std.proofs.Common.{rules, ◌≡◌, ℕ, ◌<◌, ◌≤◌, true, L
 use Rattle.std.specs.Prelude.{nat_le, nat_lt}
 use Rattle.std.specs.List.{All}
 use Rattle.std.proofs.lemmas.Bool.Decides.{nat_tests}
-use Rattle.mt_kinds.specs.declared.mem_type.MemType.TheVariants.{UC, WB}
+use Rattle.mt_kinds.specs.declared.mem_type.MemType.TheVariants.{WB}
 use Rattle.mt_regs.specs.declared.page_type.PageType.TheVariants.{Kind}
 use Rattle.mt_regs.specs.PageTypes.{page_type, page_type_among}
 use Rattle.mt_regs.specs.Faults.{IsAccepted}

@@ -1,5 +1,5 @@
 -- The dump of a text for measurements: the file that it shows is accepted.
-use Rattle.std.proofs.Common.{◌≢◌, refl, inl, inr, ℕ, false, List, [], ◌∷◌, ◌++◌, codes, Some}
+use Rattle.std.proofs.Common.{◌≢◌, refl, inl, inr, ℕ, false, List, [], ◌∷◌, ◌++◌, Some}
 use Rattle.std.specs.Prelude.{replicate}
 use Rattle.std.specs.List.{All}
 use Rattle.std.proofs.lemmas.Bool.{cases_Bool}

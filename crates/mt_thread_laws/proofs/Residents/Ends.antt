@@ -1,5 +1,5 @@
 -- What a seat whose resident runs again tells of its yard, and what steps show a seat.
-use Rattle.std.proofs.Common.{◌≡◌, ◌≢◌, ◌⊎◌, ◌∙◌, ap, sym, refl, subst, arith, ℕ, zero, suc, ◌+◌, ◌-◌, ◌<◌, ◌≤◌, ◌==◌, Bool, true, false, not, ◌&&◌, ◌||◌, List, [], ◌∷◌, length, map, Option, None, Some, inl, inr, ⊎_elim}
+use Rattle.std.proofs.Common.{◌≡◌, ◌≢◌, ◌⊎◌, ◌∙◌, ap, sym, refl, subst, arith, ℕ, zero, suc, ◌+◌, ◌-◌, ◌<◌, ◌≤◌, ◌==◌, Bool, true, false, not, ◌&&◌, ◌||◌, [], ◌∷◌, length, map, None, Some, inl, inr, ⊎_elim}
 use Rattle.std.specs.Prelude.{if◌then◌else◌, slice_index}
 use Rattle.std.specs.List.{list_all, list_any}
 use Rattle.std.proofs.lemmas.Bool.{eqb-false, eqb-true, lt-ltb}
@@ -13,12 +13,12 @@ use Rattle.mt_machine.specs.declared.go.Go.{Go}
 use Rattle.mt_machine.specs.declared.go.Go.TheVariants.{Cancelled, Given}
 use Rattle.mt_machine.specs.declared.op.Op.{Op}
 use Rattle.mt_machine.specs.System.{Processor}
-use Rattle.mt_machine.specs.Machine.{Calls, Machine, Order, Reached, after, at_start, common_era, has_released, is_arrived_again, is_cancelled, is_over, is_waiting_to_pass}
+use Rattle.mt_machine.specs.Machine.{Calls, Machine, Reached, after, at_start, common_era, has_released, is_arrived_again, is_cancelled, is_over, is_waiting_to_pass}
 use Rattle.mt_laws.proofs.Barrier.Claims.{barriers_hold_of}
 use Rattle.mt_rendezvous.specs.declared.view.Held.{Held}
 use Rattle.mt_rendezvous.specs.declared.view.Key.{Key}
 use Rattle.mt_rendezvous.specs.declared.view.Start.{Start}
-use Rattle.mt_rendezvous.specs.Station.{added_of, again_of, go_weight, order_of, rise, start_of, total, in_second}
+use Rattle.mt_rendezvous.specs.Station.{added_of, go_weight, order_of, rise, start_of, total, in_second}
 use Rattle.mt_rendezvous.proofs.Keeps.{all_false}
 use Rattle.mt_private.specs.declared.view.Resident.{Resident}
 use Rattle.mt_private.specs.declared.view.YardView.{YardView}

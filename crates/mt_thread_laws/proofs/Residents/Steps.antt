@@ -1,5 +1,5 @@
 -- Each step that the play lets a seat make is one event, or none.
-use Rattle.std.proofs.Common.{◌≡◌, ◌≢◌, ◌⊎◌, ◌∙◌, ap, sym, refl, subst, arith, ℕ, zero, suc, ◌+◌, ◌%◌, ◌^◌, ◌<◌, ◌≤◌, ◌==◌, Bool, true, false, List, [], ◌∷◌, length, Option, None, Some, inl, inr, ⊎_elim}
+use Rattle.std.proofs.Common.{◌≡◌, ◌≢◌, ◌⊎◌, ◌∙◌, ap, sym, refl, subst, arith, ℕ, zero, suc, ◌+◌, ◌%◌, ◌^◌, ◌<◌, ◌≤◌, ◌==◌, Bool, true, false, [], ◌∷◌, length, Option, None, Some, ⊎_elim}
 use Rattle.std.specs.Prelude.{if◌then◌else◌, slice_index, slice_set}
 use Rattle.std.proofs.lemmas.Bool.{eqb-false, eqb-true}
 use mathlib.Core.Option.{Option as Spoken, none, some}
@@ -10,23 +10,23 @@ use Rattle.mt_machine.specs.declared.event.Event.TheVariants.{Take, Arrive, Leav
 use Rattle.mt_machine.specs.declared.phase.Phase.{Phase}
 use Rattle.mt_machine.specs.declared.phase.Phase.TheVariants.{Running, Taken, Arrived, Restored, Arrived2}
 use Rattle.mt_machine.specs.declared.go.Go.{Go}
-use Rattle.mt_machine.specs.declared.go.Go.TheVariants.{Cancelled, Given, Pending}
+use Rattle.mt_machine.specs.declared.go.Go.TheVariants.{Cancelled, Given}
 use Rattle.mt_machine.specs.declared.op.Op.{Op}
 use Rattle.mt_machine.specs.System.{Processor}
-use Rattle.mt_machine.specs.Machine.{Accesses, Cancels, Goes, MachineEvent, Order, Steps, due}
+use Rattle.mt_machine.specs.Machine.{Accesses, Cancels, Goes, MachineEvent, Steps}
 use Rattle.mt_machine.proofs.Rows.{due_row, is_row}
 use Rattle.mt_cpu.specs.Steps.{is_local}
 use Rattle.mt_rendezvous.specs.declared.view.Key.{Key}
 use Rattle.mt_rendezvous.specs.declared.view.Start.{Start}
-use Rattle.mt_rendezvous.specs.Station.{FitsPhase, order_of, start_of, in_first}
+use Rattle.mt_rendezvous.specs.Station.{order_of, start_of, in_first}
 use Rattle.mt_rendezvous.specs.Plays.{own_event}
 use Rattle.mt_rendezvous.proofs.Local.{changing_fits, due_alone, local_changing}
 use Rattle.mt_private.specs.declared.view.Resident.{Resident}
 use Rattle.mt_private.specs.declared.view.YardView.{YardView}
-use Rattle.mt_private.specs.Residents.{FitsResident, FitsYard}
+use Rattle.mt_private.specs.Residents.{FitsYard}
 use Rattle.mt_private.specs.YardRule.{MeetsYard}
 use Rattle.mt_private.specs.YardLaws.{ComesOf, EachStepFollows, IsOneEvent, OfStep, YardState}
-use Rattle.mt_private.specs.YardPlays.{AccessesYard, ArrivesAgainYard, ArrivesYard, CancelsYard, GivesYard, OfSeat, PassesYard, ReleasesYard, TakesYard, TellsYardStep, WorksYard, YardSat, has_added, word_after}
+use Rattle.mt_private.specs.YardPlays.{AccessesYard, ArrivesAgainYard, ArrivesYard, CancelsYard, GivesYard, OfSeat, PassesYard, ReleasesYard, TakesYard, WorksYard, YardSat, has_added, word_after}
 use Rattle.mt_private.proofs.Residents.Barriers.{own_fits}
 use Rattle.mt_private.proofs.Residents.Plays.{add, add_again, add_late, first_low, go_out, miss, no_take, pass, release, second_low, sees, take, use_memory, wait, wait_again, work}
 use Rattle.mt_private.proofs.Residents.Roots.{cancelling, giving, said}

@@ -1,4 +1,4 @@
-use Rattle.std.proofs.Common.{◌∷◌, [], arith, false, refl, true}
+use Rattle.std.proofs.Common.{◌∷◌, [], arith, refl}
 use Rattle.mt_machine.specs.declared.go.Go.TheVariants.{Given, Pending}
 use Rattle.mt_machine.specs.declared.phase.Phase.TheVariants.{Arrived, Restored, Taken}
 use Rattle.mt_thread_laws.specs.WorkedWay.{changed, guest}

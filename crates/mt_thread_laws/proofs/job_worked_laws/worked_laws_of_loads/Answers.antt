@@ -1,4 +1,4 @@
-use Rattle.std.proofs.Common.{◌∷◌, [], arith, false, inl, refl, true}
+use Rattle.std.proofs.Common.{◌∷◌, [], arith, inl, refl}
 use Rattle.mt_machine.specs.declared.go.Go.TheVariants.{Cancelled, Given, Pending}
 use Rattle.mt_machine.specs.declared.phase.Phase.TheVariants.{Arrived, Arrived2, Running, Taken}
 use Rattle.mt_thread_laws.specs.WorkedWay.{changed, guest}

@@ -1,4 +1,4 @@
-use Rattle.std.proofs.Common.{◌∷◌, [], false, lit<, refl, true}
+use Rattle.std.proofs.Common.{◌∷◌, [], lit<, refl}
 use Rattle.mt_machine.specs.declared.event.Event.TheVariants.{SetNoFill}
 use Rattle.mt_machine.specs.declared.go.Go.TheVariants.{Given, Pending}
 use Rattle.mt_machine.specs.declared.op.Op.TheVariants.{Store}

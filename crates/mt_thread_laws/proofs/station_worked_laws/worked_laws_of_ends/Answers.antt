@@ -1,4 +1,4 @@
-use Rattle.std.proofs.Common.{refl, true, false, None, Some}
+use Rattle.std.proofs.Common.{refl, None, Some}
 use Rattle.mt_machine.specs.declared.go.Go.TheVariants.{Pending}
 use Rattle.mt_machine.specs.declared.phase.Phase.TheVariants.{Running}
 use Rattle.mt_rendezvous.specs.Station.{broadcast, held, order_of, start_of}

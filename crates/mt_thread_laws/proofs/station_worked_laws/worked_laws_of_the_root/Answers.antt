@@ -1,4 +1,4 @@
-use Rattle.std.proofs.Common.{◌∷◌, [], None, ap, arith, false, refl, subst, sym, true}
+use Rattle.std.proofs.Common.{◌∷◌, [], None, ap, arith, refl, subst, sym}
 use Rattle.mt_machine.specs.declared.go.Go.TheVariants.{Cancelled, Given}
 use Rattle.mt_machine.specs.declared.phase.Phase.TheVariants.{Running, Taken}
 use Rattle.mt_machine.specs.Machine.{Cancels as CancelsUpdate, Goes}
