@@ -9,7 +9,7 @@ ghost use Rattle.mt_script.specs.Head.{TakesLine, dump_step, end_step, head_step
 use crate::first_place::first_place;
 use crate::number::fault;
 use crate::read::ends_dump;
-use crate::table::is_in_dump;
+use crate::row_table::is_in_dump;
 use crate::{Offence, ScriptReason, Setup, read_command};
 use mt_dump::{Dump, DumpReader};
 use mt_text::{Line, Place};

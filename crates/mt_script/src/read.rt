@@ -15,8 +15,8 @@ use crate::number::{
 };
 use crate::room::has_room;
 use crate::row::{AskVerb, Verb};
+use crate::row_table::{is_word, row_of, stands, takes_commands};
 use crate::shape::shape_fault;
-use crate::table::{is_word, row_of, stands, takes_commands};
 use crate::{Ask, Command, Mapped, ScriptFault, ScriptReason, Section, Setup, Stage};
 use mt_kinds::{MOST_LINES, PAGE_BYTES, WORD_BYTES};
 use mt_text::{Line, Place, Words, hex64, without_ending};
