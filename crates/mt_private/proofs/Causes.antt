@@ -1,46 +1,87 @@
--- Why jobs aren't run: each cause with what it comes of.
-use Rattle.std.proofs.Common.{◌≡◌, ◌∙◌, ap, refl, sym, subst, ℕ, ◌<◌, Err, length, Option, None, Some}
-use Rattle.std.specs.Prelude.{Result, ◌↔◌}
-use Rattle.std.specs.List.{All}
+-- Why jobs aren't run: each cause with what it comes to.
+use Rattle.std.proofs.Common.{◌≡◌, ◌∙◌, ap, arith, refl, sym, subst, ℕ, Err, Ok, List, Option, None, Some, Vec}
+use Rattle.std.specs.Prelude.{IsSome, ◌↔◌}
+use Rattle.std.specs.declared.alloc.Global.{Global}
 use Rattle.mt_regs.specs.RegisterFile.{IsRegisterFile, RegisterFile}
 use Rattle.mt_regs.specs.declared.fault.Fault.{Fault}
 use Rattle.mt_regs.specs.Faults.{IsAccepted, IsFirstFault}
 use Rattle.mt_regs.proofs.First.{one_first_fault_lem}
 use Rattle.mt_machine.specs.System.{System}
-use Rattle.mt_machine.specs.Machine.{FitsGoal, Machine, Order}
-use Rattle.mt_machine.specs.Start.{HasEraRoom, IsQuiet}
+use Rattle.mt_machine.specs.Machine.{Machine, Order}
+use Rattle.mt_machine.specs.Start.{IsQuiet}
 use Rattle.mt_core.specs.Arises.{IsCore}
 use Rattle.mt_core.proofs.Arising.{era_room}
 use Rattle.mt_core.proofs.Settling.{is_quiet_without_order}
 use Rattle.mt_rendezvous.specs.Calls.{gathered}
-use Rattle.mt_private.specs.declared.fault.PrivateFault.{PrivateFault}
-use Rattle.mt_private.specs.declared.fault.PrivateFault.TheVariants.{Refused, Shared}
+use Rattle.mt_rendezvous.specs.Update.{FitsUpdate}
+use Rattle.mt_private.specs.declared.fault.PrivateFault.TheVariants.{NoMemory, Refused, Shared}
+use Rattle.mt_private.specs.declared.job.Job.{Job}
+use Rattle.mt_private.specs.declared.job.JobAnswers.{JobAnswers}
+use Rattle.mt_private.specs.OneByOne.{AreOneByOne, jobs_one_by_one}
 use Rattle.mt_private.specs.Pages.{IsLeastShared, IsPrivate}
 use Rattle.mt_private.specs.Residents.{Opens}
+use Rattle.mt_private.specs.Runs.{IsPrivateRun}
 
-module _ {T : Type 0} (order : Option Order) (goal : RegisterFile) where
-  pub refused : (a : Fault) → order ≡ None → IsFirstFault goal (Some a) → (fault : Fault) → (◌≡◌ {A = Result T PrivateFault} (Err (Refused a)) (Err (Refused fault))) ↔ ((order ≡ None) × IsFirstFault goal (Some fault))
-  refused a none first fault = (
-    λ is. let e : a ≡ fault = cc in (none, subst (λ (f : Fault). IsFirstFault goal (Some f)) e first),
-    λ h. let e : Some a ≡ Some fault = one_first_fault_lem goal (Some a) (Some fault) first h.1 in cc,
-  )
+nor : {X Y : Type 0} → (X → ⊥) → (Y → ⊥) → X ↔ Y
+nor a b = (λ x. absurd (a x), λ y. absurd (b y))
 
-  pub accepted : (r : Result T PrivateFault) → ((fault : Fault) → r ≡ Err (Refused fault) → ⊥) → IsAccepted goal → (fault : Fault) → (r ≡ Err (Refused fault)) ↔ ((order ≡ None) × IsFirstFault goal (Some fault))
-  accepted r other good fault = (
-    λ is. absurd (other fault is),
-    λ h. absurd (let e : Some fault ≡ None = one_first_fault_lem goal (Some fault) None h.1 good in cc),
-  )
+module _ (m : Machine) (goal : RegisterFile) (jobs : List Job) (idle : m.order ≡ None) where
+  busy : IsSome m.order → ⊥
+  busy is = let some = subst (λ (o : Option Order). IsSome o) idle is in cc some
 
-  pub shared : (s : System) (found : Option ℕ) (page : ℕ) → order ≡ None → IsAccepted goal → found ≡ Some page → ((n : ℕ) → (found ≡ Some n) ↔ IsLeastShared s n)
-      → (n : ℕ) → (◌≡◌ {A = Result T PrivateFault} (Err (Shared page)) (Err (Shared n))) ↔ ((order ≡ None) × IsAccepted goal × IsLeastShared s n)
-  shared s found page none good is least n = (
-    λ same. let e : page ≡ n = cc in (none, good, (least n).0 (is ∙ ap Some e)),
-    λ h. let e : Some page ≡ Some n = sym is ∙ (least n).1 h.2 in cc,
-  )
+  pub refused : (a : Fault) → IsFirstFault goal (Some a) → IsPrivateRun m goal jobs (Err (Refused a)) m
+  refused a first = record {
+    under_way = nor (λ is. cc) busy;
+    refused = λ fault. (
+      λ is. let e : a ≡ fault = cc in (idle, subst (λ (f : Fault). IsFirstFault goal (Some f)) e first),
+      λ h. let e : Some a ≡ Some fault = one_first_fault_lem goal (Some a) (Some fault) first h.1 in cc,
+    );
+    shared = λ page. nor (λ is. cc) (λ h. let e : Some a ≡ None = one_first_fault_lem goal (Some a) None first h.1 in cc);
+    no_memory = λ is. absurd (cc);
+    done = tt;
+    kept = refl;
+  }
 
-  pub unshared : (r : Result T PrivateFault) (s : System) (found : Option ℕ) → ((n : ℕ) → r ≡ Err (Shared n) → ⊥) → ((n : ℕ) → found ≡ Some n → ⊥) → ((n : ℕ) → (found ≡ Some n) ↔ IsLeastShared s n)
-      → (n : ℕ) → (r ≡ Err (Shared n)) ↔ ((order ≡ None) × IsAccepted goal × IsLeastShared s n)
-  unshared r s found other not least n = (λ is. absurd (other n is), λ h. absurd (not n ((least n).1 h.2)))
+  module _ (good : IsAccepted goal) where
+    no_fault : (fault : Fault) → IsFirstFault goal (Some fault) → ⊥
+    no_fault fault first = let e : Some fault ≡ None = one_first_fault_lem goal (Some fault) None first good in cc
+
+    pub shared : (found : Option ℕ) (page : ℕ) → found ≡ Some page → ((n : ℕ) → (found ≡ Some n) ↔ IsLeastShared m.system n) → IsPrivateRun m goal jobs (Err (Shared page)) m
+    shared found page is least = record {
+      under_way = nor (λ same. cc) busy;
+      refused = λ fault. nor (λ same. cc) (λ h. no_fault fault h.1);
+      shared = λ n. (
+        λ same. let e : page ≡ n = cc in (idle, good, (least n).0 (is ∙ ap Some e)),
+        λ h. let e : Some page ≡ Some n = sym is ∙ (least n).1 h.2 in cc,
+      );
+      no_memory = λ same. absurd (cc);
+      done = tt;
+      kept = refl;
+    }
+
+    module _ (own : IsPrivate m.system) where
+      unshared : (page : ℕ) → IsLeastShared m.system page → ⊥
+      unshared page least = let two = least.shared in let few = own page in omega (arith, two, few)
+
+      pub no_memory : (new : Machine) → new ≡ m → IsPrivateRun m goal jobs (Err NoMemory) new
+      no_memory new same = record {
+        under_way = nor (λ is. cc) busy;
+        refused = λ fault. nor (λ is. cc) (λ h. no_fault fault h.1);
+        shared = λ page. nor (λ is. cc) (λ h. unshared page h.2);
+        no_memory = λ is. (idle, good, own);
+        done = tt;
+        kept = same;
+      }
+
+      pub done : (told : Vec JobAnswers Global) (new : Machine) → AreOneByOne (jobs_one_by_one m.system goal jobs) new told.items → IsPrivateRun m goal jobs (Ok told) new
+      done told new all = record {
+        under_way = nor (λ is. cc) busy;
+        refused = λ fault. nor (λ is. cc) (λ h. no_fault fault h.1);
+        shared = λ page. nor (λ is. cc) (λ h. unshared page h.2);
+        no_memory = λ is. absurd (cc);
+        done = all;
+        kept = tt;
+      }
 
 pub private_where_none : (s : System) (found : Option ℕ) → ((n : ℕ) → found ≡ Some n → ⊥) → ((found ≡ None) ↔ IsPrivate s) → IsPrivate s
 private_where_none s None not none = none.0 (λ i. None)
@@ -52,13 +93,13 @@ abbrev with_order : System → Option Order → Machine
 with_order s o = record { system = s; order = o }
 
 -- a core that rests may be gathered, for a goal that it may be called with
-pub opens_of : (m : Machine) (goal : RegisterFile) → IsCore m → m.order ≡ None → IsRegisterFile goal → IsAccepted goal → IsPrivate m.system → 0 < length m.system.processors → All (FitsGoal goal) m.system.processors → HasEraRoom m
+pub opens_of : (m : Machine) (goal : RegisterFile) → IsCore m → m.order ≡ None → IsRegisterFile goal → IsAccepted goal → IsPrivate m.system → FitsUpdate m goal
     → Opens (gathered m.system.processors m.system.memory goal)
-opens_of m goal core none file good own some fits room = record {
+opens_of m goal core none file good own fits = record {
   quiet = subst IsQuiet (ap (with_order m.system) none) (is_quiet_without_order m core.arises none);
-  enabled = (refl, file, good, fits);
+  enabled = (refl, file, good, fits.fits);
   unshared = own;
-  some = some;
+  some = fits.some;
   few = core.few;
-  room = era_room m.system.processors room;
+  room = era_room m.system.processors fits.room;
 }

@@ -2,7 +2,7 @@
 use Rattle.std.proofs.Common.{◌≡◌, ◌≢◌, ◌∙◌, ap, sym, refl, subst, arith, ℕ, zero, suc, ◌/◌, ◌<◌, Bool, true, false, List, [], ◌∷◌, get_or, length, replicate, ◌++◌, None, Some, length-append}
 use mathlib.Core.Option.{some}
 use lib.ListN.{get_elem?}
-use Rattle.std.specs.Prelude.{IsNone, IsSome, if◌then◌else◌, slice_get}
+use Rattle.std.specs.Prelude.{IsNone, IsSome, cond, if◌then◌else◌, slice_get}
 use Rattle.std.specs.List.{All, list_all}
 use Rattle.mt_cache.specs.declared.line.CacheLine.{CacheLine}
 use Rattle.mt_cache.specs.Lines.{find_line, is_dirty}
@@ -105,11 +105,9 @@ module _ (pages : ℕ → Bool) (m : Memory) (h : IsMemory m) (i : ℕ) (within 
   there : get_elem? (own_memory pages m).words i ≡ some (get_or (own_memory pages m).words i 0)
   there = let n = length_on pages (addresses m.windows) m.words (as_many m h) in elem_get (own_memory pages m).words i (omega arith)
 
-  pub word_named : pages (get_or (addresses m.windows) i 0 / 4096) ≡ true → get_elem? (own_memory pages m).words i ≡ some (get_or m.words i 0)
-  word_named is = let n = as_many m h in there ∙ ap some (words_get pages (addresses m.windows) m.words i (omega arith) is)
-
-  pub word_unnamed : pages (get_or (addresses m.windows) i 0 / 4096) ≡ false → get_elem? (own_memory pages m).words i ≡ some 0
-  word_unnamed is = there ∙ ap some (words_none pages (addresses m.windows) m.words i is)
+  pub word_there : (is : Bool) → pages (get_or (addresses m.windows) i 0 / 4096) ≡ is → get_elem? (own_memory pages m).words i ≡ some (cond is (get_or m.words i 0) 0)
+  word_there true named = let n = as_many m h in there ∙ ap some (words_get pages (addresses m.windows) m.words i (omega arith) named)
+  word_there false not_named = there ∙ ap some (words_none pages (addresses m.windows) m.words i not_named)
 
 -- ---- lists of which the last was taken
 

@@ -1,6 +1,7 @@
 pub mod Pages
 pub mod Jobs
 pub mod OneByOne
+pub mod Runs
 pub mod Own
 pub mod Residents
 pub mod YardRule

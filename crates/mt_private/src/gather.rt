@@ -1,8 +1,6 @@
 // A yard is gathered from a system.
-ghost use Rattle.std.specs.Prelude.{◌≡◌, ℕ, ◌+◌, ◌<◌, ◌≤◌, [], ◌∷◌, None, Some, IfErr, IfOk, IfSome, length, replicate, slice_get, vec_capacity};
+ghost use Rattle.std.specs.Prelude.{◌≡◌, ℕ, ◌+◌, ◌<◌, ◌≤◌, [], ◌∷◌, None, Some, cond, IfErr, IfOk, IfSome, length, replicate, slice_get, vec_capacity};
 ghost use Rattle.mt_machine.specs.declared.go.Go.TheVariants.{Pending};
-ghost use mathlib.Core.Option.{some};
-ghost use lib.ListN.{get_elem?};
 ghost use Rattle.mt_machine.specs.Memory.{IsMemory};
 ghost use Rattle.mt_machine.specs.System.{IsSound, Processor, System as MachineSystem};
 ghost use Rattle.mt_bus.specs.Tables.{AreTablesOf};
@@ -31,26 +29,46 @@ use mt_types::KindTable;
 use std::alloc::Global;
 use std::snapshot::Snapshot;
 
-// The word at a place where the processor names its page, and else 0.
-fn word_for(cpu: &Cpu, ram: &Ram, i: usize) -> u64
-    requires place { i < length ram.now.words }
-    requires memory { IsMemory ram.now }
-    ensures { get_elem? (own_memory (pages_of cpu.now) ram.now).words i ≡ some result }
+// A page, and whether a processor names it.
+#[derive(Drop)]
+struct Asked {
+    page: u64,
+    is_named: bool,
+}
+
+// The same of this page. It asks only if the last answer was of another page.
+fn asked_of(cpu: &Cpu, page: u64, last: Asked) -> Asked
+    requires { last.is_named ≡ pages_of cpu.now last.page }
+    ensures page { result.page ≡ page }
+    ensures is_named { result.is_named ≡ pages_of cpu.now page }
 {
-    if names(cpu, ram.address(i) / PAGE_BYTES) {
-        ram.word(i)
-    } else {
-        0
+    if last.page == page {
+        return last;
+    }
+    Asked {
+        page,
+        is_named: names(cpu, page),
     }
 }
 
-// Copies the words of the pages that the processor names.
+fn word_if(is_named: bool, word: u64) -> u64
+    ensures { result ≡ cond is_named word 0 }
+{
+    if is_named { word } else { 0 }
+}
+
+// Copies the words of the pages that the processor names. Words of one page lie together, so it asks once a page.
 fn copy_words(cpu: &Cpu, ram: &Ram, own: &mut Ram)
     requires blank { own.old ≡ record ram.now { words = replicate (length ram.now.words) 0 } }
     ensures { own.new ≡ own_memory (pages_of cpu.now) ram.now }
 {
+    let mut asked = Asked {
+        page: 0,
+        is_named: names(cpu, 0),
+    };
     for i in 0..ram.words() {
-        own.put(i, word_for(cpu, ram, i));
+        asked = asked_of(cpu, ram.address(i) / PAGE_BYTES, asked);
+        own.put(i, word_if(asked.is_named, ram.word(i)));
     }
 }
 

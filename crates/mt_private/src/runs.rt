@@ -1,10 +1,8 @@
 // Jobs of processors and one update, as they are done one after the other.
-ghost use Rattle.std.specs.Prelude.{◌≡◌, ℕ, ◌+◌, ◌++◌, ◌<◌, ◌≤◌, ◌↔◌, [], None, Some, IsSome, Err, OnErr, IfNone, IfOk, IfSome, length, map, vec_len, vec_capacity};
+ghost use Rattle.std.specs.Prelude.{◌≡◌, ◌<◌, ◌≤◌, [], None, IfNone, IfOk, IfSome, length, map, vec_capacity};
 ghost use Rattle.std.specs.List.{All};
-ghost use Rattle.mt_regs.specs.declared.fault.Fault.{Fault};
-ghost use Rattle.mt_regs.specs.Faults.{IsAccepted, IsFirstFault};
-ghost use Rattle.mt_machine.specs.Machine.{FitsGoal, FitsOp};
-ghost use Rattle.mt_machine.specs.Start.{HasEraRoom, IsQuiet};
+ghost use Rattle.mt_machine.specs.Machine.{FitsOp};
+ghost use Rattle.mt_machine.specs.Start.{IsQuiet};
 ghost use Rattle.mt_machine.specs.Update.{updated};
 ghost use Rattle.mt_core.specs.Rounds.{in_order};
 ghost use Rattle.mt_rendezvous.specs.Calls.{gathered};
@@ -12,7 +10,7 @@ ghost use Rattle.mt_private.specs.InYard.{IsGatheredFrom};
 ghost use Rattle.mt_private.specs.Residents.{Opens};
 ghost use Rattle.mt_private.specs.Jobs.{AreOpen, FitsJob, IsOpen, answers_in, ops_in, other_part, room_in};
 ghost use Rattle.mt_private.specs.OneByOne.{AreOneByOne, at_rest, jobs_one_by_one, ran, ran_each};
-ghost use Rattle.mt_private.specs.Pages.{IsLeastShared, IsPrivate};
+ghost use Rattle.mt_private.specs.Runs.{FitsRun, IsPrivateRun};
 ghost use Rattle.mt_private.specs.Visitors.{CanGoOn};
 ghost use Rattle.mt_private.specs.declared.job.Part.{Part as JobPart};
 ghost use Rattle.mt_private.specs.declared.job.Part.TheVariants.{Before, After};
@@ -200,19 +198,8 @@ pub fn run_private_with<R: Threads + Wait + Sync, G: Gate>(
     goal: RegFile,
     jobs: Vec<Job>,
 ) -> Result<Vec<JobAnswers>, PrivateFault>
-    requires some { 0 < length core.old.system.processors }
-    requires one_each { vec_len jobs ≡ length core.old.system.processors }
-    requires addresses { All FitsJob jobs.items }
-    requires fits { All (FitsGoal goal) core.old.system.processors }
-    requires room { HasEraRoom core.old }
-    ensures under_way { (result ≡ Err PrivateFault.UnderWay) ↔ IsSome core.old.order }
-    ensures refused { (fault : Fault) → (result ≡ Err (PrivateFault.Refused fault)) ↔ ((core.old.order ≡ None) × IsFirstFault goal (Some fault)) }
-    ensures shared { (page : ℕ) → (result ≡ Err (PrivateFault.Shared page)) ↔ ((core.old.order ≡ None) × IsAccepted goal × IsLeastShared core.old.system page) }
-    ensures no_memory { result ≡ Err PrivateFault.NoMemory → (core.old.order ≡ None) × IsAccepted goal × IsPrivate core.old.system }
-    ensures left { IfOk result (λ told. core.new ≡ (jobs_one_by_one core.old.system goal jobs.items).left) }
-    ensures before { IfOk result (λ told. map (answers_in Before) told.items ≡ (jobs_one_by_one core.old.system goal jobs.items).before) }
-    ensures after { IfOk result (λ told. map (answers_in After) told.items ≡ (jobs_one_by_one core.old.system goal jobs.items).after) }
-    ensures kept { OnErr result (core.new ≡ core.old) }
+    requires { FitsRun core.old goal jobs }
+    ensures { IsPrivateRun core.old goal jobs.items result core.new }
 {
     if core.order().is_some() {
         return Err(PrivateFault::UnderWay);
@@ -252,19 +239,8 @@ pub fn run_private<R: Threads + Wait + Sync, G: Gate>(
     jobs: Vec<Job>,
     gate: &G,
 ) -> Result<Vec<JobAnswers>, PrivateFault>
-    requires some { 0 < length core.old.system.processors }
-    requires one_each { vec_len jobs ≡ length core.old.system.processors }
-    requires addresses { All FitsJob jobs.items }
-    requires fits { All (FitsGoal goal) core.old.system.processors }
-    requires room { HasEraRoom core.old }
-    ensures under_way { (result ≡ Err PrivateFault.UnderWay) ↔ IsSome core.old.order }
-    ensures refused { (fault : Fault) → (result ≡ Err (PrivateFault.Refused fault)) ↔ ((core.old.order ≡ None) × IsFirstFault goal (Some fault)) }
-    ensures shared { (page : ℕ) → (result ≡ Err (PrivateFault.Shared page)) ↔ ((core.old.order ≡ None) × IsAccepted goal × IsLeastShared core.old.system page) }
-    ensures no_memory { result ≡ Err PrivateFault.NoMemory → (core.old.order ≡ None) × IsAccepted goal × IsPrivate core.old.system }
-    ensures left { IfOk result (λ told. core.new ≡ (jobs_one_by_one core.old.system goal jobs.items).left) }
-    ensures before { IfOk result (λ told. map (answers_in Before) told.items ≡ (jobs_one_by_one core.old.system goal jobs.items).before) }
-    ensures after { IfOk result (λ told. map (answers_in After) told.items ≡ (jobs_one_by_one core.old.system goal jobs.items).after) }
-    ensures kept { OnErr result (core.new ≡ core.old) }
+    requires { FitsRun core.old goal jobs }
+    ensures { IsPrivateRun core.old goal jobs.items result core.new }
 {
     run_private_with(&Caller::of(rt, gate), alloc, core, goal, jobs)
 }

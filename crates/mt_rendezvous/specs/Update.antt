@@ -1,19 +1,38 @@
 -- What an update on threads comes to.
-use Rattle.std.specs.Prelude.{◌≡◌, ◌<◌, ◌≤◌, Bool, true, false, List, [], length, map, None, Some}
+use Rattle.std.specs.Prelude.{◌≡◌, ◌<◌, ◌≤◌, ◌↔◌, Bool, true, false, List, [], length, map, IsSome, None, Some, Err, OnErr, OnOk, Result}
 use Rattle.std.specs.List.{All}
+use Rattle.mt_regs.specs.declared.fault.Fault.{Fault}
 use Rattle.mt_regs.specs.RegisterFile.{RegisterFile}
+use Rattle.mt_regs.specs.Faults.{IsAccepted, IsFirstFault}
 use Rattle.mt_types.specs.Tables.{TypeTable}
 use Rattle.mt_machine.specs.declared.phase.Phase.TheVariants.{Running}
 use Rattle.mt_machine.specs.declared.go.Go.{Go}
 use Rattle.mt_machine.specs.declared.go.Go.TheVariants.{Given, Cancelled}
 use Rattle.mt_machine.specs.System.{Processor, System}
-use Rattle.mt_machine.specs.Machine.{Calls, IsEnabled, Machine, run}
+use Rattle.mt_machine.specs.Machine.{Calls, FitsGoal, IsEnabled, Machine, run}
 use Rattle.mt_machine.specs.Start.{HasEraRoom, IsQuiet}
 use Rattle.mt_machine.specs.Update.{emptied, updated}
 use Rattle.mt_laws.specs.Updates.{all_running, all_taken, call_and_takes, order_of_call}
+use Rattle.mt_core.specs.declared.fault.CallFault.{CallFault}
+use Rattle.mt_core.specs.declared.fault.CallFault.TheVariants.{Refused, UnderWay}
 use Rattle.mt_core.specs.Rounds.{in_order}
 use Rattle.mt_rendezvous.specs.Station.{Begins}
 use Rattle.mt_rendezvous.specs.Calls.{gathered}
+
+-- ---- a whole update
+
+-- there is a processor, each has the goal's width and capabilities, and the eras may rise
+pub record FitsUpdate (m : Machine) (goal : RegisterFile) : Type 0 where
+  pub some : 0 < length m.system.processors
+  pub fits : All (FitsGoal goal) m.system.processors
+  pub room : HasEraRoom m
+
+-- What an update to a goal returns, and what it does to a core.
+pub record IsUpdate (old : Machine) (goal : RegisterFile) (result : Result Unit CallFault) (new : Machine) : Type 0 where
+  pub under_way : (result ≡ Err UnderWay) ↔ IsSome old.order
+  pub refused : (fault : Fault) → result ≡ Err (Refused fault) → (old.order ≡ None) × IsFirstFault goal (Some fault)
+  pub updated : OnOk result ((old.order ≡ None) × IsAccepted goal × (new ≡ updated old.system (in_order old) goal))
+  pub kept : OnErr result (new ≡ old)
 
 -- ---- before the threads
 

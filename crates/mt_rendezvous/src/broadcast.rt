@@ -1,12 +1,9 @@
 // From a call to the state in which all have taken.
-ghost use Rattle.std.specs.Prelude.{◌≡◌, ◌<◌, ◌↔◌, IsSome, Err, None, Some, length, OnOk, OnErr};
-ghost use Rattle.std.specs.List.{All};
+ghost use Rattle.std.specs.Prelude.{◌≡◌, ◌↔◌, IsSome, Err, None, Some, length, OnOk, OnErr};
 ghost use Rattle.mt_regs.specs.declared.fault.Fault.{Fault};
 ghost use Rattle.mt_regs.specs.Faults.{IsFirstFault};
-ghost use Rattle.mt_machine.specs.Machine.{FitsGoal};
-ghost use Rattle.mt_machine.specs.Start.{HasEraRoom};
 ghost use Rattle.mt_core.specs.Rounds.{each_steps};
-ghost use Rattle.mt_rendezvous.specs.Update.{HasTaken};
+ghost use Rattle.mt_rendezvous.specs.Update.{FitsUpdate, HasTaken};
 
 use mt_core::{CallFault, Core, a_core_arises};
 use mt_regs::RegFile;
@@ -17,9 +14,7 @@ use mt_regs::RegFile;
 ///
 /// Those of `Core::call`; nothing then changes.
 pub fn call_and_take(core: &mut Core, goal: &RegFile) -> Result<(), CallFault>
-    requires some { 0 < length core.old.system.processors }
-    requires fits { All (FitsGoal goal.now) core.old.system.processors }
-    requires room { HasEraRoom core.old }
+    requires { FitsUpdate core.old goal.now }
     ensures under_way { (result ≡ Err CallFault.UnderWay) ↔ IsSome core.old.order }
     ensures refused { (fault : Fault) → result ≡ Err (CallFault.Refused fault) → (core.old.order ≡ None) × IsFirstFault goal.now (Some fault) }
     ensures taken { OnOk result (HasTaken core.old goal.now core.new) }

@@ -1,22 +1,18 @@
 // An update on threads, or without them if one is refused.
-ghost use Rattle.std.specs.Prelude.{◌≡◌, ◌<◌, ◌≤◌, ◌↔◌, [], false, length, map};
-ghost use Rattle.std.specs.Prelude.{Err, None, Some, IsSome, OnOk, OnErr, is_ok, vec_len};
+ghost use Rattle.std.specs.Prelude.{◌≡◌, ◌<◌, ◌≤◌, [], false, length, map, None, Some, IsSome, is_ok, vec_len};
 ghost use Rattle.std.specs.List.{All};
-ghost use Rattle.mt_regs.specs.declared.fault.Fault.{Fault};
-ghost use Rattle.mt_regs.specs.Faults.{IsAccepted, IsFirstFault};
 ghost use Rattle.mt_machine.specs.declared.phase.Phase.TheVariants.{Taken};
-ghost use Rattle.mt_machine.specs.Machine.{FitsGoal, Order};
-ghost use Rattle.mt_machine.specs.Start.{HasEraRoom, IsQuiet};
+ghost use Rattle.mt_machine.specs.Machine.{Order};
+ghost use Rattle.mt_machine.specs.Start.{IsQuiet};
 ghost use Rattle.mt_machine.specs.System.{IsSound};
 ghost use Rattle.mt_machine.specs.Update.{updated};
-ghost use Rattle.mt_core.specs.Rounds.{in_order};
 ghost use Rattle.mt_rendezvous.specs.Station.{Begins};
 ghost use Rattle.mt_rendezvous.specs.Calls.{gathered};
 ghost use Rattle.mt_types.specs.Tables.{IsTableOf};
 ghost use Rattle.mt_bus.specs.Parts.{system};
 ghost use Rattle.mt_bus.specs.Holders.{AreHeldBy};
 ghost use Rattle.mt_bus.specs.Tables.{AreTablesOf};
-ghost use Rattle.mt_rendezvous.specs.Update.{CanUpdate, left_by, running, tables_left};
+ghost use Rattle.mt_rendezvous.specs.Update.{CanUpdate, FitsUpdate, IsUpdate, left_by, running, tables_left};
 
 use crate::attendance::{Attendance, Ended, meet};
 use crate::broadcast::call_and_take;
@@ -250,13 +246,8 @@ pub fn update_with<R: Threads + Wait + Sync, G: Gate>(
     core: &mut Core,
     goal: &RegFile,
 ) -> Result<(), CallFault>
-    requires some { 0 < length core.old.system.processors }
-    requires fits { All (FitsGoal goal.now) core.old.system.processors }
-    requires room { HasEraRoom core.old }
-    ensures under_way { (result ≡ Err CallFault.UnderWay) ↔ IsSome core.old.order }
-    ensures refused { (fault : Fault) → result ≡ Err (CallFault.Refused fault) → (core.old.order ≡ None) × IsFirstFault goal.now (Some fault) }
-    ensures updated { OnOk result ((core.old.order ≡ None) × IsAccepted goal.now × (core.new ≡ updated core.old.system (in_order core.old) goal.now)) }
-    ensures kept { OnErr result (core.new ≡ core.old) }
+    requires { FitsUpdate core.old goal.now }
+    ensures { IsUpdate core.old goal.now result core.new }
 {
     call_and_take(core, goal)?;
     carry_out(caller, alloc, core, goal);
@@ -276,13 +267,8 @@ pub fn update<R: Threads + Wait + Sync, G: Gate>(
     goal: &RegFile,
     gate: &G,
 ) -> Result<(), CallFault>
-    requires some { 0 < length core.old.system.processors }
-    requires fits { All (FitsGoal goal.now) core.old.system.processors }
-    requires room { HasEraRoom core.old }
-    ensures under_way { (result ≡ Err CallFault.UnderWay) ↔ IsSome core.old.order }
-    ensures refused { (fault : Fault) → result ≡ Err (CallFault.Refused fault) → (core.old.order ≡ None) × IsFirstFault goal.now (Some fault) }
-    ensures updated { OnOk result ((core.old.order ≡ None) × IsAccepted goal.now × (core.new ≡ updated core.old.system (in_order core.old) goal.now)) }
-    ensures kept { OnErr result (core.new ≡ core.old) }
+    requires { FitsUpdate core.old goal.now }
+    ensures { IsUpdate core.old goal.now result core.new }
 {
     update_with(&Caller::of(rt, gate), alloc, core, goal)
 }

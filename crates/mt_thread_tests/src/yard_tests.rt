@@ -1,11 +1,9 @@
 //! A yard gathered from a core's system, and the visits of its guests.
-ghost use Rattle.std.specs.Prelude.{◌≡◌, ℕ, ◌+◌, ◌<◌, IsTrue, IfSome, IfNone, length};
-ghost use Rattle.std.specs.List.{All};
+ghost use Rattle.std.specs.Prelude.{◌≡◌, ℕ, ◌+◌, IsTrue, IfSome, IfNone, length};
 ghost use Rattle.std.specs.Thread.{IsSync};
 ghost use Rattle.mt_machine.specs.declared.go.Go.TheVariants.{Pending};
 ghost use Rattle.mt_machine.specs.declared.phase.Phase.TheVariants.{Running};
-ghost use Rattle.mt_machine.specs.Machine.{FitsGoal};
-ghost use Rattle.mt_machine.specs.Start.{HasEraRoom};
+ghost use Rattle.mt_rendezvous.specs.Update.{FitsUpdate};
 ghost use Rattle.mt_private.specs.declared.job.Part.{Part as JobPart};
 ghost use Rattle.mt_private.specs.InYard.{AreGatheredIn, HostsIn, IsGatheredIn, IsGuestOf, IsHostOf, goal_at};
 ghost use Rattle.mt_private.specs.Jobs.{FitsJob, IsOpen};
@@ -29,9 +27,7 @@ use std::thread::{Promise, PromisedHandle, Scope, Threads};
 
 /// The yard of a core's system, where no update is under way, the goal has no fault and no page is named by two.
 fn gather_of(alloc: Global, core: Core, goal: &RegFile) -> Option<(Yard, Host, Vec<Guest>)>
-    requires some { 0 < length core.system.processors }
-    requires fits { All (FitsGoal goal.now) core.system.processors }
-    requires room { HasEraRoom core }
+    requires { FitsUpdate core goal.now }
     ensures host { IfSome result (λ y. HostsIn y.0 y.1 Pending) }
     ensures goal { IfSome result (λ y. goal.now ≡ goal_at y.0) }
     ensures guests { IfSome result (λ y. AreGatheredIn y.0 y.2.items) }

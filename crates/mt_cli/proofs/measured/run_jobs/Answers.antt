@@ -1,4 +1,4 @@
-use Rattle.std.proofs.Common.{◌≡◌, ap, arith, refl, sym, subst, ℕ, Option, None, Some, Err}
+use Rattle.std.proofs.Common.{◌≡◌, ap, arith, refl, sym, subst, ℕ, ◌<◌, Option, None, Some, Err}
 use Rattle.std.specs.Prelude.{IsSome}
 use Rattle.std.specs.List.{All}
 use Rattle.mt_regs.specs.declared.fault.Fault.{Fault}
@@ -12,18 +12,28 @@ use Rattle.mt_private.specs.OneByOne.{AreOneByOne, jobs_one_by_one}
 use Rattle.mt_cli.proofs.Owning.{goal_accepted, has_room}
 use Rattle.mt_cli.proofs.measured.run_jobs.Goals as goal
 
-pub run_private_with-requires-clause-fits : goal.run_private_with-requires-clause-fits
-run_private_with-requires-clause-fits g c κs within =
-    subst (λ (f : RegisterFile). All (FitsGoal f) c.args.core.now.system.processors) (sym c.file_of-goal.ensures) c.requires.set_up.fits
-
-pub run_private_with-requires-clause-room : goal.run_private_with-requires-clause-room
-run_private_with-requires-clause-room g c κs within = has_room _ c.args.core.now c.requires.set_up
+pub run_private_with-requires : goal.run_private_with-requires
+run_private_with-requires g c = (
+  c.type_bounds.sync-R,
+  (
+    c.type_bounds.sync-G,
+    record {
+      update = record {
+        some = subst (λ (n : ℕ). 0 < n) (sym c.requires.set_up.size) c.requires.some;
+        fits = subst (λ (f : RegisterFile). All (FitsGoal f) c.args.core.now.system.processors) (sym c.file_of-goal.ensures) c.requires.set_up.fits;
+        room = has_room _ c.args.core.now c.requires.set_up;
+      };
+      one_each = sym c.requires.set_up.size;
+      addresses = c.requires.addresses;
+    },
+  ),
+)
 
 pub returns-in-Ok : goal.returns-in-Ok
 returns-in-Ok g c =
     let s = c.args.core.now.system in
     subst (λ (f : RegisterFile). AreOneByOne (jobs_one_by_one s f c.args.jobs.items) c.run_private_with.new.core c.in-Ok.told.items) c.file_of-goal.ensures
-    (record { left = c.in-Ok.ensures.left; before = c.in-Ok.ensures.before; after = c.in-Ok.ensures.after })
+    c.in-Ok.ensures.done
 
 -- every other fault is ruled out
 only_memory : (fault : PrivateFault) → (fault ≡ UnderWay → ⊥) → ((own : Fault) → fault ≡ Refused own → ⊥) → ((page : ℕ) → fault ≡ Shared page → ⊥) → fault ≡ NoMemory

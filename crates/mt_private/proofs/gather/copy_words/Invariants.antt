@@ -7,4 +7,5 @@ invariant-loop-i l = record {
   windows : l.own.windows ≡ l.ram.windows;
   len : length l.own.words ≡ length l.ram.words;
   done : take l.i l.own.words ≡ take l.i (own_memory (pages_of l.cpu) l.ram).words;
+  asked : l.asked.is_named ≡ pages_of l.cpu l.asked.page;
 }

@@ -5,11 +5,18 @@ use Rattle.mt_proc.specs.Serving.{Serves}
 use Rattle.mt_proc.proofs.Served.{era_room, fits, is_refused, none_refused, serves_goal, some_refused}
 use Rattle.mt_proc.proofs.processors.update.Goals as goal
 
-pub update_with-requires-clause-fits : goal.update_with-requires-clause-fits
-update_with-requires-clause-fits g c κs within = fits c.args.core.now c.requires.serves c.args.goal c.requires.width c.requires.capabilities
-
-pub update_with-requires-clause-room : goal.update_with-requires-clause-room
-update_with-requires-clause-room g c κs within = era_room c.args.core.now c.requires.serves c.requires.room
+pub update_with-requires : goal.update_with-requires
+update_with-requires g c = (
+  c.type_bounds.sync-R,
+  (
+    c.type_bounds.sync-G,
+    record {
+      some = c.requires.serves.some;
+      fits = fits c.args.core.now c.requires.serves c.args.goal c.requires.width c.requires.capabilities;
+      room = era_room c.args.core.now c.requires.serves c.requires.room;
+    },
+  ),
+)
 
 pub returns-in-Ok-clause-fault : goal.returns-in-Ok-clause-fault
 returns-in-Ok-clause-fault g c = (none_refused c.args.core.now c.args.goal c.in-Ok.ensures.updated.1).0

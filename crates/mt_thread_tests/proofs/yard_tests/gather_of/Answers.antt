@@ -16,7 +16,7 @@ gather-requires c =
     let own = private_where_none m.system c.shared_page.result c.in_default-shared_page.not-Some c.shared_page.ensures.none in
     record {
       opens = subst (λ (s : System). Opens (gathered s.processors s.memory c.args.goal.now)) (sym c.into_system.ensures)
-          (opens_of m c.args.goal.now c.a_core_arises.ensures none c.is_register_file.ensures good own c.requires.some c.requires.fits c.requires.room);
+          (opens_of m c.args.goal.now c.a_core_arises.ensures none c.is_register_file.ensures good own c.requires);
     }
 
 pub returns-clause-goal : goal.returns-clause-goal
