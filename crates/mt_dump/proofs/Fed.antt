@@ -1,12 +1,10 @@
 -- How a line that a feed lends leads a reader on.
-use Rattle.std.proofs.Common.{◌≡◌, ◌+◌, ◌≤◌, ℕ, Bool, true, false, nat_lt, List, ◌∷◌, length, take, Some, None, refl, sym, ◌∙◌, ap, arith, inl, inr}
+use Rattle.std.proofs.Common.{◌≡◌, ◌+◌, ◌≤◌, ℕ, List, ◌∷◌, length, take, Some, None, refl, sym, ◌∙◌, ap}
 use Rattle.std.specs.Prelude.{Result, Ok, Err, IfOk, MatchResult}
 use Rattle.std.specs.Option.{option_map_or}
-use Rattle.std.proofs.lemmas.Bool.{cases_lt}
-use Rattle.std.proofs.lemmas.Bool.Decides.{nat_tests}
-use Rattle.std.proofs.lemmas.List.{length-take-le, take_all}
 use Rattle.mt_text.specs.Reader.{TakesLine}
 use Rattle.mt_text.specs.declared.line.Line.{Line}
+use Rattle.mt_text.proofs.Lent.{is_short, same_front}
 use Rattle.mt_dump.specs.Line.{Reading, said_of}
 use Rattle.mt_dump.specs.Dumps.{Dump}
 use Rattle.mt_dump.specs.Dump.{Shown, offence_of, said_from}
@@ -16,21 +14,11 @@ use Rattle.mt_dump.proofs.Ends.{reads_as}
 
 -- a line that is too long has an offence
 short_line : (number : ℕ) (before : List Reading) (line : List ℕ) → offence_of before (said_of number line) ≡ None → length line ≤ 4096
-short_line number before line none = by (nat_lt 4096 (length line)) refl
-  where
-    by : (far : Bool) → nat_lt 4096 (length line) ≡ far → length line ≤ 4096
-    by true far = cc (rw far at none)
-    by false far = grind (arith, nat_tests, far)
+short_line number before line none = is_short line (λ far. let e = rw far at none in cc e)
 
 -- what is behind 4,097 bytes of a line doesn't matter
 said_cut : (number : ℕ) (line : List ℕ) → said_of number (take 4097 line) ≡ said_of number line
-said_cut number line = elim (cases_lt 4096 (length line)) [
-  | inl many ↦
-      let far : nat_lt 4096 (length line) ≡ true = grind (arith, nat_tests, many) in
-      let cut : nat_lt 4096 (length (take 4097 line)) ≡ true = grind (arith, nat_tests, many, length-take-le 4097 line (omega (arith, many))) in
-      rw (far, cut) refl
-  | inr few ↦ ap (said_of number) (take_all 4097 line (omega (arith, few)))
-]
+said_cut number line = same_front (said_of number) line (λ far cut. rw (far, cut) refl)
 
 -- A line that is taken is told with those before it, and one with an offence is the first.
 pub takes_line : {U : Type 0} (old new : State) (line : Line) (result : Result U DumpFault)

@@ -2,13 +2,11 @@
 use Rattle.std.proofs.Common.{◌≡◌, ◌+◌, ◌≤◌, ◌<◌, ℕ, Bool, true, false, nat_lt, List, [], ◌∷◌, ◌++◌, length, take, Option, Some, None, refl, sym, subst, ◌∙◌, ap, arith, inl, inr}
 use Rattle.std.specs.Prelude.{Result, Ok, Err, IfOk, MatchResult}
 use Rattle.std.specs.Option.{option_map_or}
-use Rattle.std.proofs.lemmas.Bool.{cases_lt}
-use Rattle.std.proofs.lemmas.Bool.Decides.{nat_tests}
-use Rattle.std.proofs.lemmas.List.{length-take-le, take_all}
-use Rattle.mt_text.specs.Text.{lines_of, past_limit}
+use Rattle.mt_text.specs.Text.{is_too_long, lines_of, past_limit}
 use Rattle.mt_text.specs.Reader.{Course, TakesLine}
 use Rattle.mt_text.specs.declared.line.Line.{Line}
 use Rattle.mt_text.specs.declared.place.Place.{Place}
+use Rattle.mt_text.proofs.Lent.{is_short, same_front}
 use Rattle.mt_import.specs.declared.fault.ImportFault.{ImportFault}
 use Rattle.mt_import.specs.declared.format.Choice.{Choice}
 use Rattle.mt_import.specs.declared.format.Format.{Format}
@@ -34,43 +32,24 @@ fails auto supplied seen facts others fault found = rw (fault_append supplied se
 -- ---- one line
 
 -- a line that is too long says so in each format
-said_long : (format : Option Format) (number : ℕ) (line : List ℕ) → nat_lt 4096 (length line) ≡ true → said_in format number line ≡ Long (past_limit number)
+said_long : (format : Option Format) (number : ℕ) (line : List ℕ) → is_too_long line ≡ true → said_in format number line ≡ Long (past_limit number)
 said_long (Some format) number line far = rw far refl
 said_long None number line far = rw far refl
 
-chosen_long : (format : Option Format) (number : ℕ) (line : List ℕ) → nat_lt 4096 (length line) ≡ true → chosen format number line ≡ format
+chosen_long : (format : Option Format) (number : ℕ) (line : List ℕ) → is_too_long line ≡ true → chosen format number line ≡ format
 chosen_long (Some format) number line far = refl
 chosen_long None number line far = rw far refl
 
--- a line that is too long has a fault
 short_line : (supplied : Supplied) (number : ℕ) (context : Context) (seen : Seen) (line : List ℕ) → facts_fault supplied seen (facts_of_line context number line) ≡ None → length line ≤ 4096
-short_line supplied number context seen line none = by (nat_lt 4096 (length line)) refl
-  where
-    by : (far : Bool) → nat_lt 4096 (length line) ≡ far → length line ≤ 4096
-    by true far = cc (rw (said_long (chosen context.format number line) number line far) at none)
-    by false far = grind (arith, nat_tests, far)
+short_line supplied number context seen line none = is_short line (λ far. let e = rw (said_long (chosen context.format number line) number line far) at none in cc e)
 
--- what is behind 4,097 bytes of a line doesn't matter
-is_cut : (line : List ℕ) → nat_lt 4096 (length line) ≡ true → nat_lt 4096 (length (take 4097 line)) ≡ true
-is_cut line far = let many : 4096 < length line = grind (arith, nat_tests, far) in grind (arith, nat_tests, many, length-take-le 4097 line (omega (arith, many)))
-
-same_cut : {A : Type 0} (f : List ℕ → A) (line : List ℕ) → (nat_lt 4096 (length line) ≡ true → f (take 4097 line) ≡ f line) → f (take 4097 line) ≡ f line
-same_cut f line long = elim (cases_lt 4096 (length line)) [
-  | inl many ↦ long (grind (arith, nat_tests, many))
-  | inr few ↦ ap f (take_all 4097 line (omega (arith, few)))
-]
-
-chosen_cut : (format : Option Format) (number : ℕ) (line : List ℕ) → chosen format number (take 4097 line) ≡ chosen format number line
-chosen_cut format number line = same_cut (chosen format number) line (λ far. chosen_long format number (take 4097 line) (is_cut line far) ∙ sym (chosen_long format number line far))
-
-said_cut : (format : Option Format) (number : ℕ) (line : List ℕ) → said_in format number (take 4097 line) ≡ said_in format number line
-said_cut format number line = same_cut (said_in format number) line (λ far. said_long format number (take 4097 line) (is_cut line far) ∙ sym (said_long format number line far))
-
--- what follows from the format that is known behind a line, and from what the line says
+-- What is behind 4,097 bytes of a line doesn't matter for what follows from the format that is known behind it, and from what it says.
 by_line : {A : Type 0} (f : Option Format → LineSays → A) (format : Option Format) (number : ℕ) (line : List ℕ)
     → f (chosen format number (take 4097 line)) (said_in (chosen format number (take 4097 line)) number (take 4097 line)) ≡ f (chosen format number line) (said_in (chosen format number line) number line)
-by_line f format number line =
-    ap (λ c. f c (said_in c number (take 4097 line))) (chosen_cut format number line) ∙ ap (f (chosen format number line)) (said_cut (chosen format number line) number line)
+by_line f format number line = same_front (λ l. f (chosen format number l) (said_in (chosen format number l) number l)) line (λ far cut. long (take 4097 line) cut ∙ sym (long line far))
+  where
+    long : (l : List ℕ) → is_too_long l ≡ true → f (chosen format number l) (said_in (chosen format number l) number l) ≡ f format (Long (past_limit number))
+    long l far = ap (λ c. f c (said_in c number l)) (chosen_long format number l far) ∙ ap (f format) (said_long format number l far)
 
 facts_cut : (context : Context) (number : ℕ) (line : List ℕ) → facts_of_line context number (take 4097 line) ≡ facts_of_line context number line
 facts_cut context number line = by_line (λ format said. line_facts number format context said) context.format number line

@@ -60,19 +60,16 @@ nothing_left (Some xs) None bytes gone result is consumes end = absurd consumes
 nothing_left (Some xs) (Some ys) bytes gone (Ok value) is consumes end = ap Some end
 nothing_left (Some xs) (Some ys) bytes gone (Err fault) is consumes end = tt
 
+same_fault : {T : Type 0} (fault other : FeedFault) → IsErrOf {T = T} (Err fault) other → fault ≡ other
+same_fault fault other is = cc is
+
 -- `?` hands a call's fault on, and no fault came before
 module _ {T U : Type 0} {first before after : ℕ} {call : Result T FeedFault} {result : Result U FeedFault} {given fault : FeedFault} (was : call ≡ Err given) (handed : result ≡ Err fault) (same : fault ≡ given) (stood : before ≡ first) where
   pub failed_on : (IsErrOf call FeedFault.ReadFault → Rose before after) → IsErrOf result FeedFault.ReadFault → Rose first after
-  failed_on failed is = rw stood at (failed (was ∙ ap Err (sym same ∙ same_fault fault FeedFault.ReadFault (rw handed at is))))
-    where
-      same_fault : (fault other : FeedFault) → IsErrOf {T = U} (Err fault) other → fault ≡ other
-      same_fault fault other is = cc is
+  failed_on failed is = rw stood at (failed (was ∙ ap Err (sym same ∙ same_fault {T = U} fault FeedFault.ReadFault (rw handed at is))))
 
   pub stands_on : ((IsErrOf call FeedFault.ReadFault → ⊥) → after ≡ before) → (IsErrOf result FeedFault.ReadFault → ⊥) → after ≡ first
-  stands_on stands other = stands (λ is. other (rw handed (ap Err (same ∙ same_fault given FeedFault.ReadFault (sym was ∙ is))))) ∙ stood
-    where
-      same_fault : (fault other : FeedFault) → IsErrOf {T = T} (Err fault) other → fault ≡ other
-      same_fault fault other is = cc is
+  stands_on stands other = stands (λ is. other (rw handed (ap Err (same ∙ same_fault {T = T} given FeedFault.ReadFault (sym was ∙ is))))) ∙ stood
 
 -- a call without a fault leaves the count of faults
 pub stands_after : {T : Type 0} {first before after : ℕ} {call : Result T FeedFault} {value : T} → call ≡ Ok value → before ≡ first → ((IsErrOf call FeedFault.ReadFault → ⊥) → after ≡ before) → after ≡ first

@@ -36,14 +36,11 @@ module _ {R A F : Type 0} (At : R → ℕ → Course (Result A F) → Type 0) (c
       lent : LendsFirst feed new told.after next_of.0 line
       lent = next_of.2
 
-      number_is : told.number ≡ line.number
-      number_is = elim told.next [
-        | inl none ↦ let e : lent.first ∷ lent.others ≡ [] = sym lent.lines ∙ none in absurd (cc e)
-        | inr here ↦ sym here ∙ sym lent.number
-      ]
-
       at_line : At reader line.number told.rest
-      at_line = subst (λ n. At reader n told.rest) number_is told.at
+      at_line = elim told.next [
+        | inl none ↦ let e : lent.first ∷ lent.others ≡ [] = sym lent.lines ∙ none in absurd (cc e)
+        | inr here ↦ subst (λ n. At reader n told.rest) (sym here ∙ sym lent.number) told.at
+      ]
 
       leads_on : (end : Place) → told.rest (lent.first ∷ lent.others) end ≡ course (lines_of bytes) end
       leads_on end = ap (λ ls. told.rest ls end) (sym lent.lines) ∙ told.leads end

@@ -5,7 +5,8 @@ use Rattle.std.specs.List.{before_first, after_first, position_or_len}
 use Rattle.std.proofs.Math.Seq.{drop-length, take-length}
 use Rattle.std.proofs.lemmas.List.{append-nil, drop-append-le, length-append, length-drop, take-append-drop, length-take-le, take-append-le, take-take, take_all}
 use Rattle.std.proofs.lemmas.Bool.{cases_lt}
-use Rattle.mt_text.specs.Text.{end_of, is_line_end, lines_of}
+use Rattle.std.proofs.lemmas.Bool.Decides.{nat_tests}
+use Rattle.mt_text.specs.Text.{end_of, is_line_end, is_too_long, lines_of}
 use Rattle.mt_text.specs.Feed.{Feeding, IsFront, IsLent, IsLong, LendsFirst, LendsLines, Lines, LinesAre, draw, known_front, moved_on, place_after, taken, with_end}
 use Rattle.mt_text.specs.declared.line.Line.{Line}
 use Rattle.mt_text.specs.declared.fault.FeedFault.{FeedFault}
@@ -166,11 +167,15 @@ pub passes : (old new : Feeding) (before after : List ℕ) (given_before given_a
 passes old new before after given_before given_after result lines =
     passes_seen old new before (old.pending ++ lines.0) after result (ap (λ l. old.pending ++ l) lines.1 ∙ sym (append_assoc old.pending lines.0 after)) lines.3.0
 
--- What is told of numbered lines, nothing of none whatever the number, is the same behind a line that isn't too long.
-module _ {A : Type 0} (told : ℕ → List (List ℕ) → A) (none : (m n : ℕ) → told m [] ≡ told n []) where
-  pub told_next : (old new : Feeding) (before after : List ℕ) (line : Line) (lent : LendsFirst old new before after line) → length lent.first ≤ 4096
-      → told new.place.line (lines_of (new.pending ++ after)) ≡ told (line.number + 1) lent.others
-  told_next old new before after line lent short = ap (told new.place.line) (lent.rest short) ∙ elim (lent.next short) [
-    | inl last ↦ ap (told new.place.line) last ∙ none new.place.line (line.number + 1) ∙ ap (told (line.number + 1)) (sym last)
-    | inr more ↦ ap (λ n. told n lent.others) (more ∙ ap (λ n. n + 1) (sym lent.number))
-  ]
+-- What is alike for all lines that are too long is the same for a line and the front of it that is lent.
+pub same_front : {A : Type 0} (f : List ℕ → A) (line : List ℕ) → (is_too_long line ≡ true → is_too_long (take 4097 line) ≡ true → f (take 4097 line) ≡ f line) → f (take 4097 line) ≡ f line
+same_front f line long = elim (cases_lt 4096 (length line)) [
+  | inl many ↦ long (grind (arith, nat_tests, many)) (grind (arith, nat_tests, many, length-take-le 4097 line (omega (arith, many))))
+  | inr few ↦ ap f (take_all 4097 line (omega (arith, few)))
+]
+
+pub is_short : (line : List ℕ) → (is_too_long line ≡ true → ⊥) → length line ≤ 4096
+is_short line short = elim (cases_lt 4096 (length line)) [
+  | inl many ↦ absurd (short (grind (arith, nat_tests, many)))
+  | inr few ↦ few
+]
