@@ -1,7 +1,6 @@
 -- An event between the barriers leaves a resident's own machine less to do.
 use Rattle.std.proofs.Common.{◌≡◌, ◌∙◌, ap, refl, subst, arith, ℕ, ◌+◌, ◌<◌, ◌||◌, Bool, true, false, List, [], ◌∷◌, Some}
 use Rattle.std.specs.Prelude.{slice_get}
-use Rattle.atomic_table.specs.Seated.{TableId}
 use Rattle.mt_machine.specs.declared.phase.Phase.{Phase}
 use Rattle.mt_machine.specs.declared.phase.Phase.TheVariants.{Running}
 use Rattle.mt_machine.specs.declared.event.Event.{Event}
@@ -18,7 +17,6 @@ use Rattle.mt_laws.proofs.Clearing.Renewed.{left_alone, no_take}
 use Rattle.mt_laws.proofs.Steps.Counts.{is_past, left_of, one_less}
 use Rattle.mt_laws.proofs.Steps.StepCounts.{ready}
 use Rattle.mt_laws.proofs.Words.Sound.{aligned_all}
-use Rattle.mt_rendezvous.specs.declared.view.Start.{Start}
 use Rattle.mt_rendezvous.specs.Station.{order_of}
 use Rattle.mt_rendezvous.specs.Plays.{own_event}
 use Rattle.mt_rendezvous.proofs.Local.{due_alone, local_changing, works_in}

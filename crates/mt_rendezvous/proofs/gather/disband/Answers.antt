@@ -1,6 +1,4 @@
-use Rattle.std.proofs.Common.{◌≡◌, ◌+◌, ℕ, List, drop, length, take_all, sym, ap, ◌∙◌, arith}
-use Rattle.std.specs.Mem.Slots.{slots_items}
-use Rattle.mt_machine.specs.Memory.{Memory}
+use Rattle.std.proofs.Common.{◌≡◌, ◌+◌, ℕ, List, drop, length, sym, ap, ◌∙◌}
 use Rattle.mt_rendezvous.specs.Station.{first_memory_word, start_of}
 use Rattle.mt_rendezvous.proofs.Handed.{ends, words_back, written_over}
 use Rattle.mt_rendezvous.proofs.gather.disband.Goals as goal

@@ -1,4 +1,4 @@
-use Rattle.std.proofs.Common.{ap, sym, subst, false}
+use Rattle.std.proofs.Common.{ap, sym, subst}
 use Rattle.mt_machine.specs.declared.phase.Phase.TheVariants.{Running}
 use Rattle.mt_machine.specs.Machine.{Machine}
 use Rattle.mt_rendezvous.specs.declared.view.Added.TheVariants.{Never}

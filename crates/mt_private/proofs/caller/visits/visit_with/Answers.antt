@@ -1,4 +1,4 @@
-use Rattle.std.proofs.Common.{◌≤◌, ◌∙◌, ap, sym, subst, ℕ, true, false, List, ◌++◌, length, Some, inl, inr}
+use Rattle.std.proofs.Common.{◌≤◌, ◌∙◌, ap, sym, subst, ℕ, List, ◌++◌, length, Some, inl, inr}
 use Rattle.std.specs.Prelude.{vec_capacity}
 use Rattle.mt_machine.specs.declared.op.Op.{Op}
 use Rattle.mt_machine.specs.System.{Processor, System}

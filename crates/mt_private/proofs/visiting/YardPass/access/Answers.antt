@@ -1,4 +1,4 @@
-use Rattle.std.proofs.Common.{◌≡◌, ◌∙◌, refl, ap, sym, subst, arith, ℕ, Bool, true, false, [], ◌∷◌, Option, ⊎_elim}
+use Rattle.std.proofs.Common.{◌≡◌, ◌∙◌, refl, ap, sym, subst, arith, ℕ, Bool, [], ◌∷◌, Option, ⊎_elim}
 use Rattle.atomic_table.specs.Seated.{TableId}
 use Rattle.mt_machine.specs.declared.op.Op.{Op}
 use Rattle.mt_machine.specs.declared.phase.Phase.TheVariants.{Running}

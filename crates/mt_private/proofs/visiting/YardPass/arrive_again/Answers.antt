@@ -1,4 +1,4 @@
-use Rattle.std.proofs.Common.{◌≡◌, ◌∙◌, refl, ap, sym, arith, true, [], ◌∷◌}
+use Rattle.std.proofs.Common.{◌≡◌, ◌∙◌, refl, ap, sym, arith, [], ◌∷◌}
 use Rattle.mt_machine.specs.declared.phase.Phase.TheVariants.{Arrived2, Restored}
 use Rattle.mt_machine.specs.declared.event.Event.TheVariants.{ArriveAgain}
 use Rattle.mt_machine.specs.declared.go.Go.TheVariants.{Given}
