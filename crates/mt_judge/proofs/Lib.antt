@@ -8,7 +8,6 @@ mod Fits
 mod Gathered
 mod Keeping
 mod Nodes
-mod Others
 mod Places
 mod RunLists
 mod Searching

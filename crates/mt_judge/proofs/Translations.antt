@@ -1,15 +1,17 @@
 -- The entry by which a processor translates, and the processor once it has that entry.
-use Rattle.std.proofs.Common.{◌≡◌, ◌∙◌, ap, sym, refl, ℕ, zero, suc, ◌/◌, List, [], ◌∷◌, Option, Some, None, slice_get, slice_set, if◌then◌else◌}
+use Rattle.std.proofs.Common.{◌≡◌, ◌∙◌, ap, sym, refl, subst, ℕ, zero, suc, ◌/◌, List, [], ◌∷◌, Option, Some, None, slice_get, slice_set, if◌then◌else◌}
 use Rattle.std.specs.Prelude.{Bool, true, false, is_some, IfOk, OnOk, Result, Ok, Err}
 use Rattle.std.specs.Option.{option_map, option_map_or, unwrap_or}
 use Rattle.mt_lists.proofs.Keys.{found_key}
 use Rattle.mt_tlb.specs.declared.entry.Entry.{Entry}
 use Rattle.mt_tlb.specs.declared.mapping.Mapping.{Mapping}
-use Rattle.mt_tlb.specs.Entries.{add_entry, find_entry, find_mapping, is_full_for, set_mapping}
-use Rattle.mt_machine.specs.System.{Processor}
+use Rattle.mt_tlb.specs.Entries.{add_entry, find_entry, find_mapping, is_full_for}
+use Rattle.mt_machine.specs.Memory.{Memory}
+use Rattle.mt_machine.specs.System.{Processor, System, change}
 use Rattle.mt_machine.specs.Access.{entry_of, keep_entry, new_entry}
-use Rattle.mt_bus.specs.Parts.{entry_in, with_changed}
-use Rattle.mt_bus.proofs.Changed.{changed_there}
+use Rattle.mt_bus.specs.Parts.{entry_in, system}
+use Rattle.mt_judge.specs.Parts.{with_entry_in}
+use Rattle.mt_judge.specs.Steps.{IsMapped, after_map, with_mapping}
 
 -- the processor with the entry of a page, where there is one
 abbrev pub entered : Processor → ℕ → Processor
@@ -63,31 +65,37 @@ set_same [] k p at = absurd (cc)
 set_same (x ∷ ps) zero p at = let e : p ≡ x = cc in ap (λ q. q ∷ ps) e
 set_same (x ∷ ps) (suc k) p at = ap (λ qs. x ∷ qs) (set_same ps k p at)
 
-pub entered_in : (ps : List Processor) (k va : ℕ) (p q : Processor) (o : Option Entry) → slice_get ps k ≡ Some p → (o ≡ entry_of p (va / 4096)) × (q ≡ entered p (va / 4096))
-    → (o ≡ entry_in k va ps) × (slice_set ps k q ≡ option_map_or (λ e. with_changed (keep_entry e) k ps) (entry_in k va ps) ps)
-entered_in ps k va p q o at made =
-    let own : entry_of p (va / 4096) ≡ entry_in k va ps = sym (ap (λ x. option_map_or (λ (y : Processor). entry_of y (va / 4096)) x None) at) in (
+-- the system whose processor k is q in place of p
+pub changed_to : (ps : List Processor) (m : Memory) (s : System) (k : ℕ) (p q : Processor) (f : Processor → Processor) → system ps m ≡ s → slice_get ps k ≡ Some p → q ≡ f p
+    → system (slice_set ps k q) m ≡ change f k s
+changed_to ps m s k p q f is at made =
+    ap (λ x. system (slice_set ps k x) m) made
+    ∙ sym (ap (λ o. option_map_or (λ y. system (slice_set ps k (f y)) m) o (system ps m)) at)
+    ∙ ap (change f k) is
+
+pub entered_in : (ps : List Processor) (m : Memory) (s : System) (k va : ℕ) (p q : Processor) (o : Option Entry) → system ps m ≡ s → slice_get ps k ≡ Some p
+    → (o ≡ entry_of p (va / 4096)) × (q ≡ entered p (va / 4096)) → (o ≡ entry_in k va s.processors) × (system (slice_set ps k q) m ≡ with_entry_in o k s)
+entered_in ps m s k va p q o is at made =
+    let own : entry_of p (va / 4096) ≡ entry_in k va ps = sym (ap (λ x. option_map_or (λ (y : Processor). entry_of y (va / 4096)) x None) at) in
+    subst (λ (t : System). (o ≡ entry_in k va t.processors) × (system (slice_set ps k q) m ≡ with_entry_in o k t)) is (
       made.0 ∙ own,
-      ap (slice_set ps k) made.1 ∙ one (entry_of p (va / 4096)) ∙ ap (λ x. option_map_or (λ e. with_changed (keep_entry e) k ps) x ps) own,
+      ap (λ x. system (slice_set ps k x) m) made.1 ∙ one (entry_of p (va / 4096)) ∙ ap (λ x. with_entry_in x k (system ps m)) (sym made.0),
     )
   where
-    one : (x : Option Entry) → slice_set ps k (option_map_or (λ e. keep_entry e p) x p) ≡ option_map_or (λ e. with_changed (keep_entry e) k ps) x ps
-    one None = set_same ps k p at
-    one (Some e) = sym (changed_there (keep_entry e) k ps p at)
+    one : (x : Option Entry) → system (slice_set ps k (option_map_or (λ e. keep_entry e p) x p)) m ≡ with_entry_in x k (system ps m)
+    one None = ap (λ qs. system qs m) (set_same ps k p at)
+    one (Some e) = changed_to ps m (system ps m) k p (keep_entry e p) (keep_entry e) refl at refl
 
-pub changed_if : (b : Bool) (f : Processor → Processor) (ps : List Processor) (k : ℕ) (p q : Processor) → slice_get ps k ≡ Some p → q ≡ (if b then p else f p)
-    → slice_set ps k q ≡ (if b then ps else with_changed f k ps)
-changed_if true f ps k p q at is = ap (slice_set ps k) is ∙ set_same ps k p at
-changed_if false f ps k p q at is = ap (slice_set ps k) is ∙ sym (changed_there f k ps p at)
+changed_if : (b : Bool) (f : Processor → Processor) (ps : List Processor) (m : Memory) (s : System) (k : ℕ) (p q : Processor) → system ps m ≡ s → slice_get ps k ≡ Some p
+    → q ≡ (if b then p else f p) → system (slice_set ps k q) m ≡ (if b then s else change f k s)
+changed_if true f ps m s k p q same at is = ap (λ x. system (slice_set ps k x) m) is ∙ ap (λ qs. system qs m) (set_same ps k p at) ∙ same
+changed_if false f ps m s k p q same at is = changed_to ps m s k p q f same at is
 
-pub mapped_in : (x : Mapping) (ps : List Processor) (k : ℕ) (q r : Processor) → slice_get ps k ≡ Some q
-    → r ≡ (if is_full_for x q.mappings then q else record q { mappings = set_mapping x q.mappings })
-    → (p : Processor) → slice_get ps k ≡ Some p
-    → slice_set ps k r ≡ (if is_full_for x p.mappings then ps else with_changed (λ (y : Processor). record y { mappings = set_mapping x y.mappings }) k ps)
-mapped_in x ps k q r here is p at =
-    let e : q ≡ p = ap (λ (o : Option Processor). unwrap_or o q) (sym here ∙ at) in
-    changed_if (is_full_for x p.mappings) (λ (y : Processor). record y { mappings = set_mapping x y.mappings }) ps k p r at
-    (is ∙ ap (λ (y : Processor). if is_full_for x y.mappings then y else record y { mappings = set_mapping x y.mappings }) e)
+pub mapped_in : (x : Mapping) (ps : List Processor) (m : Memory) (s : System) (k : ℕ) (q r : Processor) → system ps m ≡ s → slice_get ps k ≡ Some q → r ≡ after_map x q
+    → IsMapped x k s (system (slice_set ps k r) m)
+mapped_in x ps m s k q r same here is = λ p at.
+    let e : q ≡ p = ap (λ (o : Option Processor). unwrap_or o q) (sym here ∙ ap (λ (t : System). slice_get t.processors k) same ∙ at) in
+    changed_if (is_full_for x p.mappings) (with_mapping x) ps m s k p r same (here ∙ ap Some e) (is ∙ ap (after_map x) e)
 
 -- ---- results
 

@@ -2,13 +2,12 @@
 use Rattle.std.specs.Prelude.{ℕ, List, Option, if◌then◌else◌}
 use Rattle.std.specs.Option.{option_map_or}
 use Rattle.mt_cache.specs.declared.line.CacheLine.{CacheLine}
-use Rattle.mt_cache.specs.Lines.{has_number, without_line}
+use Rattle.mt_cache.specs.Lines.{has_number}
 use Rattle.mt_tlb.specs.declared.entry.Entry.{Entry}
 use Rattle.mt_machine.specs.Access.{keep_entry}
-use Rattle.mt_machine.specs.Bus.{with_buffers}
 use Rattle.mt_machine.specs.Memory.{Memory, write_back}
 use Rattle.mt_machine.specs.System.{Processor, System, change}
-use Rattle.mt_bus.specs.Parts.{system, with_changed}
+use Rattle.mt_bus.specs.Parts.{system}
 
 abbrev pub memory : Memory → List ℕ → Memory
 memory layout words = record { windows = layout.windows; words = words }
@@ -18,12 +17,8 @@ abbrev pub bus : Memory → List Processor → List ℕ → System
 bus layout ps words = system ps (memory layout words)
 
 -- processor k keeps an entry, if there is one
-abbrev pub with_entry_in : Option Entry → ℕ → List Processor → List Processor
-with_entry_in e k ps = option_map_or (λ e. with_changed (keep_entry e) k ps) e ps
-
--- processor k has no buffer of a line any more
-abbrev pub without_buffer : ℕ → ℕ → System → System
-without_buffer number k s = change (with_buffers (without_line number)) k s
+abbrev pub with_entry_in : Option Entry → ℕ → System → System
+with_entry_in e k s = option_map_or (λ e. change (keep_entry e) k s) e s
 
 -- a line goes to memory if it has this number
 abbrev pub write_back_if : ℕ → CacheLine → Memory → Memory

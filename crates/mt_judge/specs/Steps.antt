@@ -1,6 +1,6 @@
 -- What a step of a list does: what the machine's event does, whether or not it is due (own). A step that is no event is an access, a control
 -- instruction, a count at a barrier, or a flush of the TLB by the other of the two ways that the procedure has.
-use Rattle.std.specs.Prelude.{◌≡◌, ℕ, ◌<◌, ◌+◌, ◌^◌, Bool, if◌then◌else◌, List, slice_get, Option, None, Some}
+use Rattle.std.specs.Prelude.{◌≡◌, ℕ, ◌<◌, ◌+◌, ◌^◌, Bool, if◌then◌else◌, slice_get, Option, None, Some}
 use Rattle.std.specs.Option.{option_map_or}
 use Rattle.mt_regs.specs.RegisterFile.{RegisterFile}
 use Rattle.mt_tlb.specs.declared.mapping.Mapping.{Mapping}
@@ -8,7 +8,7 @@ use Rattle.mt_tlb.specs.Entries.{is_full_for, set_mapping}
 use Rattle.mt_machine.specs.declared.phase.Phase.{Phase}
 use Rattle.mt_machine.specs.declared.phase.Phase.TheVariants.{Taken, Arrived, NoFill, Flushed, TlbFlushed, Enabled, Flushed2, TlbFlushed2, Restored}
 use Rattle.mt_machine.specs.declared.event.Event.{Event}
-use Rattle.mt_machine.specs.declared.event.Event.TheVariants.{Take, Arrive, Pass, SetNoFill, DropLines, FlushTlb, Disable, Write, WriteBack, Enable, SetNormal, RestorePge, ArriveAgain, Release}
+use Rattle.mt_machine.specs.declared.event.Event.TheVariants.{Take, Arrive, Pass, SetNoFill, DropLines, FlushTlb, Disable, Write, Enable, SetNormal, RestorePge, ArriveAgain, Release}
 use Rattle.mt_machine.specs.declared.control.Control.{Control}
 use Rattle.mt_machine.specs.declared.control.Control.TheVariants.{Cd, Cr3, Invlpg, Map, Pge}
 use Rattle.mt_machine.specs.declared.done.Done.{Done}
@@ -16,12 +16,11 @@ use Rattle.mt_machine.specs.declared.done.Done.TheVariants.{Busy}
 use Rattle.mt_machine.specs.declared.op.Op.{Op}
 use Rattle.mt_machine.specs.declared.ruled.Ruled.{Ruled}
 use Rattle.mt_machine.specs.declared.ruled.Ruled.TheVariants.{Full, Okay}
-use Rattle.mt_machine.specs.Memory.{Memory, put_word}
 use Rattle.mt_machine.specs.System.{Processor, System, change}
 use Rattle.mt_machine.specs.Access.{Answered, access_at}
 use Rattle.mt_machine.specs.Control.{control_at}
 use Rattle.mt_machine.specs.Machine.{flush_tlb, step, write_back_or_drop}
-use Rattle.mt_bus.specs.Parts.{answered, ruled, with_changed}
+use Rattle.mt_bus.specs.Parts.{answered, ruled}
 use Rattle.mt_judge.specs.declared.moves.Outcome.{Outcome}
 use Rattle.mt_judge.specs.declared.moves.Outcome.TheVariants.{Accessed, Nothing}
 use Rattle.mt_judge.specs.declared.step.ProcedureStep.{ProcedureStep}
@@ -106,8 +105,8 @@ abbrev pub after_map : Mapping → Processor → Processor
 after_map m p = if is_full_for m p.mappings then p else with_mapping m p
 
 -- that of processor k is set
-abbrev pub IsMapped : Mapping → ℕ → List Processor → List Processor → Type 0
-IsMapped m k old new = (p : Processor) → slice_get old k ≡ Some p → new ≡ (if is_full_for m p.mappings then old else with_changed (with_mapping m) k old)
+abbrev pub IsMapped : Mapping → ℕ → System → System → Type 0
+IsMapped m k s t = (p : Processor) → slice_get s.processors k ≡ Some p → t ≡ (if is_full_for m p.mappings then s else change (with_mapping m) k s)
 
 -- what an access of processor k returns, and the system after it, whatever the phase
 abbrev pub accessed : Op → ℕ → System → Answered
@@ -135,11 +134,6 @@ aside other k s = s
 abbrev pub answer_aside : ProcedureStep → ℕ → System → Outcome
 answer_aside (list.Access op) k s = Accessed (accessed op k s).answer
 answer_aside other k s = Nothing
-
--- the word that an event writes to memory
-abbrev pub memory_after : Event → Memory → Memory
-memory_after (WriteBack address value) m = put_word m address value
-memory_after other m = m
 
 -- ---- a step of processor k, which is this event or none
 

@@ -3,28 +3,25 @@ ghost use Rattle.std.specs.List.{position};
 ghost use Rattle.std.specs.Option.{option_map_or};
 ghost use Rattle.mt_kinds.specs.Sizes.{page_bytes};
 ghost use Rattle.mt_cache.specs.Calls.{write_word};
-ghost use Rattle.mt_cache.specs.Lines.{change_line, find_line};
+ghost use Rattle.mt_cache.specs.Lines.{change_line};
 ghost use Rattle.mt_tlb.specs.declared.entry.Entry.{Entry};
 ghost use Rattle.mt_tlb.specs.Entries.{add_entry, find_entry, find_mapping, has_page, maps_page};
 ghost use Rattle.mt_machine.specs.Memory.{place, word_of};
-ghost use Rattle.mt_machine.specs.System.{Processor};
-ghost use Rattle.mt_machine.specs.Bus.{with_lines};
-ghost use Rattle.mt_machine.specs.Access.{Answered, access_at, entry_of, first_of_load, first_of_store, is_cached, keep_entry, load, physical, store, store_filling, store_hit, store_past, store_uncached, store_after};
-ghost use Rattle.mt_bus.specs.Parts.{answered, entry_in, hit_in, lines_in, system, with_changed};
-ghost use Rattle.mt_judge.specs.Parts.{bus, memory, with_entry_in};
+ghost use Rattle.mt_machine.specs.System.{Processor, change};
+ghost use Rattle.mt_machine.specs.Bus.{store_in_memory, with_lines};
+ghost use Rattle.mt_machine.specs.Access.{Answered, access_at, cache_disabled_of, entry_of, first_of_load, first_of_store, hit_of, is_cached, keep_entry, load, physical, store, store_filling, store_hit, store_past, store_uncached, store_after};
+ghost use Rattle.mt_bus.specs.Parts.{answered, entry_in};
+ghost use Rattle.mt_judge.specs.Parts.{with_entry_in};
 ghost use Rattle.mt_judge.specs.Steps.{IsAccess};
 
-use crate::buffers::{combine, drain, drain_line};
+use crate::bus::Bus;
 use crate::cpu::Cpu;
-use crate::fills::fill_line;
 use crate::lines;
 use crate::ram::{read, write};
-use crate::snoops::{bus_read, invalidate, invalidate_others, write_back_others};
 use mt_cache::CacheLine;
 use mt_kinds::{LINE_BYTES, MemType, PAGE_BYTES, WORD_BYTES};
 use mt_machine::{Done, Op};
 use mt_ports::NoMemory;
-use mt_ram::Ram;
 use mt_tlb::{Entry, Mapping};
 
 const MOST_ENTRIES: usize = 64;
@@ -125,67 +122,6 @@ fn word_of(address: u64) -> u8
     (address % LINE_BYTES / WORD_BYTES) as u8
 }
 
-fn line_of(cpus: &[Cpu], k: usize, number: u64) -> Option<CacheLine>
-    requires { k < length cpus.now }
-    ensures { result ≡ find_line number (lines_in k cpus.now) }
-{
-    lines::find_line(cpus[k].lines(), number)
-}
-
-fn first_of_load(
-    layout: &Ram,
-    cpus: &mut [Cpu],
-    words: &mut [u64],
-    k: usize,
-    kind: MemType,
-    number: u64,
-)
-    requires { k < length cpus.old }
-    ensures { bus layout.now cpus.new words.new ≡ first_of_load kind k number (bus layout.now cpus.old words.old) }
-{
-    match kind {
-        MemType::UC => drain(layout, cpus, words, k),
-        MemType::WC | MemType::WT | MemType::WP | MemType::WB => drain_line(
-            layout, cpus, words, k, number,
-        ),
-    }
-}
-
-fn hit(cpus: &[Cpu], k: usize, kind: MemType, number: u64) -> Option<CacheLine>
-    requires { k < length cpus.now }
-    ensures { result ≡ hit_in kind k number cpus.now }
-{
-    if is_cached(kind) {
-        line_of(cpus, k, number)
-    } else {
-        None
-    }
-}
-
-fn load(
-    layout: &Ram,
-    cpus: &mut [Cpu],
-    words: &mut [u64],
-    k: usize,
-    kind: MemType,
-    address: u64,
-) -> Result<u64, NoMemory>
-    requires { k < length cpus.old }
-    ensures { IfOk result (λ v. (v, bus layout.now cpus.new words.new) ≡ load kind k address (bus layout.now cpus.old words.old)) }
-{
-    let number = address / LINE_BYTES;
-    first_of_load(layout, cpus, words, k, kind, number);
-    if let Some(line) = hit(cpus, k, kind, number) {
-        return Ok(line.words[word_of(address) as usize]);
-    }
-    bus_read(layout, cpus, words, number);
-    let v = read(layout, words, address);
-    if is_cached(kind) && !cpus[k].cd() {
-        fill_line(layout, cpus, words, k, number)?;
-    }
-    Ok(v)
-}
-
 fn write_in(cpu: &mut Cpu, number: u64, word: u8, v: u64, dirty: bool)
     requires { word < 8 }
     ensures { cpu.new ≡ with_lines (change_line number (write_word word v dirty)) cpu.old }
@@ -193,247 +129,223 @@ fn write_in(cpu: &mut Cpu, number: u64, word: u8, v: u64, dirty: bool)
     lines::write_word(cpu.lines.as_mut_slice(), number, word, v, dirty);
 }
 
-fn write_own(cpus: &mut [Cpu], k: usize, address: u64, v: u64, dirty: bool)
-    requires { k < length cpus.old }
-    ensures { cpus.new ≡ with_changed (with_lines (change_line (address / 64) (write_word (word_of address) v dirty))) k cpus.old }
-{
-    let cpu = &mut cpus[k];
-    write_in(cpu, address / LINE_BYTES, word_of(address), v, dirty);
-}
-
-fn first_of_store(
-    layout: &Ram,
-    cpus: &mut [Cpu],
-    words: &mut [u64],
-    k: usize,
-    kind: MemType,
-    number: u64,
-)
-    requires { k < length cpus.old }
-    ensures { bus layout.now cpus.new words.new ≡ first_of_store kind k number (bus layout.now cpus.old words.old) }
-{
-    match kind {
-        MemType::UC => drain(layout, cpus, words, k),
-        MemType::WC => {}
-        MemType::WT | MemType::WP | MemType::WB => drain_line(layout, cpus, words, k, number),
-    }
-}
-
-// A store that goes to memory past the own cache. No other cache keeps the line.
-fn store_past(layout: &Ram, cpus: &mut [Cpu], words: &mut [u64], k: usize, address: u64, v: u64)
-    ensures { bus layout.now cpus.new words.new ≡ store_past k address v (bus layout.now cpus.old words.old) }
-{
-    let number = address / LINE_BYTES;
-    bus_read(layout, cpus, words, number);
-    invalidate_others(cpus, k, number);
-    write(layout, words, address, v);
-}
-
-// A store after which no cache keeps the line.
-fn store_uncached(layout: &Ram, cpus: &mut [Cpu], words: &mut [u64], address: u64, v: u64)
-    ensures { bus layout.now cpus.new words.new ≡ store_uncached address v (bus layout.now cpus.old words.old) }
-{
-    let number = address / LINE_BYTES;
-    bus_read(layout, cpus, words, number);
-    invalidate(cpus, number);
-    write(layout, words, address, v);
-}
-
-// A store to write-back memory that hits a line.
-fn store_hit(layout: &Ram, cpus: &mut [Cpu], words: &mut [u64], k: usize, address: u64, v: u64)
-    requires { k < length cpus.old }
-    ensures { bus layout.now cpus.new words.new ≡ store_hit k address v (bus layout.now cpus.old words.old) }
-{
-    let number = address / LINE_BYTES;
-    write_back_others(layout, cpus, words, k, number);
-    invalidate_others(cpus, k, number);
-    write_own(cpus, k, address, v, true);
-}
-
-fn store_filling(
-    layout: &Ram,
-    cpus: &mut [Cpu],
-    words: &mut [u64],
-    k: usize,
-    address: u64,
-    v: u64,
-) -> Result<(), NoMemory>
-    requires { k < length cpus.old }
-    ensures { OnOk result (bus layout.now cpus.new words.new ≡ store_filling k address v (bus layout.now cpus.old words.old)) }
-{
-    let number = address / LINE_BYTES;
-    bus_read(layout, cpus, words, number);
-    invalidate_others(cpus, k, number);
-    fill_line(layout, cpus, words, k, number)?;
-    write_own(cpus, k, address, v, true);
-    Ok(())
-}
-
-fn store_back(
-    layout: &Ram,
-    cpus: &mut [Cpu],
-    words: &mut [u64],
-    k: usize,
-    address: u64,
-    v: u64,
-) -> Result<(), NoMemory>
-    requires { k < length cpus.old }
-    ensures { OnOk result (bus layout.now cpus.new words.new ≡ store_after MemType.WB k address v (bus layout.now cpus.old words.old)) }
-{
-    if line_of(cpus, k, address / LINE_BYTES).is_some() {
-        store_hit(layout, cpus, words, k, address, v);
-        Ok(())
-    } else if cpus[k].cd() {
-        store_past(layout, cpus, words, k, address, v);
-        Ok(())
-    } else {
-        store_filling(layout, cpus, words, k, address, v)
-    }
-}
-
-// A store to write-through memory.
-fn store_through(layout: &Ram, cpus: &mut [Cpu], words: &mut [u64], k: usize, address: u64, v: u64)
-    requires { k < length cpus.old }
-    ensures { bus layout.now cpus.new words.new ≡ store_after MemType.WT k address v (bus layout.now cpus.old words.old) }
-{
-    store_past(layout, cpus, words, k, address, v);
-    write_own(cpus, k, address, v, false);
-}
-
-// A store once the buffers that it empties are empty.
-fn store_after(
-    layout: &Ram,
-    cpus: &mut [Cpu],
-    words: &mut [u64],
-    k: usize,
-    kind: MemType,
-    address: u64,
-    v: u64,
-) -> Result<(), NoMemory>
-    requires { k < length cpus.old }
-    ensures { OnOk result (bus layout.now cpus.new words.new ≡ store_after kind k address v (bus layout.now cpus.old words.old)) }
-{
-    match kind {
-        MemType::UC | MemType::WP => {
-            store_uncached(layout, cpus, words, address, v);
-            Ok(())
+impl Bus<'_> {
+    fn is_cache_disabled(&self, k: usize) -> bool
+        ensures { result ≡ cache_disabled_of self.now k }
+    {
+        match self.cpus.get(k) {
+            Some(cpu) => cpu.cd(),
+            None => true,
         }
-        MemType::WC => combine(
-            layout,
-            cpus,
-            words,
-            k,
-            address / LINE_BYTES,
-            word_of(address),
-            v,
-        ),
-        MemType::WT => {
-            store_through(layout, cpus, words, k, address, v);
-            Ok(())
+    }
+
+    fn first_of_load(&mut self, k: usize, kind: MemType, number: u64)
+        ensures { self.new ≡ first_of_load kind k number self.old }
+    {
+        match kind {
+            MemType::UC => self.drain(k),
+            MemType::WC | MemType::WT | MemType::WP | MemType::WB => self.drain_line(k, number),
         }
-        MemType::WB => store_back(layout, cpus, words, k, address, v),
     }
-}
 
-fn store(
-    layout: &Ram,
-    cpus: &mut [Cpu],
-    words: &mut [u64],
-    k: usize,
-    kind: MemType,
-    address: u64,
-    v: u64,
-) -> Result<(), NoMemory>
-    requires { k < length cpus.old }
-    ensures { OnOk result (bus layout.now cpus.new words.new ≡ store kind k address v (bus layout.now cpus.old words.old)) }
-{
-    first_of_store(layout, cpus, words, k, kind, address / LINE_BYTES);
-    store_after(layout, cpus, words, k, kind, address, v)
-}
-
-// The entry of an address's page in the TLB of a processor, which is filled if there is none.
-fn translate_in(cpus: &mut [Cpu], k: usize, va: u64) -> Result<Option<Entry>, NoMemory>
-    requires { k < length cpus.old }
-    ensures { IfOk result (λ e. (e ≡ entry_in k va cpus.old) × (cpus.new ≡ with_entry_in (entry_in k va cpus.old) k cpus.old)) }
-{
-    let cpu = &mut cpus[k];
-    translate(cpu, va / PAGE_BYTES)
-}
-
-// The physical address of a virtual one by an entry, if memory has its word.
-fn physical(layout: &Ram, entry: &Entry, va: u64) -> Option<u64>
-    ensures { result ≡ (if is_some (place layout.now (physical entry.now va)) then Some (physical entry.now va) else None) }
-{
-    if entry.ppage >= PHYSICAL_PAGES {
-        let _ = layout.words(); // a fact for the proof
-        return None;
+    fn hit(&self, k: usize, kind: MemType, number: u64) -> Option<CacheLine>
+        ensures { result ≡ hit_of kind k number self.now }
+    {
+        if is_cached(kind) {
+            lines::find_line(self.lines(k), number)
+        } else {
+            None
+        }
     }
-    let address = PAGE_BYTES * entry.ppage + va % PAGE_BYTES;
-    if layout.place(address).is_some() {
-        Some(address)
-    } else {
-        None
+
+    fn load(&mut self, k: usize, kind: MemType, address: u64) -> Result<u64, NoMemory>
+        ensures { IfOk result (λ v. (v, self.new) ≡ load kind k address self.old) }
+    {
+        let number = address / LINE_BYTES;
+        self.first_of_load(k, kind, number);
+        if let Some(line) = self.hit(k, kind, number) {
+            return Ok(line.words[word_of(address) as usize]);
+        }
+        self.bus_read(number);
+        let v = read(self.layout, self.words.as_slice(), address);
+        if is_cached(kind) && !self.is_cache_disabled(k) {
+            self.fill_line(k, number)?;
+        }
+        Ok(v)
     }
-}
 
-fn load_at(
-    layout: &Ram,
-    cpus: &mut [Cpu],
-    words: &mut [u64],
-    k: usize,
-    va: u64,
-) -> Result<Done, NoMemory>
-    requires { k < length cpus.old }
-    ensures { IfOk result (λ done. IsAccess (bus layout.now cpus.old words.old) k (Op.Load va) done (bus layout.now cpus.new words.new)) }
-{
-    let Some(entry) = translate_in(cpus, k, va)? else {
-        return Ok(Done::Unmapped);
-    };
-    let Some(address) = physical(layout, &entry, va) else {
-        return Ok(Done::NoRam);
-    };
-    let v = load(layout, cpus, words, k, entry.kind, address)?;
-    Ok(Done::Value(v, entry.kind))
-}
+    /// Writes the word at an address to memory.
+    pub(crate) fn store_in_memory(&mut self, address: u64, v: u64)
+        ensures { self.new ≡ store_in_memory address v self.old }
+    {
+        write(self.layout, self.words.as_mut_slice(), address, v);
+    }
 
-fn store_at(
-    layout: &Ram,
-    cpus: &mut [Cpu],
-    words: &mut [u64],
-    k: usize,
-    va: u64,
-    v: u64,
-) -> Result<Done, NoMemory>
-    requires { k < length cpus.old }
-    ensures { IfOk result (λ done. IsAccess (bus layout.now cpus.old words.old) k (Op.Store va v) done (bus layout.now cpus.new words.new)) }
-{
-    let Some(entry) = translate_in(cpus, k, va)? else {
-        return Ok(Done::Unmapped);
-    };
-    let Some(address) = physical(layout, &entry, va) else {
-        return Ok(Done::NoRam);
-    };
-    store(layout, cpus, words, k, entry.kind, address, v)?;
-    Ok(Done::Stored(entry.kind))
-}
+    fn write_own(&mut self, k: usize, address: u64, v: u64, dirty: bool)
+        ensures { self.new ≡ change (with_lines (change_line (address / 64) (write_word (word_of address) v dirty))) k self.old }
+    {
+        if let Some(cpu) = self.cpus.get_mut(k) {
+            write_in(cpu, address / LINE_BYTES, word_of(address), v, dirty);
+        }
+    }
 
-/// One access of a processor, whatever its phase.
-pub(crate) fn access(
-    layout: &Ram,
-    cpus: &mut [Cpu],
-    words: &mut [u64],
-    k: usize,
-    op: Op,
-) -> Result<Done, NoMemory>
-    requires { k < length cpus.old }
-    ensures { IfOk result (λ done. IsAccess (bus layout.now cpus.old words.old) k op done (bus layout.now cpus.new words.new)) }
-{
-    match op {
-        Op::Load(va) => load_at(layout, cpus, words, k, va),
-        Op::Store(va, v) => store_at(layout, cpus, words, k, va, v),
-        Op::Fence => {
-            drain(layout, cpus, words, k);
-            Ok(Done::Fenced)
+    fn first_of_store(&mut self, k: usize, kind: MemType, number: u64)
+        ensures { self.new ≡ first_of_store kind k number self.old }
+    {
+        match kind {
+            MemType::UC => self.drain(k),
+            MemType::WC => {}
+            MemType::WT | MemType::WP | MemType::WB => self.drain_line(k, number),
+        }
+    }
+
+    // A store that goes to memory past the own cache. No other cache keeps the line.
+    fn store_past(&mut self, k: usize, address: u64, v: u64)
+        ensures { self.new ≡ store_past k address v self.old }
+    {
+        let number = address / LINE_BYTES;
+        self.bus_read(number);
+        self.invalidate_others(k, number);
+        self.store_in_memory(address, v);
+    }
+
+    // A store after which no cache keeps the line.
+    fn store_uncached(&mut self, address: u64, v: u64)
+        ensures { self.new ≡ store_uncached address v self.old }
+    {
+        let number = address / LINE_BYTES;
+        self.bus_read(number);
+        self.invalidate(number);
+        self.store_in_memory(address, v);
+    }
+
+    // A store to write-back memory that hits a line.
+    fn store_hit(&mut self, k: usize, address: u64, v: u64)
+        requires { k < length self.old.processors }
+        ensures { self.new ≡ store_hit k address v self.old }
+    {
+        let number = address / LINE_BYTES;
+        self.write_back_others(k, number);
+        self.invalidate_others(k, number);
+        self.write_own(k, address, v, true);
+    }
+
+    fn store_filling(&mut self, k: usize, address: u64, v: u64) -> Result<(), NoMemory>
+        ensures { OnOk result (self.new ≡ store_filling k address v self.old) }
+    {
+        let number = address / LINE_BYTES;
+        self.bus_read(number);
+        self.invalidate_others(k, number);
+        self.fill_line(k, number)?;
+        self.write_own(k, address, v, true);
+        Ok(())
+    }
+
+    fn store_back(&mut self, k: usize, address: u64, v: u64) -> Result<(), NoMemory>
+        ensures { OnOk result (self.new ≡ store_after MemType.WB k address v self.old) }
+    {
+        if lines::find_line(self.lines(k), address / LINE_BYTES).is_some() {
+            self.store_hit(k, address, v);
+            Ok(())
+        } else if self.is_cache_disabled(k) {
+            self.store_past(k, address, v);
+            Ok(())
+        } else {
+            self.store_filling(k, address, v)
+        }
+    }
+
+    // A store to write-through memory.
+    fn store_through(&mut self, k: usize, address: u64, v: u64)
+        ensures { self.new ≡ store_after MemType.WT k address v self.old }
+    {
+        self.store_past(k, address, v);
+        self.write_own(k, address, v, false);
+    }
+
+    // A store once the buffers that it empties are empty.
+    fn store_after(&mut self, k: usize, kind: MemType, address: u64, v: u64) -> Result<(), NoMemory>
+        ensures { OnOk result (self.new ≡ store_after kind k address v self.old) }
+    {
+        match kind {
+            MemType::UC | MemType::WP => self.store_uncached(address, v),
+            MemType::WC => self.combine(k, address / LINE_BYTES, word_of(address), v)?,
+            MemType::WT => self.store_through(k, address, v),
+            MemType::WB => self.store_back(k, address, v)?,
+        }
+        Ok(())
+    }
+
+    fn store(&mut self, k: usize, kind: MemType, address: u64, v: u64) -> Result<(), NoMemory>
+        ensures { OnOk result (self.new ≡ store kind k address v self.old) }
+    {
+        self.first_of_store(k, kind, address / LINE_BYTES);
+        self.store_after(k, kind, address, v)
+    }
+
+    // The entry of an address's page in the TLB of a processor, which is filled if there is none.
+    fn translate(&mut self, k: usize, va: u64) -> Result<Option<Entry>, NoMemory>
+        ensures { IfOk result (λ e. (e ≡ entry_in k va self.old.processors) × (self.new ≡ with_entry_in e k self.old)) }
+    {
+        let Some(cpu) = self.cpus.get_mut(k) else {
+            return Ok(None);
+        };
+        translate(cpu, va / PAGE_BYTES)
+    }
+
+    // The physical address of a virtual one by an entry, if memory has its word.
+    fn physical(&self, entry: &Entry, va: u64) -> Option<u64>
+        ensures { result ≡ (if is_some (place self.now.memory (physical entry.now va)) then Some (physical entry.now va) else None) }
+    {
+        if entry.ppage >= PHYSICAL_PAGES {
+            let _ = self.layout.words(); // a fact for the proof
+            return None;
+        }
+        let address = PAGE_BYTES * entry.ppage + va % PAGE_BYTES;
+        if self.layout.place(address).is_some() {
+            Some(address)
+        } else {
+            None
+        }
+    }
+
+    fn load_at(&mut self, k: usize, va: u64) -> Result<Done, NoMemory>
+        ensures { IfOk result (λ done. IsAccess self.old k (Op.Load va) done self.new) }
+    {
+        let Some(entry) = self.translate(k, va)? else {
+            return Ok(Done::Unmapped);
+        };
+        let Some(address) = self.physical(&entry, va) else {
+            return Ok(Done::NoRam);
+        };
+        let v = self.load(k, entry.kind, address)?;
+        Ok(Done::Value(v, entry.kind))
+    }
+
+    fn store_at(&mut self, k: usize, va: u64, v: u64) -> Result<Done, NoMemory>
+        ensures { IfOk result (λ done. IsAccess self.old k (Op.Store va v) done self.new) }
+    {
+        let Some(entry) = self.translate(k, va)? else {
+            return Ok(Done::Unmapped);
+        };
+        let Some(address) = self.physical(&entry, va) else {
+            return Ok(Done::NoRam);
+        };
+        self.store(k, entry.kind, address, v)?;
+        Ok(Done::Stored(entry.kind))
+    }
+
+    /// One access of a processor, whatever its phase.
+    pub(crate) fn access(&mut self, k: usize, op: Op) -> Result<Done, NoMemory>
+        ensures { IfOk result (λ done. IsAccess self.old k op done self.new) }
+    {
+        match op {
+            Op::Load(va) => self.load_at(k, va),
+            Op::Store(va, v) => self.store_at(k, va, v),
+            Op::Fence => {
+                self.drain(k);
+                Ok(Done::Fenced)
+            }
         }
     }
 }

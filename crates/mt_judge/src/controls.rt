@@ -1,19 +1,17 @@
-ghost use Rattle.std.specs.Prelude.{◌≡◌, ◌<◌, length, map, IfOk, OnOk, Some, nat_lt, true, slice_get, if◌then◌else◌};
+ghost use Rattle.std.specs.Prelude.{◌≡◌, ◌<◌, map, IfOk, OnOk, Some, nat_lt, true, slice_get, if◌then◌else◌};
 ghost use Rattle.std.specs.List.{list_all};
 ghost use Rattle.mt_tlb.specs.declared.mapping.Mapping.{Mapping};
 ghost use Rattle.mt_tlb.specs.Entries.{global_entries, is_full_for, is_mapped, maps_page, set_mapping, without_page};
-ghost use Rattle.mt_machine.specs.System.{Processor};
+ghost use Rattle.mt_machine.specs.System.{Processor, change};
 ghost use Rattle.mt_machine.specs.Control.{control_at, drop_page, reload_cr3, set_page_global};
-ghost use Rattle.mt_bus.specs.Parts.{ruled, system, with_changed};
-ghost use Rattle.mt_judge.specs.Parts.{bus, memory};
+ghost use Rattle.mt_bus.specs.Parts.{ruled};
 ghost use Rattle.mt_judge.specs.Steps.{HasIndex, IsControl, IsMapped, after_map, answer_to_map};
 
-use crate::buffers::drain;
+use crate::bus::Bus;
 use crate::cpu::Cpu;
 use mt_kinds::PAGE_BYTES;
 use mt_machine::{Control, Ruled};
 use mt_ports::NoMemory;
-use mt_ram::Ram;
 use mt_tlb::{Entry, Mapping};
 
 const MOST_MAPPINGS: usize = 64;
@@ -81,12 +79,6 @@ fn without_page(entries: &mut Vec<Entry>, vpage: u64)
     entries.retain(|e| e.vpage != vpage);
 }
 
-fn drop_page(cpu: &mut Cpu, vpage: u64)
-    ensures { cpu.new ≡ drop_page vpage cpu.old }
-{
-    without_page(&mut cpu.entries, vpage);
-}
-
 fn keep_global(entries: &mut Vec<Entry>)
     ensures { entries.new.items ≡ global_entries entries.old.items }
 {
@@ -109,84 +101,74 @@ fn set_pge(cpu: &mut Cpu, on: bool)
     }
 }
 
-/// One control instruction of a processor.
-pub(crate) fn control(
-    layout: &Ram,
-    cpus: &mut [Cpu],
-    words: &mut [u64],
-    k: usize,
-    c: Control,
-) -> Result<Ruled, NoMemory>
-    requires processor { k < length cpus.old }
-    requires index { HasIndex c }
-    ensures { IfOk result (λ r. IsControl (bus layout.now cpus.old words.old) k c r (bus layout.now cpus.new words.new)) }
-{
-    match c {
-        Control::Map(x) => return map_in(cpus, k, x),
-        Control::Invlpg(va) => {
-            drain(layout, cpus, words, k);
-            drop_page_in(cpus, k, va / PAGE_BYTES);
-        }
-        Control::Cr3 => {
-            drain(layout, cpus, words, k);
-            reload_cr3_in(cpus, k);
-        }
-        Control::Pge(on) => {
-            drain(layout, cpus, words, k);
-            set_pge_in(cpus, k, on);
-        }
-        Control::Cd(on) => {
-            drain(layout, cpus, words, k);
-            set_cd_in(cpus, k, on);
+impl Bus<'_> {
+    fn map(&mut self, k: usize, x: Mapping) -> Result<Ruled, NoMemory>
+        requires { x.index < 8 }
+        ensures answer { IfOk result (λ ruled. (p : Processor) → slice_get self.old.processors k ≡ Some p → ruled ≡ answer_to_map x p) }
+        ensures after { OnOk result (IsMapped x k self.old self.new) }
+    {
+        let Some(cpu) = self.cpus.get_mut(k) else {
+            return Ok(Ruled::Busy);
+        };
+        map(cpu, x)
+    }
+
+    fn drop_page(&mut self, k: usize, vpage: u64)
+        ensures { self.new ≡ change (drop_page vpage) k self.old }
+    {
+        if let Some(cpu) = self.cpus.get_mut(k) {
+            without_page(&mut cpu.entries, vpage);
         }
     }
-    Ok(Ruled::Okay)
-}
 
-fn set_cd(cpu: &mut Cpu, on: bool)
-    ensures { cpu.new ≡ record cpu.old { cache_disabled = on } }
-{
-    cpu.cd = on;
-}
+    fn reload_cr3(&mut self, k: usize)
+        ensures { self.new ≡ change reload_cr3 k self.old }
+    {
+        if let Some(cpu) = self.cpus.get_mut(k) {
+            reload_cr3(cpu);
+        }
+    }
 
-fn map_in(cpus: &mut [Cpu], k: usize, x: Mapping) -> Result<Ruled, NoMemory>
-    requires processor { k < length cpus.old }
-    requires index { x.index < 8 }
-    ensures answer { IfOk result (λ ruled. (p : Processor) → slice_get cpus.old k ≡ Some p → ruled ≡ answer_to_map x p) }
-    ensures after { OnOk result (IsMapped x k cpus.old cpus.new) }
-{
-    let cpu = &mut cpus[k];
-    map(cpu, x)
-}
+    fn set_pge(&mut self, k: usize, on: bool)
+        ensures { self.new ≡ change (set_page_global on) k self.old }
+    {
+        if let Some(cpu) = self.cpus.get_mut(k) {
+            set_pge(cpu, on);
+        }
+    }
 
-fn drop_page_in(cpus: &mut [Cpu], k: usize, vpage: u64)
-    requires { k < length cpus.old }
-    ensures { cpus.new ≡ with_changed (drop_page vpage) k cpus.old }
-{
-    let cpu = &mut cpus[k];
-    drop_page(cpu, vpage);
-}
+    fn set_cd(&mut self, k: usize, on: bool)
+        ensures { self.new ≡ change (λ p. record p { cache_disabled = on }) k self.old }
+    {
+        if let Some(cpu) = self.cpus.get_mut(k) {
+            cpu.cd = on;
+        }
+    }
 
-fn reload_cr3_in(cpus: &mut [Cpu], k: usize)
-    requires { k < length cpus.old }
-    ensures { cpus.new ≡ with_changed reload_cr3 k cpus.old }
-{
-    let cpu = &mut cpus[k];
-    reload_cr3(cpu);
-}
-
-fn set_pge_in(cpus: &mut [Cpu], k: usize, on: bool)
-    requires { k < length cpus.old }
-    ensures { cpus.new ≡ with_changed (set_page_global on) k cpus.old }
-{
-    let cpu = &mut cpus[k];
-    set_pge(cpu, on);
-}
-
-fn set_cd_in(cpus: &mut [Cpu], k: usize, on: bool)
-    requires { k < length cpus.old }
-    ensures { cpus.new ≡ with_changed (λ p. record p { cache_disabled = on }) k cpus.old }
-{
-    let cpu = &mut cpus[k];
-    set_cd(cpu, on);
+    /// One control instruction of a processor.
+    pub(crate) fn control(&mut self, k: usize, c: Control) -> Result<Ruled, NoMemory>
+        requires { HasIndex c }
+        ensures { IfOk result (λ r. IsControl self.old k c r self.new) }
+    {
+        match c {
+            Control::Map(x) => return self.map(k, x),
+            Control::Invlpg(va) => {
+                self.drain(k);
+                self.drop_page(k, va / PAGE_BYTES);
+            }
+            Control::Cr3 => {
+                self.drain(k);
+                self.reload_cr3(k);
+            }
+            Control::Pge(on) => {
+                self.drain(k);
+                self.set_pge(k, on);
+            }
+            Control::Cd(on) => {
+                self.drain(k);
+                self.set_cd(k, on);
+            }
+        }
+        Ok(Ruled::Okay)
+    }
 }

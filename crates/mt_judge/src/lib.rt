@@ -5,6 +5,7 @@
 
 mod accesses;
 mod buffers;
+mod bus;
 mod case;
 mod controls;
 mod counts;

@@ -28,7 +28,7 @@ each processor on the machine of mtrr, and writes what they leave wrong.
 Exit status:
   0  nothing is wrong
   1  something is wrong, a step isn't due, a list ends in the midst of an
-     update, or the search stopped
+     update, lists can't end, or the search stopped
   2  wrong usage
   3  the input is no case
   4  reading failed

@@ -4,7 +4,7 @@ use crate::case::{Ask, Input, Reason, Trouble};
 use crate::controls::map;
 use crate::cpu::{Cpu, copied};
 use crate::listing::{BARRIERS, VIRTUAL_END, instruction, step_of};
-use crate::moves::{Case, Procedure, State, aside};
+use crate::moves::{Case, Procedure, State};
 use crate::step::{ListPlace, ProcedureStep};
 use crate::words::{address, bad, count, count_in, is, is_end, shape, value};
 use mt_dump::{Dump, read_dump};
@@ -165,13 +165,10 @@ impl Reader {
         if k >= self.start.cpus.len() {
             return bad(words.place(1), Reason::OutOfRange);
         }
-        aside(
-            &self.case.layout,
-            self.start.cpus.as_mut_slice(),
-            self.start.words.as_mut_slice(),
-            k,
-            step,
-        )?;
+        let mut bus = self.start.take_bus(&self.case);
+        let done = bus.aside(k, step);
+        self.start.put_bus(bus);
+        done?;
         Ok(())
     }
 

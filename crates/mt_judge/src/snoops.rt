@@ -1,25 +1,16 @@
 ghost use Rattle.std.specs.Prelude.{◌≡◌, ◌<◌, length, map, if◌then◌else◌};
 ghost use Rattle.mt_cache.specs.Lines.{change_line, clean_line, without_line};
-ghost use Rattle.mt_machine.specs.Memory.{write_back_of};
-ghost use Rattle.mt_machine.specs.Bus.{bus_read, empty_buffer, others_from, with_lines, write_back_others};
-ghost use Rattle.mt_bus.specs.Parts.{system};
-ghost use Rattle.mt_judge.specs.Parts.{bus, memory};
+ghost use Rattle.mt_machine.specs.Memory.{write_back};
+ghost use Rattle.mt_machine.specs.Bus.{bus_read, empty_buffer, invalidate, invalidate_others, others_from, with_lines, write_back_others};
+ghost use Rattle.mt_bus.specs.Parts.{written_back};
+ghost use Rattle.mt_judge.specs.Parts.{memory};
 
+use crate::bus::Bus;
 use crate::cpu::Cpu;
 use crate::lines::{clean_line, drop_line};
 use crate::ram::{write_back, write_back_of};
 use mt_cache::CacheLine;
 use mt_ram::Ram;
-
-/// Reads a line on the bus: each cache's dirty words of it go to memory, and the copies stay.
-pub(crate) fn bus_read(layout: &Ram, cpus: &mut [Cpu], words: &mut [u64], number: u64)
-    ensures { bus layout.now cpus.new words.new ≡ bus_read number (bus layout.now cpus.old words.old) }
-{
-    for i in 0..cpus.len() {
-        write_back_of(layout, words, cpus[i].lines(), number);
-        clean_in(&mut cpus[i], number);
-    }
-}
 
 fn clean_in(cpu: &mut Cpu, number: u64)
     ensures { cpu.new ≡ with_lines (change_line number clean_line) cpu.old }
@@ -33,15 +24,6 @@ fn drop_in(cpu: &mut Cpu, number: u64)
     drop_line(&mut cpu.lines, number);
 }
 
-/// Drops the copies of a line in all caches.
-pub(crate) fn invalidate(cpus: &mut [Cpu], number: u64)
-    ensures { cpus.new ≡ map (with_lines (without_line number)) cpus.old }
-{
-    for i in 0..cpus.len() {
-        drop_in(&mut cpus[i], number);
-    }
-}
-
 // The own copy stays.
 fn drop_unless(cpu: &mut Cpu, number: u64, own: bool)
     ensures { cpu.new ≡ (if own then cpu.old else with_lines (without_line number) cpu.old) }
@@ -51,8 +33,32 @@ fn drop_unless(cpu: &mut Cpu, number: u64, own: bool)
     }
 }
 
-/// Drops the copies of a line in the caches of all processors but one.
-pub(crate) fn invalidate_others(cpus: &mut [Cpu], k: usize, number: u64)
+// Writes the dirty words of a line in these caches to memory.
+fn write_back_all(layout: &Ram, words: &mut [u64], cpus: &[Cpu], number: u64)
+    ensures { memory layout.now words.new ≡ written_back number (memory layout.now words.old) cpus.now }
+{
+    for i in 0..cpus.len() {
+        write_back_of(layout, words, cpus[i].lines(), number);
+    }
+}
+
+fn clean_all(cpus: &mut [Cpu], number: u64)
+    ensures { cpus.new ≡ map (with_lines (change_line number clean_line)) cpus.old }
+{
+    for i in 0..cpus.len() {
+        clean_in(&mut cpus[i], number);
+    }
+}
+
+fn drop_all(cpus: &mut [Cpu], number: u64)
+    ensures { cpus.new ≡ map (with_lines (without_line number)) cpus.old }
+{
+    for i in 0..cpus.len() {
+        drop_in(&mut cpus[i], number);
+    }
+}
+
+fn drop_others(cpus: &mut [Cpu], k: usize, number: u64)
     ensures { cpus.new ≡ others_from 0 k (with_lines (without_line number)) cpus.old }
 {
     for i in 0..cpus.len() {
@@ -60,35 +66,55 @@ pub(crate) fn invalidate_others(cpus: &mut [Cpu], k: usize, number: u64)
     }
 }
 
-fn write_back_unless(layout: &Ram, words: &mut [u64], lines: &[CacheLine], number: u64, own: bool)
-    ensures { memory layout.now words.new ≡ (if own then memory layout.now words.old else write_back_of number (memory layout.now words.old) lines.now) }
-{
-    if !own {
-        write_back_of(layout, words, lines, number);
+impl Bus<'_> {
+    /// Reads a line on the bus: each cache's dirty words of it go to memory, and the copies stay.
+    pub(crate) fn bus_read(&mut self, number: u64)
+        ensures { self.new ≡ bus_read number self.old }
+    {
+        let words = self.words.as_mut_slice();
+        write_back_all(self.layout, words, self.cpus.as_slice(), number);
+        clean_all(self.cpus.as_mut_slice(), number);
     }
-}
 
-/// Writes the dirty words of a line in the caches of all processors but one to memory.
-pub(crate) fn write_back_others(
-    layout: &Ram,
-    cpus: &[Cpu],
-    words: &mut [u64],
-    k: usize,
-    number: u64,
-)
-    requires { k < length cpus.now }
-    ensures { system cpus.now (memory layout.now words.new) ≡ write_back_others k number (system cpus.now (memory layout.now words.old)) }
-{
-    for i in 0..cpus.len() {
-        write_back_unless(layout, words, cpus[i].lines(), number, i == k);
+    /// Drops the copies of a line in all caches.
+    pub(crate) fn invalidate(&mut self, number: u64)
+        ensures { self.new ≡ invalidate number self.old }
+    {
+        drop_all(self.cpus.as_mut_slice(), number);
     }
-}
 
-/// Empties a buffer: its line is read on the bus and dropped by all caches, and its written words are stored in memory.
-pub(crate) fn empty_buffer(layout: &Ram, cpus: &mut [Cpu], words: &mut [u64], buffer: &CacheLine)
-    ensures { bus layout.now cpus.new words.new ≡ empty_buffer (bus layout.now cpus.old words.old) buffer.now }
-{
-    bus_read(layout, cpus, words, buffer.number);
-    invalidate(cpus, buffer.number);
-    write_back(layout, words, buffer);
+    /// Drops the copies of a line in the caches of all processors but one.
+    pub(crate) fn invalidate_others(&mut self, k: usize, number: u64)
+        ensures { self.new ≡ invalidate_others k number self.old }
+    {
+        drop_others(self.cpus.as_mut_slice(), k, number);
+    }
+
+    /// Writes the dirty words of a line in the caches of all processors but one to memory.
+    pub(crate) fn write_back_others(&mut self, k: usize, number: u64)
+        requires { k < length self.old.processors }
+        ensures { self.new ≡ write_back_others k number self.old }
+    {
+        let (before, _) = self.cpus.as_slice().split_at(k);
+        let (_, behind) = self.cpus.as_slice().split_at(k + 1);
+        let words = self.words.as_mut_slice();
+        write_back_all(self.layout, words, before, number);
+        write_back_all(self.layout, words, behind, number);
+    }
+
+    /// Writes the dirty words of a line to memory.
+    pub(crate) fn write_back(&mut self, line: &CacheLine)
+        ensures { self.new ≡ record self.old { memory = write_back self.old.memory line.now } }
+    {
+        write_back(self.layout, self.words.as_mut_slice(), line);
+    }
+
+    /// Empties a buffer: its line is read on the bus and dropped by all caches, and its written words are stored in memory.
+    pub(crate) fn empty_buffer(&mut self, buffer: &CacheLine)
+        ensures { self.new ≡ empty_buffer self.old buffer.now }
+    {
+        self.bus_read(buffer.number);
+        self.invalidate(buffer.number);
+        self.write_back(buffer);
+    }
 }
