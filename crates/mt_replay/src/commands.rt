@@ -280,44 +280,9 @@ pub(crate) fn ask_one(writer: &mut Writer, core: &mut Core, k: u32, ask: Ask)
     }
 }
 
-// Brings a processor up, where one may come, which stays blank.
-fn bring_up(core: &mut Core) -> Result<LineBuffer, NoMemory>
-    requires some { 0 < length core.old.system.processors }
-    requires room { HasEraRoom core.old }
-    ensures text { IfOk result (λ line. line.items ≡ newcomer_text core.old Newcomer.Up) }
-    ensures after { OnOk result (core.new ≡ after_newcomer core.old Newcomer.Up) }
-    ensures asks { OnErr result (may_come core.old ≡ true) }
-    ensures kept { OnErr result (core.new ≡ core.old) }
-{
-    a_core_arises(core); // a fact for the proof
-    match mt_admit::up(core) {
-        Ok(k) => Ok(up_line(k)),
-        Err(UpFault::UnderWay) => Ok(under_way_line()),
-        Err(UpFault::Full) => Ok(full_line()),
-        Err(UpFault::NoMemory) => Err(NoMemory),
-    }
-}
-
-// The same, and leads all through the newcomer's update.
-fn admit(core: &mut Core) -> Result<LineBuffer, NoMemory>
-    requires some { 0 < length core.old.system.processors }
-    requires room { HasEraRoom core.old }
-    ensures text { IfOk result (λ line. line.items ≡ newcomer_text core.old Newcomer.Join) }
-    ensures after { OnOk result (core.new ≡ after_newcomer core.old Newcomer.Join) }
-    ensures asks { OnErr result (may_come core.old ≡ true) }
-    ensures kept { OnErr result (core.new ≡ core.old) }
-{
-    a_core_arises(core); // a fact for the proof
-    match mt_admit::admit(core) {
-        Ok(k) => Ok(joined_line(k)),
-        Err(UpFault::UnderWay) => Ok(under_way_line()),
-        Err(UpFault::Full) => Ok(full_line()),
-        Err(UpFault::NoMemory) => Err(NoMemory),
-    }
-}
-
 /// Brings a processor in, where one may come. The line says so, or why none does. The error comes only
 /// where one may come and the allocator has no room; nothing then changes.
+#[tactic(auto, using(crate::proofs::Keeping::Moving::may_come_by))]
 pub(crate) fn bring_in(core: &mut Core, newcomer: Newcomer) -> Result<LineBuffer, NoMemory>
     requires some { 0 < length core.old.system.processors }
     requires room { HasEraRoom core.old }
@@ -326,9 +291,19 @@ pub(crate) fn bring_in(core: &mut Core, newcomer: Newcomer) -> Result<LineBuffer
     ensures asks { OnErr result (may_come core.old ≡ true) }
     ensures kept { OnErr result (core.new ≡ core.old) }
 {
-    match newcomer {
-        Newcomer::Up => bring_up(core),
-        Newcomer::Join => admit(core),
+    a_core_arises(core); // a fact for the proof
+    let came = match newcomer {
+        Newcomer::Up => mt_admit::up(core),
+        Newcomer::Join => mt_admit::admit(core),
+    };
+    match came {
+        Ok(k) => match newcomer {
+            Newcomer::Up => Ok(up_line(k)),
+            Newcomer::Join => Ok(joined_line(k)),
+        },
+        Err(UpFault::UnderWay) => Ok(under_way_line()),
+        Err(UpFault::Full) => Ok(full_line()),
+        Err(UpFault::NoMemory) => Err(NoMemory),
     }
 }
 

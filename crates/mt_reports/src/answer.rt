@@ -111,10 +111,15 @@ pub fn fit_answer(
     })
 }
 
-fn answer_of_diff(alloc: Global, report: &DiffReport<'_>, form: Form) -> Result<Answer, NoReport> {
+fn answer_of_diff(
+    alloc: Global,
+    report: &DiffReport<'_>,
+    cpus: Option<(u32, u32)>,
+    form: Form,
+) -> Result<Answer, NoReport> {
     let text = match form {
         Form::Json => json_line(alloc, report)?,
-        Form::Text => diff_text(alloc, report)?,
+        Form::Text => diff_text(alloc, report, cpus)?,
     };
     Ok(Answer {
         text,
@@ -131,7 +136,7 @@ pub fn diff_answer(
     form: Form,
 ) -> Result<Answer, NoReport> {
     let report = files_report(alloc, files, old, new)?;
-    answer_of_diff(alloc, &report, form)
+    answer_of_diff(alloc, &report, None, form)
 }
 
 /// What differs between two processors of a dump. Something is found if they differ. Fails with `NoProcessor` if it hasn't both.
@@ -143,7 +148,7 @@ pub fn diff_of_cpus_answer(
     form: Form,
 ) -> Result<Answer, NoReport> {
     match cpus_report(alloc, file, given, cpus)? {
-        Some(report) => answer_of_diff(alloc, &report, form),
+        Some(report) => answer_of_diff(alloc, &report, Some(cpus), form),
         None => Err(NoReport::NoProcessor(given.dump.files.len().saturating_sub(1))),
     }
 }

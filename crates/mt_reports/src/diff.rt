@@ -333,22 +333,17 @@ fn append_sides(text: &mut String, report: &DiffReport<'_>) -> Result<(), AllocE
     Ok(())
 }
 
-// Names both sides: files, or processors of one.
-fn append_names(text: &mut String, report: &DiffReport<'_>) -> Result<(), AllocError> {
-    match report.cpus.as_slice() {
-        [cpu] if cpu.old_cpu != cpu.new_cpu => write!(
-            text,
-            "{}: cpu {} and cpu {}",
-            report.old.file, cpu.old_cpu, cpu.new_cpu
-        ),
-        _ => write!(text, "{} and {}", report.old.file, report.new.file),
-    }
-}
-
-/// What a person reads of a report.
-pub fn diff_text(alloc: Global, report: &DiffReport<'_>) -> Result<String, AllocError> {
+/// What a person reads of a report on two dumps, or on these processors of one.
+pub fn diff_text(
+    alloc: Global,
+    report: &DiffReport<'_>,
+    cpus: Option<(u32, u32)>,
+) -> Result<String, AllocError> {
     let mut text = String::new(alloc);
-    append_names(&mut text, report)?;
+    match cpus {
+        Some((old, new)) => write!(text, "{}: cpu {old} and cpu {new}", report.old.file)?,
+        None => write!(text, "{} and {}", report.old.file, report.new.file)?,
+    }
     if !report.differ {
         text.push_str(": no difference\n")?;
         return Ok(text);
