@@ -1,10 +1,10 @@
 -- What a run of `proc` keeps to.
-use Rattle.std.proofs.Common.{◌≡◌, ◌∙◌, ap, sym, refl, subst, inl, inr, arith, ℕ, ◌<◌, nat_lt, true, List, [], length, Option, None, Some, Result, Ok, Err}
+use Rattle.std.proofs.Common.{◌≡◌, ◌∙◌, ap, sym, refl, subst, arith, ℕ, ◌<◌, nat_lt, true, List, [], length, Option, None, Some, Result, Ok, Err}
 use Rattle.std.specs.Prelude.{◌⊎◌}
 use Rattle.std.proofs.lemmas.Bool.Decides.{nat_tests}
 use Rattle.mt_ports.specs.declared.status.Failed.{Failed}
 use Rattle.mt_stream.specs.declared.ending.Stop.{Stop}
-use Rattle.mt_ports.specs.declared.status.Status.TheVariants.{BadText, Done}
+use Rattle.mt_ports.specs.declared.status.Status.TheVariants.{BadText}
 use Rattle.mt_text.specs.declared.place.Place.{Place}
 use Rattle.mt_dump.specs.Line.{fault_at as dump_fault_at}
 use Rattle.mt_dump.specs.declared.fault.DumpReason.TheVariants as dump_reason

@@ -1,4 +1,4 @@
-use Rattle.std.proofs.Common.{◌≡◌, ◌∙◌, ℕ, List, ap, arith, inl, length, refl, sym, subst, [], None, Some}
+use Rattle.std.proofs.Common.{◌≡◌, ◌∙◌, ℕ, List, ap, arith, length, sym, subst, [], None, Some}
 use Rattle.std.proofs.lemmas.List.{length-map}
 use Rattle.mt_stream.specs.declared.ending.Stop.TheVariants.{NoMemory, Refused}
 use Rattle.mt_regs.specs.RegisterFile.{RegisterFile}
