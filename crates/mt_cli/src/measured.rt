@@ -3,7 +3,6 @@ ghost use Rattle.std.specs.Prelude.{◌≡◌, ◌<◌, ◌≤◌, [], IfOk, Non
 ghost use Rattle.std.specs.List.{All, fold};
 ghost use Rattle.mt_machine.specs.Machine.{FitsGoal, FitsOp};
 ghost use Rattle.mt_machine.specs.Start.{start_machine};
-ghost use Rattle.mt_core.specs.Arises.{grown};
 ghost use Rattle.mt_core.specs.Rounds.{ascending};
 ghost use Rattle.mt_private.specs.declared.job.Part.TheVariants.{Before, After};
 ghost use Rattle.mt_private.specs.Jobs.{FitsJob, answers_in, ops_in};
@@ -19,8 +18,9 @@ use mt_machine::{Control, Done, Op};
 use mt_output::{LineBuffer, append, append_value};
 use mt_ports::{Gate, NoMemory};
 use mt_private::{Caller, Job, JobAnswers, Part, PrivateFault, run_private_with};
-use mt_ram::{Ram, RamFault};
+use mt_ram::Ram;
 use mt_regs::{RegFile, Register};
+use mt_replay::add_window;
 use mt_tlb::Mapping;
 use std::alloc::Global;
 use std::sync::Wait;
@@ -161,20 +161,7 @@ fn own_page(k: u32) -> Mapping
     }
 }
 
-// Adds the window of processor k. Fails only if an allocation fails.
-fn add_own_window(core: &mut Core, k: u32) -> Result<(), NoMemory>
-    requires few { k < 16 }
-    requires room { refusal core.old.system.memory.windows (own_window k) ≡ None }
-    ensures { OnOk result (core.new ≡ grown (own_window k) core.old) }
-{
-    match core.add_ram(0x10_0000 * k as u64, 64) {
-        Ok(()) => Ok(()),
-        Err(RamFault::NoMemory) => Err(NoMemory),
-        Err(_) => unreachable!(),
-    }
-}
-
-// The window and the mapping of processor k.
+// Adds the window and the mapping of processor k. Fails only if an allocation fails.
 fn add_own(core: &mut Core, k: u32) -> Result<(), NoMemory>
     requires processor { k < length core.old.system.processors }
     requires few { k < 16 }
@@ -182,7 +169,7 @@ fn add_own(core: &mut Core, k: u32) -> Result<(), NoMemory>
     requires room { refusal core.old.system.memory.windows (own_window k) ≡ None }
     ensures added { OnOk result (core.new ≡ with_own core.old k) }
 {
-    let Ok(()) = add_own_window(core, k) else {
+    let Ok(()) = add_window(core, 0x10_0000 * k as u64, 64) else {
         return Err(NoMemory);
     };
     core.control(k, Control::Map(own_page(k)));

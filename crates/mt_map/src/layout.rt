@@ -63,7 +63,12 @@ fn title_width(title: Option<&[u8]>) -> u64 {
 }
 
 /// Where the parts of a picture stand whose rows end at this bottom.
-pub(crate) fn layout(f: &RegFile, others: &[RegFile], title: Option<&[u8]>, bottom: u64) -> Layout
+pub(crate) fn layout_of(
+    f: &RegFile,
+    others: &[RegFile],
+    title: Option<&[u8]>,
+    bottom: u64,
+) -> Layout
     requires { bottom ≤ 2 ^ 50 }
 {
     let first_bar = if others.is_empty() { 442 } else { 566 };

@@ -9,7 +9,7 @@ use crate::edges::cuts;
 use crate::heading::{
     append_files, append_headline, append_heads, append_keys, caption_text, verdict_text,
 };
-use crate::layout::{Layout, layout};
+use crate::layout::{Layout, layout_of};
 use crate::rows::append_rows;
 use crate::shaping::shapes;
 use crate::stack::{Stack, bands};
@@ -102,7 +102,7 @@ pub fn picture_text(
     requires bottom { picture.now.stack.bottom ≤ 2 ^ 50 }
     requires placed { All IsPlaced picture.now.stack.bands.items }
 {
-    let layout = layout(f, others, legend.title, picture.stack.bottom);
+    let layout = layout_of(f, others, legend.title, picture.stack.bottom);
     let body = body_text(alloc, legend.names, (f, others), &layout, picture)?;
     let mut text = head_text(alloc, &layout)?.into_bytes();
     text.extend_from_slice(caption_text(alloc, legend.title)?.as_slice())?;

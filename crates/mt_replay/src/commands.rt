@@ -217,7 +217,7 @@ pub(crate) fn register(writer: &mut Writer, core: &Core, k: u32, msr: u32)
 
 /// A window for which there is room. It has no line. The error comes only where the allocator has none; nothing
 /// then changes.
-pub(crate) fn add_window(core: &mut Core, base: u64, lines: u32) -> Result<(), NoMemory>
+pub fn add_window(core: &mut Core, base: u64, lines: u32) -> Result<(), NoMemory>
     requires some { 0 < lines }
     requires few { lines ≤ most_lines }
     requires end { base + 64 * lines ≤ 2 ^ 52 }

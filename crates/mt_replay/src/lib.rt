@@ -9,6 +9,7 @@ mod running;
 mod summing;
 mod texts;
 
+pub use commands::add_window;
 pub use replayer::Replayer;
 pub use running::{replay, replay_with};
 pub use summing::{Totals, summary, summary_with};
