@@ -12,7 +12,7 @@ use Rattle.mt_gran.proofs.GranuleSizes.{size_is}
 use Rattle.mt_answers.specs.declared.command.Command.{Command}
 use Rattle.mt_answers.specs.declared.command.Command.TheVariants.{Serial, Threaded}
 use Rattle.mt_answers.specs.declared.command.SerialCommand.{SerialCommand}
-use Rattle.mt_answers.specs.declared.command.SerialCommand.TheVariants.{Make}
+use Rattle.mt_answers.specs.declared.command.SerialCommand.TheVariants.{Make, Help, Version}
 use Rattle.mt_answers.specs.declared.command.ThreadedCommand.{ThreadedCommand}
 use Rattle.mt_answers.specs.declared.command.ThreadedCommand.TheVariants.{Replay, Proc, Big, Private}
 use Rattle.mt_answers.specs.declared.command.DumpCommand.{DumpCommand}

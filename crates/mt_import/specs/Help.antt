@@ -1,6 +1,6 @@
 -- The texts of `--help` and `--version` (own).
 --     own_text words      the text of these words, where they are one of the two
-use Rattle.std.specs.Prelude.{ℕ, List, [], ◌∷◌, codes, flat_map, if◌then◌else◌, Option, None}
+use Rattle.std.specs.Prelude.{ℕ, List, [], ◌∷◌, codes, flat_map, if◌then◌else◌, Option, Some, None}
 use Rattle.mt_output.specs.Lines.{line}
 use Rattle.mt_import.specs.Pieces.{is_text}
 
