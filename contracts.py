@@ -108,10 +108,12 @@ def exported_functions(top):
 
 
 def invariants_in(top, crate):
-    """Each type of a crate that keeps an invariant, with the predicates of it, or with its text where it has none."""
+    """Each public type of a crate that keeps an invariant, with the predicates of it, or with its text where it has none."""
     for path in sorted((pathlib.Path(top) / "crates" / crate / "src").glob("**/*.rt")):
         source = path.read_text(encoding="utf-8")
         for name, body in re.findall(r"^impl(?:<[^{]*?>)? Model for (\w+).*?\{\n(.*?)^}", source, re.M | re.S):
+            if re.search(rf"^pub\(crate\) (?:struct|enum) {name}\b", source, re.M):
+                continue
             for text in re.findall(r"ghost invariant = \{ (?:λ \w+\. )?(.*?) \};", body, re.S):
                 text = " ".join(text.split())
                 yield name, " ".join(f"`{word}`" for word in dict.fromkeys(re.findall(r"[A-Z]\w+", text))) or f"`{text}`"

@@ -180,7 +180,7 @@ struct mtrr_work {
 
 /* What a rounding to granules loses. */
 struct mtrr_loss {
-    uint64_t pages; /* how many pages had WB and have UC now */
+    uint64_t pages; /* how many pages had WB and get UC */
     uint64_t parts; /* how many parts lose a type */
 };
 
@@ -349,7 +349,7 @@ uint32_t mtrr_tidy(const struct mtrr_registers *registers, uint8_t spare,
  * keep their types, and break no granule. `spare`, `chunk` and the pairs are
  * as for mtrr_tidy.
  *
- * A part is a run of pages of one type other than UC that have UC now. Parts
+ * A part is a run of pages of one type other than UC that get UC. Parts
  * are as long as may be and ascend; they go into `parts`, which has room for
  * `room` of them, and their number into loss->parts. MTRR_MAX_PARTS of them
  * always suffice.

@@ -107,8 +107,8 @@ pub extern "C" fn mtrr_due(
 }
 
 /// Books a step that was carried out: what the barriers count, where the processor stands, and whether it is through.
-/// Returns 0 if the step is the one that is due: update and processor are then changed. Else both are as before:
-/// returns 12, or 8 if there is no such phase or word of the coordinator's, or a flag is above 1.
+/// Returns 0 if the step is the one that is due and the counts have room: update and processor are then changed. Else
+/// both are as before: returns 12, or 8 if there is no such phase or word of the coordinator's, or a flag is above 1.
 #[unsafe(no_mangle)]
 pub extern "C" fn mtrr_did(
     update: &mut PlainUpdate,

@@ -54,8 +54,8 @@ fn finished_after(event: Event, before: u8) -> u8
 }
 
 /// Books a step that was carried out: what the barriers count, where the processor stands, and whether it is through.
-/// Returns 0 if the step is the one that is due: update and processor are then changed. Else both are as before:
-/// returns 12, or 8 if there is no such phase or word of the coordinator's, or a flag is above 1.
+/// Returns 0 if the step is the one that is due and the counts have room: update and processor are then changed. Else
+/// both are as before: returns 12, or 8 if there is no such phase or word of the coordinator's, or a flag is above 1.
 pub fn did(u: &mut PlainUpdate, p: &mut PlainProcessor, step: &PlainStep) -> u32
     ensures update { u.new ≡ (kept u.old p.old step.now).update }
     ensures processor { p.new ≡ (kept u.old p.old step.now).processor }

@@ -1,4 +1,4 @@
--- What each step of a seat of a yard tells: its view before and after, and the event that it is. `Tells` has all of them.
+-- What each step of a seat of a yard tells: its view before and after, and the event that it is. `TellsYardStep` has all of them.
 use Rattle.std.specs.Prelude.{◌≡◌, ◌≢◌, ◌⊎◌, ℕ, zero, suc, ◌+◌, ◌%◌, ◌^◌, ◌<◌, ◌≤◌, ◌==◌, Bool, true, false, List, [], ◌∷◌, if◌then◌else◌, length, Option, None, Some}
 use mathlib.Core.Option.{Option as Spoken, none, some}
 use lib.ListN.{get_elem?}

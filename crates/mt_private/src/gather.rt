@@ -57,7 +57,8 @@ fn word_if(is_named: bool, word: u64) -> u64
     if is_named { word } else { 0 }
 }
 
-// Copies the words of the pages that the processor names. Words of one page lie together, so it asks once a page.
+// Copies the words of the pages that the processor names. Most words follow one of the same page, so it asks only where the
+// page changes.
 fn copy_words(cpu: &Cpu, ram: &Ram, own: &mut Ram)
     requires blank { own.old ≡ record ram.now { words = replicate (length ram.now.words) 0 } }
     ensures { own.new ≡ own_memory (pages_of cpu.now) ram.now }

@@ -36,7 +36,7 @@ impl TableRule<Op, YardView, Key> for Lodging {
 }
 
 /// A step of a seat: it is one event, or none. No other play stands beside it, so the steps of a yard are those that
-/// `Tells` has.
+/// `TellsYardStep` has.
 ///
 /// The root adds 1 to the first count, which is Go, or 2^32, which is Cancel. A pass loads that count to take, adds 1 to
 /// arrive, and loads it to pass or leave. It stores its event word for each event that is due between the barriers, and

@@ -215,8 +215,7 @@ pub(crate) fn register(writer: &mut Writer, core: &Core, k: u32, msr: u32)
     writer.append(register_line(msr, value).as_slice());
 }
 
-/// A window for which there is room. It has no line. The error comes only where the allocator has none; nothing
-/// then changes.
+/// Adds a window for which there is room, and writes nothing. Fails only if an allocation fails; nothing then changes.
 pub fn add_window(core: &mut Core, base: u64, lines: u32) -> Result<(), NoMemory>
     requires some { 0 < lines }
     requires few { lines ≤ most_lines }
@@ -280,8 +279,8 @@ pub(crate) fn ask_one(writer: &mut Writer, core: &mut Core, k: u32, ask: Ask)
     }
 }
 
-/// Brings a processor in, where one may come. The line says so, or why none does. The error comes only
-/// where one may come and the allocator has no room; nothing then changes.
+/// Brings a processor in if one may come. The line says so, or why none does. Fails only if one may come and an
+/// allocation fails; nothing then changes.
 #[tactic(auto, using(crate::proofs::Keeping::Moving::may_come_by))]
 pub(crate) fn bring_in(core: &mut Core, newcomer: Newcomer) -> Result<LineBuffer, NoMemory>
     requires some { 0 < length core.old.system.processors }

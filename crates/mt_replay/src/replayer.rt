@@ -225,7 +225,7 @@ impl Replayer {
         self.setup.accept(c);
     }
 
-    /// Adds a window of memory, which has no line. Fails only if an allocation fails; nothing then changes.
+    /// Adds a window of memory, and writes nothing. Fails only if an allocation fails; nothing then changes.
     #[inline(never)]
     pub fn add_window(&mut self, base: u64, lines: u32) -> Result<(), NoMemory>
         requires fits { Fits self.old.now (Command.Ram base lines) }
@@ -237,8 +237,8 @@ impl Replayer {
         Ok(())
     }
 
-    /// Brings a processor in, where one may come, and returns the line that says so, or why none does. The
-    /// error comes only where one may come and the allocator has no room; nothing then changes.
+    /// Brings a processor in if one may come, and returns the line that says so, or why none does. Fails only if one may
+    /// come and an allocation fails; nothing then changes.
     #[inline(never)]
     pub fn bring_in(&mut self, newcomer: Newcomer) -> Result<LineBuffer, NoMemory>
         requires fits { Fits self.old.now (Command.Newcomer newcomer) }

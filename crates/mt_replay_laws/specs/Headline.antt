@@ -3,7 +3,7 @@
 -- every processor holds those register values, no cache, buffer or TLB entry is older than the update, and memory holds every store
 -- cached before it, save words stored again since. A refused update changes no processor."
 --     IsCall step      the step says `called` or `complete E`, or that a processor came up or joined
---     Keeps goal era value stored m      every processor has the goal, nothing is older than the update, memory has each word
+--     KeepsUpdate goal era value stored m      every processor has the goal, nothing is older than the update, memory has each word
 --     CompleteUpdatesAreKept, JoinsAreKept, ReleasedUpdatesAreKept      the machine does so from the line `complete E`, `joined K` or `release` on
 use Rattle.std.specs.Prelude.{ℕ, ◌≡◌, ◌<◌, ◌⊎◌, ◌↔◌, ◌+◌, Bool, true, List, [], ◌∷◌, ◌++◌, codes, length, IsSome, ⊤, Option, Some, None, Ok}
 use Rattle.std.specs.List.{All, Contains}
