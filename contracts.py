@@ -63,7 +63,7 @@ def functions_of(path, crate, file):
                 break
             if not piece.strip().startswith("//"):
                 text.append(piece.strip())
-            if piece.endswith(";") or (piece.endswith(" {") and len(text) == 1):
+            if piece.endswith(";") or (piece.endswith(" {") and (len(text) == 1 or piece.startswith(")"))):
                 break
         parts = re.split(r" (?=(?:ensures|requires)\b)", " ".join(" ".join(text).removesuffix("{").split()))
         yield Function(crate, file, owner, head.group(3), doc_above(lines, place), parts, is_law(body))
