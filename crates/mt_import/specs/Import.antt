@@ -92,8 +92,8 @@ pub data ImportsApart (words : List (List ℕ)) (source : Held) (out errors : Po
   unread : out.new ≡ out.old → errors.new ≡ errors.old → IsUnread source.bytes result → ImportsApart words source out errors result
 
 -- the same where the arguments may have found no memory: then nothing is read or written
-abbrev pub Runs : List (List ℕ) → Held → Port → Port → Status → Type 0
-Runs words source out errors result =
+abbrev pub RunsImport : List (List ℕ) → Held → Port → Port → Status → Type 0
+RunsImport words source out errors result =
     ImportsApart words source out errors result ⊎ ((result ≡ NoMemory) × (source.left ≡ Some source.bytes) × (out.new ≡ out.old) × (errors.new ≡ errors.old))
 
 -- A source and two sinks are as before.

@@ -6,7 +6,7 @@ ghost use Rattle.mt_ports.specs.Exit.{code};
 ghost use Rattle.mt_text.specs.Feed.{GaveTooMuch};
 ghost use Rattle.mt_output.specs.Ports.{change, held, port};
 ghost use Rattle.mt_output.specs.Program.{Exits, words_of};
-ghost use Rattle.mt_import.specs.Import.{AreUnused, HaveCause, Runs};
+ghost use Rattle.mt_import.specs.Import.{AreUnused, HaveCause, RunsImport};
 
 use crate::import_apart;
 use mt_output::{exit_code, words_behind_name};
@@ -25,7 +25,7 @@ fn run<R: AllocGlobal, S: Source, K: Sink, E: Sink>(
     errors: &mut E,
 ) -> Status
     ensures runs { (bytes : List ℕ) → S.left source.old ≡ Some bytes →
-        Runs (words_of args) (held bytes (S.left source.new)) (port K.taken sink.old sink.new) (port E.taken errors.old errors.new) result }
+        RunsImport (words_of args) (held bytes (S.left source.new)) (port K.taken sink.old sink.new) (port E.taken errors.old errors.new) result }
     ensures alone { result ≢ Status.Done → result ≢ Status.WriteFault → sink.new ≡ sink.old }
     ensures read_fault { StatusHasCause Status.ReadFault (S.faults source.old) (S.faults source.new) result }
     ensures write_fault { HaveCause (change (K.faults sink.old) (K.faults sink.new)) (change (E.faults errors.old) (E.faults errors.new)) result }
@@ -53,7 +53,7 @@ pub fn program_status<R: AllocGlobal, S: Source, K: Sink, E: Sink>(
     errors: &mut E,
 ) -> ExitCode
     ensures runs { (bytes : List ℕ) → S.left source.old ≡ Some bytes →
-        Exits result (Runs (words_of args) (held bytes (S.left source.new)) (port K.taken sink.old sink.new) (port E.taken errors.old errors.new)) }
+        Exits result (RunsImport (words_of args) (held bytes (S.left source.new)) (port K.taken sink.old sink.new) (port E.taken errors.old errors.new)) }
     ensures alone { Exits result (λ status. status ≢ Status.Done → status ≢ Status.WriteFault → sink.new ≡ sink.old) }
     ensures read_fault { Exits result (StatusHasCause Status.ReadFault (S.faults source.old) (S.faults source.new)) }
     ensures write_fault { Exits result (HaveCause (change (K.faults sink.old) (K.faults sink.new)) (change (E.faults errors.old) (E.faults errors.new))) }

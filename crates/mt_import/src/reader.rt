@@ -503,8 +503,8 @@ impl LogReader {
         self.context
     }
 
-    // What the lines that were taken lead to.
-    fn lead_to(&mut self, context: Context)
+    // Sets the context that the lines so far lead to.
+    fn set_context(&mut self, context: Context)
         ensures taken { (seen : Seen) → HasTakenFacts self.old seen → HasTakenFacts self.new seen }
         ensures context { self.new.context ≡ context }
     {
@@ -543,7 +543,7 @@ impl LogReader {
         let said = said_in(format, line);
         match self.take_in(supplied, line.number, format, &said) {
             Ok(()) => {
-                self.lead_to(before.after(format, &said));
+                self.set_context(before.after(format, &said));
                 Ok(())
             }
             Err(fault) => Err(fault),

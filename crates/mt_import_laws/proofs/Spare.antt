@@ -104,12 +104,12 @@ tallied (line ∷ lines) context number seen is =
 abbrev quiet : Context → Context
 quiet context = record { format = context.format; announced = None; processor = context.processor; table = context.table; fixed = context.fixed }
 
-record IsQuiet (context : Context) (format : Option Format) (said : LineSays) : Type 0 where
+record SaysNothing (context : Context) (format : Option Format) (said : LineSays) : Type 0 where
   facts : said_facts (quiet context) said ≡ said_facts context said
   behind : context_after (quiet context) format said ≡ context_after context format said
 
 -- What is no value doesn't ask for the call.
-no_value : (context : Context) (format : Option Format) (said : LineSays) → ((value : ℕ) (place : Place) → said ≢ Value value place) → IsQuiet context format said
+no_value : (context : Context) (format : Option Format) (said : LineSays) → ((value : ℕ) (place : Place) → said ≢ Value value place) → SaysNothing context format said
 no_value context format Nothing other = record { facts = refl; behind = refl }
 no_value context format (Announces processor number) other = record { facts = refl; behind = refl }
 no_value context format (Value value place) other = absurd (other value place refl)

@@ -3,13 +3,13 @@ ghost use Rattle.mt_web.specs.Answering.{AnswersFor};
 ghost use Rattle.mt_web.specs.Words.{words_in};
 
 use crate::ports::{ByteSource, TextSink};
-use crate::told::{Told, ended, no_memory, threaded};
+use crate::told::{PageText, ended, no_memory, threaded};
 use crate::words::words_in;
 use mt_answers::{Command, command_of, run_serial, wrong_usage};
 use std::alloc::Global;
 
 // What these words come to.
-fn answered_by(alloc: Global, words: &[String], input: &[u8]) -> Told
+fn answered_by(alloc: Global, words: &[String], input: &[u8]) -> PageText
     ensures { AnswersFor (map string_bytes words.now) input.now result.text.items result.number }
 {
     let mut source = ByteSource::new(input);
@@ -28,7 +28,7 @@ fn answered_by(alloc: Global, words: &[String], input: &[u8]) -> Told
 }
 
 /// What the words in a text come to.
-pub(crate) fn answered(alloc: Global, words: &[u8], input: &[u8]) -> Told
+pub(crate) fn answered(alloc: Global, words: &[u8], input: &[u8]) -> PageText
     ensures { AnswersFor (words_in words.now) input.now result.text.items result.number }
 {
     match words_in(alloc, words) {

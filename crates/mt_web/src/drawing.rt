@@ -3,13 +3,13 @@ ghost use Rattle.mt_web.specs.Drawing.{DrawsFor};
 ghost use Rattle.mt_web.specs.Words.{words_in};
 
 use crate::ports::{ByteSource, TextSink};
-use crate::told::{Told, ended, no_memory};
+use crate::told::{PageText, ended, no_memory};
 use crate::words::words_in;
 use mt_map::{asked_by, labels_of, map};
 use std::alloc::Global;
 
 // The picture of a dump, or what else these words ask for.
-fn drawn_by(alloc: Global, words: &[String], input: &[u8]) -> Told
+fn drawn_by(alloc: Global, words: &[String], input: &[u8]) -> PageText
     ensures { DrawsFor (map string_bytes words.now) input.now result.text.items result.number }
 {
     let mut source = ByteSource::new(input);
@@ -25,7 +25,7 @@ fn drawn_by(alloc: Global, words: &[String], input: &[u8]) -> Told
 }
 
 /// The picture of a dump, or what else the words in a text ask for.
-pub(crate) fn drawn(alloc: Global, words: &[u8], input: &[u8]) -> Told
+pub(crate) fn drawn(alloc: Global, words: &[u8], input: &[u8]) -> PageText
     ensures { DrawsFor (words_in words.now) input.now result.text.items result.number }
 {
     match words_in(alloc, words) {

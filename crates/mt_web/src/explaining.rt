@@ -1,4 +1,4 @@
-use crate::told::{Told, no_memory};
+use crate::told::{PageText, no_memory};
 use crate::words::words_in;
 use mt_reports::{
     Answer, Form, Given, NoReport, diff_answer, diff_of_cpus_answer, faults_answer, fit_answer,
@@ -142,9 +142,9 @@ fn answer<'a>(
     }
 }
 
-fn trouble_told(alloc: Global, trouble: &Trouble<'_>) -> Told {
+fn trouble_told(alloc: Global, trouble: &Trouble<'_>) -> PageText {
     match format!(in alloc; "{}: {}\n", trouble.file, trouble.why) {
-        Ok(text) => Told {
+        Ok(text) => PageText {
             text: text.into_bytes(),
             number: TROUBLE,
         },
@@ -152,9 +152,9 @@ fn trouble_told(alloc: Global, trouble: &Trouble<'_>) -> Told {
     }
 }
 
-fn told_of(alloc: Global, answer: Result<Answer, Trouble<'_>>) -> Told {
+fn told_of(alloc: Global, answer: Result<Answer, Trouble<'_>>) -> PageText {
     match answer {
-        Ok(answer) => Told {
+        Ok(answer) => PageText {
             text: answer.text.into_bytes(),
             number: if answer.found { 1 } else { 0 },
         },
@@ -168,9 +168,9 @@ fn told_of(alloc: Global, answer: Result<Answer, Trouble<'_>>) -> Told {
     }
 }
 
-fn usage_told(alloc: Global) -> Told {
+fn usage_told(alloc: Global) -> PageText {
     match Vec::from_slice(alloc, b"usage\n") {
-        Ok(text) => Told {
+        Ok(text) => PageText {
             text,
             number: TROUBLE,
         },
@@ -179,7 +179,7 @@ fn usage_told(alloc: Global) -> Told {
 }
 
 /// The report that the words in a text ask for, as JSON, about one input or two.
-pub(crate) fn explained(alloc: Global, words: &[u8], first: &[u8], second: &[u8]) -> Told {
+pub(crate) fn explained(alloc: Global, words: &[u8], first: &[u8], second: &[u8]) -> PageText {
     let Ok(words) = words_in(alloc, words) else {
         return no_memory(alloc);
     };

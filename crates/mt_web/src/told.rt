@@ -14,19 +14,19 @@ const ON_THREADS: u32 = 65;
 
 /// A text, and the number that a call returns with it.
 #[derive(Drop)]
-pub(crate) struct Told {
+pub(crate) struct PageText {
     pub text: Vec<u8>,
     pub number: u32,
 }
 
 /// What a run comes to that ends with this status.
-pub(crate) fn ended(alloc: Global, status: Status, sink: TextSink) -> Told
+pub(crate) fn ended(alloc: Global, status: Status, sink: TextSink) -> PageText
     ensures text { result.text.items ≡ told_text status sink.text.items }
     ensures number { result.number ≡ told_number status }
 {
     match status {
         Status::WriteFault => no_memory(alloc),
-        _ => Told {
+        _ => PageText {
             text: sink.text,
             number: status.code() as u32,
         },
@@ -34,27 +34,27 @@ pub(crate) fn ended(alloc: Global, status: Status, sink: TextSink) -> Told
 }
 
 /// What a run comes to for which there is no memory.
-pub(crate) fn no_memory(alloc: Global) -> Told
+pub(crate) fn no_memory(alloc: Global) -> PageText
     ensures { (result.text.items ≡ []) × (result.number ≡ code NoMemory) }
 {
-    Told {
+    PageText {
         text: Vec::new(alloc),
         number: Status::NoMemory.code() as u32,
     }
 }
 
 /// What a command comes to that runs on threads.
-pub(crate) fn threaded(alloc: Global) -> Told
+pub(crate) fn threaded(alloc: Global) -> PageText
     ensures { (result.text.items ≡ []) × (result.number ≡ on_threads) }
 {
-    Told {
+    PageText {
         text: Vec::new(alloc),
         number: ON_THREADS,
     }
 }
 
 /// Copies a text to the front of the host's room, if it has room, and its length to `written`.
-pub(crate) fn place(told: &Told, output: &mut [u8], written: &mut usize) -> u32
+pub(crate) fn place(told: &PageText, output: &mut [u8], written: &mut usize) -> u32
     ensures written { written.new ≡ length told.now.text.items }
     ensures places { Places told.now.text.items told.now.number output.old output.new result }
 {
