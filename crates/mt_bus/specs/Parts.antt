@@ -11,7 +11,7 @@ use Rattle.mt_machine.specs.declared.ruled.Ruled.{Ruled}
 use Rattle.mt_machine.specs.Memory.{Memory}
 use Rattle.mt_machine.specs.System.{Processor, System, buffers_of, change, lines_of}
 use Rattle.mt_machine.specs.Bus.{bus_read}
-use Rattle.mt_machine.specs.Access.{Answered, entry_of, hit_of, is_running}
+use Rattle.mt_machine.specs.Access.{Answered, entry_of, is_running}
 use Rattle.mt_machine.specs.Control.{RuledAfter}
 
 abbrev pub system : List Processor → Memory → System
@@ -32,9 +32,6 @@ lines_in k ps = lines_of (without_memory ps) k
 
 abbrev pub buffers_in : ℕ → List Processor → List CacheLine
 buffers_in k ps = buffers_of (without_memory ps) k
-
-abbrev pub hit_in : MemType → ℕ → ℕ → List Processor → Option CacheLine
-hit_in t k n ps = hit_of t k n (without_memory ps)
 
 -- the entry by which processor k translates an address
 abbrev pub entry_in : ℕ → ℕ → List Processor → Option Entry

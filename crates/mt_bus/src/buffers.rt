@@ -84,7 +84,7 @@ impl Bus {
     }
 
     /// Combines a word into a processor's buffers, and empties the buffer that is handed back: the oldest of
-    /// four, where one is added, or the one that now has all its words.
+    /// four, where one is added, or the one that then has all its words.
     pub(crate) fn combine(&mut self, k: usize, number: u64, word: u8, v: u64)
         requires processor { k < length self.old.processors }
         requires word { word < 8 }

@@ -29,7 +29,7 @@ fn drop_in(cpu: &mut Cpu, ram: &mut Ram, number: u64)
     drop_copy(cpu.cache_mut(), ram, number);
 }
 
-// Each cache that may have the line is cleaned.
+// Cleans the line in this cache, if it may have it.
 fn clean_if(cpu: &mut Cpu, ram: &mut Ram, number: u64, may: bool)
     requires { may ≡ false → find_line number cpu.old.lines ≡ None }
     ensures cpu { cpu.new ≡ with_lines (change_line number clean_line) cpu.old }
@@ -40,7 +40,7 @@ fn clean_if(cpu: &mut Cpu, ram: &mut Ram, number: u64, may: bool)
     }
 }
 
-// Each cache that may have the line drops it.
+// Drops the line from this cache, if it may have it.
 #[inline(always)]
 fn drop_if(cpu: &mut Cpu, ram: &mut Ram, number: u64, may: bool)
     requires { may ≡ false → find_line number cpu.old.lines ≡ None }

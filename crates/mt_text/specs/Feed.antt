@@ -31,12 +31,12 @@ pub record Feeding : Type 0 where
   pub pending : List ℕ  -- bytes that were taken and not lent yet
   pub offset : ℕ  -- where they begin
   pub place : Place  -- and their place
-  pub fault : Option FeedFault  -- the fault that was answered
+  pub fault : Option FeedFault  -- the fault that was returned
 
 abbrev pub taken : Feeding → ℕ
 taken feed = feed.offset + length feed.pending
 
--- the fault that a feed has answered is TooLong exactly where it has taken more bytes than the limit
+-- the fault that a feed has returned is TooLong exactly where it has taken more bytes than the limit
 abbrev pub IsLong : Feeding → Type 0
 IsLong feed = (feed.fault ≡ Some TooLong) ↔ (longest_input < taken feed)
 
