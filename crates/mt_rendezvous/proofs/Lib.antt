@@ -14,3 +14,4 @@ pub mod Unique
 pub mod Handed
 pub mod Begun
 mod Renewed
+mod Unshared

@@ -1,5 +1,5 @@
 -- What an update on threads comes to.
-use Rattle.std.specs.Prelude.{◌≡◌, ◌<◌, ◌≤◌, ◌↔◌, Bool, true, false, List, [], length, map, IsSome, None, Some, Err, OnErr, OnOk, Result}
+use Rattle.std.specs.Prelude.{◌≡◌, ◌<◌, ◌≤◌, ◌==◌, ◌↔◌, Bool, true, false, List, [], length, map, IsSome, None, Some, Err, OnErr, OnOk, Result}
 use Rattle.std.specs.List.{All}
 use Rattle.mt_regs.specs.declared.fault.Fault.{Fault}
 use Rattle.mt_regs.specs.RegisterFile.{RegisterFile}
@@ -65,6 +65,10 @@ left_by false s goal = all_running s
 abbrev pub tables_left : Bool → TypeTable → List TypeTable → List TypeTable
 tables_left true kinds ts = map (λ t. kinds) ts
 tables_left false kinds ts = ts
+
+-- its cache has no line
+abbrev pub has_empty_cache : Processor → Bool
+has_empty_cache p = length p.lines == 0
 
 -- ---- without threads
 

@@ -1,6 +1,6 @@
 // An update on threads, or without them if one is refused.
 ghost use Rattle.std.specs.Prelude.{◌≡◌, ◌<◌, ◌≤◌, [], false, length, map, None, Some, IsSome, is_ok, vec_len};
-ghost use Rattle.std.specs.List.{All};
+ghost use Rattle.std.specs.List.{All, list_all};
 ghost use Rattle.mt_machine.specs.declared.phase.Phase.TheVariants.{Taken};
 ghost use Rattle.mt_machine.specs.Machine.{Order};
 ghost use Rattle.mt_machine.specs.Start.{IsQuiet};
@@ -12,7 +12,7 @@ ghost use Rattle.mt_types.specs.Tables.{IsTableOf};
 ghost use Rattle.mt_bus.specs.Parts.{system};
 ghost use Rattle.mt_bus.specs.Holders.{AreHeldBy};
 ghost use Rattle.mt_bus.specs.Tables.{AreTablesOf};
-ghost use Rattle.mt_rendezvous.specs.Update.{CanUpdate, FitsUpdate, IsUpdate, left_by, running, tables_left};
+ghost use Rattle.mt_rendezvous.specs.Update.{CanUpdate, FitsUpdate, IsUpdate, has_empty_cache, left_by, running, tables_left};
 
 use crate::attendance::{Attendance, Ended, meet};
 use crate::broadcast::call_and_take;
@@ -72,8 +72,8 @@ fn give_up(mut cpus: Vec<Cpu>, ram: Ram, refusal: Refusal) -> Attempt
     }
 }
 
-// Tries the update of taken processors on threads, one for each.
-fn update_on_threads<R: Threads + Wait + Sync, G: Gate>(
+// Tries the update of taken processors on threads, one for each, which share this memory's words.
+fn update_over<R: Threads + Wait + Sync, G: Gate>(
     caller: &Caller<R, G>,
     alloc: Global,
     cpus: Vec<Cpu>,
@@ -123,6 +123,40 @@ fn update_on_threads<R: Threads + Wait + Sync, G: Gate>(
         cpus: done,
         ram,
     }
+}
+
+// Whether no cache has a line.
+fn are_caches_empty(cpus: &[Cpu]) -> bool
+    ensures { result ≡ list_all has_empty_cache cpus.now }
+{
+    cpus.iter().all(|cpu| cpu.cache().len() == 0)
+}
+
+// Tries the update of taken processors on threads, one for each. If no cache has a line, no word of memory is written, so the
+// threads share none.
+fn update_on_threads<R: Threads + Wait + Sync, G: Gate>(
+    caller: &Caller<R, G>,
+    alloc: Global,
+    cpus: Vec<Cpu>,
+    ram: Ram,
+    goal: &RegFile,
+) -> Attempt
+    requires some { 0 < vec_len cpus }
+    requires few { vec_len cpus ≤ 16 }
+    requires begins { Begins (gathered cpus.items ram goal.now) }
+    ensures left { system result.cpus.items result.ram ≡ left_by (is_ok result.outcome) (system cpus.items ram) goal.now }
+    ensures count { length result.cpus.items ≡ length cpus.items }
+{
+    if !are_caches_empty(cpus.as_slice()) {
+        return update_over(caller, alloc, cpus, ram, goal);
+    }
+    let none = Ram::new(alloc);
+    let Attempt {
+        outcome,
+        cpus,
+        ram: _,
+    } = update_over(caller, alloc, cpus, none, goal);
+    Attempt { outcome, cpus, ram }
 }
 
 // The update by the calls of a core, which a refusal alone allows.

@@ -1,4 +1,4 @@
-use Rattle.std.proofs.Common.{◌≡◌, ◌<◌, ◌+◌, ℕ, drop, length, ◌∙◌, length-drop, length-set, arith}
+use Rattle.std.proofs.Common.{◌<◌, ℕ, drop, length, ◌∙◌, length-drop, length-set, arith}
 use Rattle.std.specs.Mem.Slots.{slots_items}
 use Rattle.mt_rendezvous.proofs.Handed.{drop_elem, same_words, taken_more}
 use Rattle.mt_rendezvous.proofs.gather.put_back.Goals as goal
