@@ -24,6 +24,7 @@ pub fn wrong_usage<K: Sink>(sink: &mut K) -> Status
 
 /// Does what a command asks for that starts no thread. A command on a dump reads the source to its
 /// end, unless the source fails or gives more than 16,777,216 bytes. Every other command reads nothing.
+#[inline(never)] // so that other commands need no stack for it
 pub fn run_serial<S: Source, K: Sink>(
     alloc: Global,
     command: SerialCommand,

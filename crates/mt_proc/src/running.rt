@@ -246,6 +246,7 @@ impl LineRun for ProcRun {
 }
 
 /// Does what `proc` does, for a caller with a runtime and a gate.
+#[inline(never)]
 pub fn proc_with<R: Threads + Wait + Sync, S: Source, K: Sink, G: Gate>(
     caller: &Caller<R, G>,
     alloc: Global,
