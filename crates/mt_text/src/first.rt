@@ -1,4 +1,4 @@
-ghost use Rattle.std.specs.Prelude.{◌≡◌, length, map, take};
+ghost use Rattle.std.specs.Prelude.{◌≡◌, [], length, map, take};
 ghost use Rattle.std.specs.List.{AllByRecursion};
 ghost use Rattle.mt_text.specs.Text.{before_comment, words_from};
 ghost use Rattle.mt_text.specs.Words.{AreBounds, first_words, place_of, text_of, word_between};
@@ -32,20 +32,19 @@ impl<'a> Model for Words<'a> {
 
 // Where each of the first words of a text without CR begins and ends.
 #[inline(always)] // so that a line without words needs no room for them
-fn first_bounds(text: &[u8]) -> ArrayVec<(usize, usize), 7>
-    ensures words { map (word_between text.now) result.items ≡ take 7 (words_from 0 (before_comment text.now)) }
-    ensures within { AllByRecursion (AreBounds text.now) result.items }
+fn find_bounds(text: &[u8], bounds: &mut ArrayVec<(usize, usize), 7>)
+    requires none { bounds.old.items ≡ [] }
+    ensures words { map (word_between text.now) bounds.new.items ≡ take 7 (words_from 0 (before_comment text.now)) }
+    ensures within { AllByRecursion (AreBounds text.now) bounds.new.items }
 {
-    let mut bounds = ArrayVec::new();
     let mut at = 0;
     'words: for _ in 0..MOST {
         let Some((start, end)) = next_word(text, at) else {
-            return bounds;
+            return;
         };
         bounds.push((start, end));
         at = end;
     }
-    bounds
 }
 
 impl<'a> Line<'a> {
@@ -55,10 +54,12 @@ impl<'a> Line<'a> {
         ensures { result ≡ first_words self.now.number self.now.bytes.now }
     {
         let text = without_ending(self.bytes, b'\r');
+        let mut bounds = ArrayVec::new();
+        find_bounds(text, &mut bounds);
         Words {
             text,
             number: self.number,
-            bounds: first_bounds(text),
+            bounds,
         }
     }
 }

@@ -1,7 +1,7 @@
 use Rattle.std.proofs.Common.{◌≡◌, ℕ, ◌+◌, ◌-◌, ◌<◌, List, [], ◌∷◌, ◌++◌, map, take, suc, refl, ap, ◌∙◌, arith}
 use Rattle.std.specs.List.{AllByRecursion}
 use Rattle.mt_text.specs.Words.{AreBounds, word_between}
-use Rattle.mt_text.proofs.first.first_bounds.Goals as goal
+use Rattle.mt_text.proofs.first.find_bounds.Goals as goal
 
 -- one more word at the end, and one less to come
 one_more : (text : List ℕ) (found : List (ℕ × ℕ)) (bounds : ℕ × ℕ) (count : ℕ) (left all rest : List (ℕ × List ℕ)) → count < 7

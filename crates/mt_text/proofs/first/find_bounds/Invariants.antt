@@ -2,7 +2,7 @@ use Rattle.std.proofs.Common.{◌≡◌, ◌≤◌, ◌++◌, ◌-◌, length, m
 use Rattle.std.specs.List.{AllByRecursion}
 use Rattle.mt_text.specs.Text.{before_comment, words_from}
 use Rattle.mt_text.specs.Words.{AreBounds, word_between}
-use Rattle.mt_text.proofs.first.first_bounds.Given as goal
+use Rattle.mt_text.proofs.first.find_bounds.Given as goal
 
 abbrev pub invariant-words : goal.invariant-words
 invariant-words l = record {
