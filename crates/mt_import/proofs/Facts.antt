@@ -1,14 +1,15 @@
 -- Facts behind facts.
-use Rattle.std.proofs.Common.{◌≡◌, ◌+◌, ℕ, zero, suc, List, [], ◌∷◌, ◌++◌, take, drop, Option, Some, None, refl, sym, subst, ap, ◌∙◌, add-one, append_assoc}
-use Rattle.std.specs.Prelude.{slice_get}
+use Rattle.std.proofs.Common.{◌≡◌, ◌+◌, ℕ, zero, suc, Bool, List, [], ◌∷◌, ◌++◌, take, drop, Option, Some, None, refl, sym, ap, ◌∙◌, add-one, append_assoc}
+use Rattle.std.specs.Prelude.{slice_get, Result, Ok, Err}
 use Rattle.std.specs.Option.{option_or}
 use Rattle.std.proofs.lemmas.List.{append-nil, take-append-drop}
 use Rattle.mt_import.specs.declared.fault.ImportFault.{ImportFault}
+use Rattle.mt_import.specs.declared.format.Format.{Format}
 use Rattle.mt_import.specs.declared.shape.Shown.{Shown}
-use Rattle.mt_import.specs.Readings.{Fact, shown_facts, shows_facts}
+use Rattle.mt_import.specs.Readings.{Fact, is_line, shown_facts, shows_facts}
 use Rattle.mt_import.specs.Supplied.{Supplied}
 use Rattle.mt_import.specs.Outcome.{Seen, fact_fault, facts_fault, seen_after, seen_with}
-use Rattle.mt_import.specs.Reader.{HasTakenFacts, State}
+use Rattle.mt_import.specs.Reader.{HasTakenFacts, KeepsFact, State, TakesFacts}
 
 pub seen_append : (seen : Seen) (facts others : List Fact) → seen_after seen (facts ++ others) ≡ seen_after (seen_after seen facts) others
 seen_append seen [] others = refl
@@ -38,35 +39,46 @@ shows_more processor table i xs x at = rw add-one (by i xs at)
     by zero (y ∷ ys) at = let same : y ≡ x = cc at in rw same (append-nil (shown_facts processor table x))
     by (suc i) (y ∷ ys) at = ap (λ facts. shown_facts processor table y ++ facts) (by i ys at) ∙ sym (append_assoc (shown_facts processor table y) (shows_facts processor table (take i ys)) (shown_facts processor table x))
 
--- A reader has taken the first of what a line shows, behind what it had taken, and found no fault.
-pub record HasTakenFirst (state : State) (supplied : Supplied) (seen : Seen) (processor table i : ℕ) (shows : List (Option Shown)) : Type 0 where
-  pub held : HasTakenFacts state (seen_after seen (shows_facts processor table (take i shows)))
-  pub none : facts_fault supplied seen (shows_facts processor table (take i shows)) ≡ None
+-- ---- calls that take facts
 
-module _ (supplied : Supplied) (seen : Seen) (processor table i : ℕ) (shows : List (Option Shown)) (shown : Option Shown) (at : slice_get shows i ≡ Some shown) where
-  abbrev first : List Fact
-  first = shows_facts processor table (take i shows)
+-- A call that takes facts behind others that the reader took.
+takes_both : {U V : Type 0} {supplied : Supplied} {old middle new : State} {facts others : List Fact} {value : V} {result : Result U ImportFault}
+    → TakesFacts supplied old middle facts (Ok value) → TakesFacts supplied middle new others result → TakesFacts supplied old new (facts ++ others) result
+takes_both {supplied = supplied} {facts = facts} {others = others} {result = Ok taken} first next = record {
+  taken = λ seen held. let before = first.taken seen held in rw (seen_append seen facts others, fault_append supplied seen facts others, before.1) (next.taken _ before.0);
+  short = tt;
+}
+takes_both {supplied = supplied} {facts = facts} {others = others} {result = Err fault} first next = record {
+  taken = λ seen held. let before = first.taken seen held in rw (fault_append supplied seen facts others, before.1) (next.taken _ before.0);
+  short = next.short;
+}
 
-  more : shows_facts processor table (take (i + 1) shows) ≡ first ++ shown_facts processor table shown
-  more = shows_more processor table i shows shown at
+-- Behind a fault the rest doesn't matter.
+stops : {U : Type 0} {supplied : Supplied} {old new : State} {facts : List Fact} {fault : ImportFault} (others : List Fact) → TakesFacts {U = U} supplied old new facts (Err fault) → TakesFacts {U = U} supplied old new (facts ++ others) (Err fault)
+stops {supplied = supplied} {facts = facts} others stopped = record { taken = λ seen held. rw (fault_append supplied seen facts others, stopped.taken seen held) refl; short = stopped.short }
 
-  fault_more : facts_fault supplied seen first ≡ None → facts_fault supplied seen (shows_facts processor table (take (i + 1) shows)) ≡ facts_fault supplied (seen_after seen first) (shown_facts processor table shown)
-  fault_more none = ap (facts_fault supplied seen) more ∙ fault_append supplied seen first (shown_facts processor table shown) ∙ ap (λ o. option_or o (facts_fault supplied (seen_after seen first) (shown_facts processor table shown))) none
+module _ (processor table : ℕ) (shows : List (Option Shown)) where
+  abbrev first : ℕ → List Fact
+  first n = shows_facts processor table (take n shows)
 
-  pub takes_next : (old new : State) → HasTakenFirst old supplied seen processor table i shows
-      → HasTakenFacts new (seen_after (seen_after seen first) (shown_facts processor table shown)) → facts_fault supplied (seen_after seen first) (shown_facts processor table shown) ≡ None
-      → HasTakenFirst new supplied seen processor table (i + 1) shows
-  takes_next old new taken held none = record {
-    held = subst (HasTakenFacts new) (sym (ap (seen_after seen) more ∙ seen_append seen first (shown_facts processor table shown))) held;
-    none = fault_more taken.none ∙ none;
-  }
+  -- One more of what a line shows.
+  pub takes_next : {U V : Type 0} {supplied : Supplied} {old middle new : State} {value : V} {result : Result U ImportFault} {shown : Option Shown} (i : ℕ) → slice_get shows i ≡ Some shown
+      → TakesFacts supplied old middle (first i) (Ok value) → TakesFacts supplied middle new (shown_facts processor table shown) result → TakesFacts supplied old new (first (i + 1)) result
+  takes_next {shown = shown} i at before next = rw (shows_more processor table i shows shown at) (takes_both before next)
 
-  pub stops_at : (state : State) (fault : ImportFault) → HasTakenFirst state supplied seen processor table i shows → facts_fault supplied (seen_after seen first) (shown_facts processor table shown) ≡ Some fault
-      → facts_fault supplied seen (shows_facts processor table shows) ≡ Some fault
-  stops_at state fault taken found =
-      let here = fault_more taken.none ∙ found in
-      let rest = shows_facts processor table (drop (i + 1) shows) in
-      ap (λ xs. facts_fault supplied seen (shows_facts processor table xs)) (sym (take-append-drop (i + 1) shows))
-      ∙ ap (facts_fault supplied seen) (shows_append processor table (take (i + 1) shows) (drop (i + 1) shows))
-      ∙ fault_append supplied seen (shows_facts processor table (take (i + 1) shows)) rest
-      ∙ ap (λ o. option_or o (facts_fault supplied (seen_after seen (shows_facts processor table (take (i + 1) shows))) rest)) here
+  pub stops_at : {U : Type 0} {supplied : Supplied} {old new : State} {fault : ImportFault} (i : ℕ) → TakesFacts {U = U} supplied old new (first i) (Err fault)
+      → TakesFacts {U = U} supplied old new (shows_facts processor table shows) (Err fault)
+  stops_at i stopped =
+      let rest = shows_facts processor table (drop i shows) in
+      let all : shows_facts processor table shows ≡ first i ++ rest = ap (shows_facts processor table) (sym (take-append-drop i shows)) ∙ shows_append processor table (take i shows) (drop i shows) in
+      rw all (stops rest stopped)
+
+-- A line that was counted, with what it says.
+pub counts_line : {U : Type 0} {supplied : Supplied} {old middle new : State} {number : ℕ} {format : Option Format} {matched : Bool} {facts : List Fact} {result : Result U ImportFault}
+    → KeepsFact old middle (is_line number format matched) → TakesFacts supplied middle new facts result → TakesFacts supplied old new (is_line number format matched ∷ facts) result
+counts_line counted said = record { taken = λ seen held. said.taken _ (counted.taken seen held); short = said.short }
+
+-- A later call that keeps what the reader has taken.
+pub takes_same : {U : Type 0} {supplied : Supplied} {old middle new : State} {facts : List Fact} {value : U} → TakesFacts supplied old middle facts (Ok value)
+    → ((seen : Seen) → HasTakenFacts middle seen → HasTakenFacts new seen) → TakesFacts supplied old new facts (Ok value)
+takes_same taken same = record { taken = λ seen held. let before = taken.taken seen held in (same _ before.0, before.1); short = tt }

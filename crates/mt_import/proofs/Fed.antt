@@ -1,6 +1,6 @@
 -- How a line that a feed lends leads a reader on.
-use Rattle.std.proofs.Common.{◌≡◌, ◌+◌, ◌≤◌, ◌<◌, ℕ, Bool, true, List, [], ◌∷◌, ◌++◌, length, take, Option, Some, None, refl, sym, subst, ◌∙◌, ap}
-use Rattle.std.specs.Prelude.{Result, Ok, Err, IfOk, MatchResult}
+use Rattle.std.proofs.Common.{◌≡◌, ◌+◌, ◌≤◌, ℕ, Bool, true, List, ◌∷◌, ◌++◌, length, take, Option, Some, None, refl, sym, subst, ◌∙◌, ap}
+use Rattle.std.specs.Prelude.{Result, Ok, Err, IfOk}
 use Rattle.std.specs.Option.{option_map_or}
 use Rattle.mt_text.specs.Text.{is_too_long, lines_of, past_limit}
 use Rattle.mt_text.specs.Reader.{Course, TakesLine}
@@ -18,7 +18,7 @@ use Rattle.mt_import.specs.Shown.{chosen, context_behind, facts_from, facts_of_l
 use Rattle.mt_import.specs.Supplied.{Supplied}
 use Rattle.mt_import.specs.Outcome.{Seen, Outcome, ended, facts_fault, nothing_seen, seen_after, unless}
 use Rattle.mt_import.specs.Import.{log_outcome}
-use Rattle.mt_import.specs.Reader.{HasTakenFacts, LeadsTo, State, facts_answer}
+use Rattle.mt_import.specs.Reader.{HasTakenFacts, LeadsTo, State, TakesFacts, facts_answer}
 use Rattle.mt_import.proofs.Facts.{fault_append, seen_append}
 
 -- ---- the facts of a line
@@ -60,16 +60,10 @@ context_cut context number line = by_line (λ format said. context_after context
 -- ---- the call that takes it
 
 module _ {U : Type 0} (auto : Bool) (supplied : Supplied) (old new : State) (line : Line) where
-  -- what the call says of the line that it was lent
-  abbrev Taken : Result U ImportFault → Type 0
-  Taken result = (seen : Seen) → HasTakenFacts old seen → let facts = facts_of_line old.context line.number line.bytes.now in MatchResult result
-      (λ _. HasTakenFacts new (seen_after seen facts) × (facts_fault supplied seen facts ≡ None))
-      (λ fault. facts_fault supplied seen facts ≡ Some fault)
-
-  pub takes_line : (result : Result U ImportFault) → Taken result → IfOk result (λ _. new.context ≡ context_behind old.context line.number line.bytes.now) → TakesLine (LeadsTo auto supplied) old new line result
+  pub takes_line : (result : Result U ImportFault) → TakesFacts supplied old new (facts_of_line old.context line.number line.bytes.now) result → IfOk result (λ _. new.context ≡ context_behind old.context line.number line.bytes.now) → TakesLine (LeadsTo auto supplied) old new line result
   takes_line (Ok value) took context course whole led cut =
       let same = ap (facts_of_line old.context line.number) cut ∙ facts_cut old.context line.number whole in
-      let parts = took led.seen led.taken in
+      let parts = took.taken led.seen led.taken in
       let none = ap (facts_fault supplied led.seen) (sym same) ∙ parts.1 in
       let behind = context ∙ ap (context_behind old.context line.number) cut ∙ context_cut old.context line.number whole in (
         short_line supplied line.number old.context led.seen whole none,
@@ -84,7 +78,7 @@ module _ {U : Type 0} (auto : Bool) (supplied : Supplied) (old new : State) (lin
   takes_line (Err fault) took context course whole led cut = λ lines end.
       let same = ap (facts_of_line old.context line.number) cut ∙ facts_cut old.context line.number whole in
       led.leads (whole ∷ lines) end
-      ∙ fails auto supplied led.seen (facts_of_line old.context line.number whole) (facts_from (context_behind old.context line.number whole) (line.number + 1) lines) fault (ap (facts_fault supplied led.seen) (sym same) ∙ took led.seen led.taken)
+      ∙ fails auto supplied led.seen (facts_of_line old.context line.number whole) (facts_from (context_behind old.context line.number whole) (line.number + 1) lines) fault (ap (facts_fault supplied led.seen) (sym same) ∙ took.taken led.seen led.taken)
 
 -- ---- all lines
 

@@ -17,7 +17,7 @@ use Rattle.mt_import.specs.declared.shape.Slot.{Slot}
 use Rattle.mt_import.specs.declared.reading.Context.{Context}
 use Rattle.mt_text.specs.declared.place.Place.{Place}
 use Rattle.mt_import.specs.Readings.{is_line, is_register_value, is_warning, is_width}
-use Rattle.mt_import.specs.Outcome.{Seen, capabilities_after, fixed_line_after, last_after, nothing_seen, processors, seen_with, slot_shown, tally_warned, tally_with}
+use Rattle.mt_import.specs.Outcome.{Seen, capabilities_after, fixed_line_after, last_after, nothing_seen, seen_with, slot_shown, tally_warned, tally_with}
 use Rattle.mt_import.specs.Slot.{blank_slot, slot_with}
 use Rattle.mt_import.specs.Reader.{HasTakenFacts, IsFit, IsReader, State, held_at, slot_of}
 

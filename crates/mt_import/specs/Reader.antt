@@ -1,5 +1,7 @@
 -- What a reader of a log keeps of the facts that it has taken (own).
-use Rattle.std.specs.Prelude.{ℕ, ◌≡◌, ◌≤◌, ◌+◌, ◌-◌, ◌*◌, ◌==◌, nat_lt, Bool, List, length, if◌then◌else◌, Option, Some, None, IfSome, Result, Ok, Err, ⊤}
+--     HasTakenFacts state seen      the reader has taken these facts
+--     TakesFacts supplied old new facts result      a call that takes more of them
+use Rattle.std.specs.Prelude.{ℕ, ◌≡◌, ◌≤◌, ◌<◌, ◌+◌, ◌-◌, ◌*◌, ◌==◌, nat_lt, bit_or, Bool, List, length, if◌then◌else◌, Option, Some, None, IfSome, Result, Ok, Err, IfErr, MatchResult, ⊤}
 use Rattle.std.specs.List.{slice_index_or}
 use Rattle.std.specs.Option.{option_map_or}
 use Rattle.mt_text.specs.Reader.{Course}
@@ -10,13 +12,14 @@ use Rattle.mt_import.specs.declared.fault.ImportFault.{ImportFault}
 use Rattle.mt_import.specs.declared.fault.ImportFault.TheVariants.{LongLine, BadProcessor, TooManyPairs, BadWidth, Contradiction, WidthContradiction}
 use Rattle.mt_import.specs.declared.reading.Context.{Context}
 use Rattle.mt_import.specs.declared.shape.LastPair.{LastPair}
+use Rattle.mt_import.specs.declared.shape.Reading.{Reading}
 use Rattle.mt_import.specs.declared.shape.Slot.{Slot}
 use Rattle.mt_import.specs.declared.shape.Tally.{Tally}
 use Rattle.mt_import.specs.Slot.{blank_slot}
 use Rattle.mt_import.specs.Supplied.{Supplied}
 use Rattle.mt_import.specs.Readings.{Fact}
 use Rattle.mt_import.specs.Shown.{facts_from}
-use Rattle.mt_import.specs.Outcome.{Findings, Outcome, Seen, Summary, capabilities_shown, ended, facts_fault, firm_of, hint_of, last_fixed_line, last_shown, processors, seen_after, slot_shown, summary_of, values_of}
+use Rattle.mt_import.specs.Outcome.{Findings, Outcome, Seen, Summary, capabilities_shown, ended, facts_fault, firm_of, hint_of, last_fixed_line, last_shown, processors, seen_after, seen_with, slot_shown, summary_of, values_of}
 
 pub record State : Type 0 where
   pub context : Context
@@ -71,6 +74,20 @@ pub record IsReader (slots : List Slot) (processors : ℕ) (width : Option ℕ) 
   pub fit : IfSome width IsFit
   pub pairs : (processor : ℕ) → low_byte (held_at slots processor (slot_of 0xfe)).value ≤ 32
 
+-- A reader has a slot for the register.
+abbrev pub HasSlot : ℕ → Type 0
+HasSlot number = slot_of number ≡ None → ⊥
+
+-- VCNT of a reading's processor, after the reading
+abbrev pub pairs_after : State → Reading → ℕ
+pairs_after state reading = low_byte (bit_or (slots_of state reading.processor 0xfe).value reading.value)
+
+-- A reader can keep this reading, and each processor has at most 32 pairs then.
+pub record MayKeep (state : State) (reading : Reading) : Type 0 where
+  pub processor : reading.processor < 16
+  pub register : HasSlot reading.number
+  pub pairs : reading.number ≡ 0xfe → pairs_after state reading ≤ 32
+
 -- A reader has taken these facts.
 pub record HasTakenFacts (state : State) (seen : Seen) : Type 0 where
   pub slots_are : (processor number : ℕ) → slots_of state processor number ≡ slot_shown seen.readings processor number
@@ -82,6 +99,15 @@ pub record HasTakenFacts (state : State) (seen : Seen) : Type 0 where
   pub line_of_width_is : state.line_of_width ≡ seen.line_of_width
   pub tally_is : state.tally ≡ seen.tally
 
+-- A call returns this function of the readings that a reader has taken.
+abbrev pub IsOfReadings : {A : Type 0} → State → (List Reading → A) → A → Type 0
+IsOfReadings state f result = (seen : Seen) → HasTakenFacts state seen → result ≡ f seen.readings
+
+-- A call takes one fact, and the context is unchanged.
+pub record KeepsFact (old new : State) (fact : Fact) : Type 0 where
+  pub taken : (seen : Seen) → HasTakenFacts old seen → HasTakenFacts new (seen_with seen fact)
+  pub context : new.context ≡ old.context
+
 -- the register's number has three hexadecimal digits at most
 abbrev pub IsShort : ImportFault → Type 0
 IsShort (LongLine place) = ⊤
@@ -90,6 +116,13 @@ IsShort (TooManyPairs place) = ⊤
 IsShort (BadWidth place) = ⊤
 IsShort (Contradiction place number rival) = HasThreeDigits number
 IsShort (WidthContradiction place rival) = ⊤
+
+-- A call takes facts. At `Ok` they have no fault, and the reader has taken them too. At `Err` the result is their first fault.
+pub record TakesFacts {U : Type 0} (supplied : Supplied) (old new : State) (facts : List Fact) (result : Result U ImportFault) : Type 0 where
+  pub taken : (seen : Seen) → HasTakenFacts old seen → MatchResult result
+      (λ _. HasTakenFacts new (seen_after seen facts) × (facts_fault supplied seen facts ≡ None))
+      (λ fault. facts_fault supplied seen facts ≡ Some fault)
+  pub short : IfErr result IsShort
 
 -- what facts come to: the first fault, or the outcome behind them
 abbrev pub facts_answer : Bool → Supplied → Seen → List Fact → Result Outcome ImportFault

@@ -2,7 +2,7 @@
 --     said_of format number line      what a line says, whatever the others say
 --     chosen format line      the format that is known behind a line
 --     facts_from context number lines      the facts of lines, of which the first has this number
-use Rattle.std.specs.Prelude.{ℕ, ◌+◌, ◌&&◌, nat_lt, Bool, true, false, List, [], ◌∷◌, ◌++◌, if◌then◌else◌, Option, Some, None}
+use Rattle.std.specs.Prelude.{ℕ, ◌+◌, nat_lt, Bool, true, false, List, [], ◌∷◌, ◌++◌, if◌then◌else◌, Option, Some, None}
 use Rattle.mt_text.specs.Text.{is_too_long, lines_of, past_limit}
 use Rattle.mt_import.specs.declared.format.Choice.{Choice}
 use Rattle.mt_import.specs.declared.format.Choice.TheVariants.{Auto, Only}

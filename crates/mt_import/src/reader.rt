@@ -1,16 +1,13 @@
-ghost use Rattle.std.specs.Prelude.{◌≡◌, ◌≤◌, ◌<◌, ◌+◌, ◌-◌, ◌*◌, ℕ, List, [], ◌∷◌, bit_or, length, max, slice_get, unwrap_or, true, false, Some, None, Ok, IfErr, IfOk, IfSome, IsErrOf, MatchOption, MatchResult, ◌↔◌};
+ghost use Rattle.std.specs.Prelude.{◌≡◌, ◌≤◌, ◌<◌, ℕ, List, [], ◌∷◌, length, max, slice_get, Some, IfOk, IfSome, IsErrOf, MatchResult, ◌↔◌};
 ghost use Rattle.mt_text.specs.Text.{longest_input};
 ghost use Rattle.mt_ports.specs.Causes.{Rose};
 ghost use Rattle.mt_text.specs.Feed.{GaveTooMuch};
 ghost use Rattle.mt_text.specs.declared.fault.FeedFault.{FeedFault};
-ghost use Rattle.mt_import.specs.declared.shape.Reading.{Reading as ReadingValue};
-ghost use Rattle.mt_regs.specs.RegisterFile.{low_byte};
-ghost use Rattle.mt_import.specs.Readings.{Fact, fixed_clash, fixed_facts, is_line, is_register, is_register_value, is_warning, is_width, line_facts, reading_facts, said_facts, shown_facts, shows_facts, starts, unlike, value_facts};
+ghost use Rattle.mt_import.specs.Readings.{fixed_clash, fixed_facts, is_line, is_register_value, is_width, line_facts, reading_facts, said_facts, shown_facts, shows_facts, starts, unlike, value_facts};
 ghost use Rattle.mt_import.specs.Shown.{context_behind, facts_of_line};
-ghost use Rattle.mt_import.specs.Slot.{slot_with};
-ghost use Rattle.mt_import.specs.Outcome.{Seen, capabilities_after, count_of, facts_fault, fixed_line_after, is_fit_width, last_after, least_count, nothing_seen, one_if, reading_fault, seen_after, seen_with, shows_fixed, tally_warned, tally_with, width_fault};
+ghost use Rattle.mt_import.specs.Outcome.{Seen, capabilities_after, count_of, fixed_line_after, is_fit_width, last_after, least_count, nothing_seen, one_if, shows_fixed};
 ghost use Rattle.mt_import.specs.Import.{IsWritten, dump_text, log_outcome};
-ghost use Rattle.mt_import.specs.Reader.{HasTakenFacts, IsFit, IsReader, IsShort, held_at, slot_of, slots_of};
+ghost use Rattle.mt_import.specs.Reader.{HasSlot, HasTakenFacts, IsFit, IsReader, IsShort, KeepsFact, MayKeep, TakesFacts, held_at, slot_of, slots_of};
 
 use crate::format::{chosen, said_in};
 use crate::pieces::{count_on, shown_as};
@@ -271,11 +268,8 @@ impl LogReader {
 
     // Keeps a reading that has no fault.
     fn keep(&mut self, reading: &Reading)
-        requires processor { reading.now.processor < 16 }
-        requires register { slot_of reading.now.number ≡ None → ⊥ }
-        requires pairs { reading.now.number ≡ 0xfe → low_byte (bit_or (slots_of self.old reading.now.processor 0xfe).value reading.now.value) ≤ 32 }
-        ensures taken { (seen : Seen) → HasTakenFacts self.old seen → HasTakenFacts self.new (seen_with seen (is_register_value reading.now)) }
-        ensures context { self.new.context ≡ self.old.context }
+        requires { MayKeep self.old reading.now }
+        ensures { KeepsFact self.old self.new (is_register_value reading.now) }
     {
         let Some(slot) = slot_of(reading.number) else {
             unreachable!()
@@ -290,12 +284,8 @@ impl LogReader {
 
     // Takes a reading. At `Err` the reader is unchanged.
     fn take_reading(&mut self, supplied: &Supplied, reading: &Reading) -> Result<(), ImportFault>
-        requires register { slot_of reading.now.number ≡ None → ⊥ }
-        ensures taken { (seen : Seen) → HasTakenFacts self.old seen → MatchResult result
-            (λ _. HasTakenFacts self.new (seen_with seen (is_register_value reading.now)) × (reading_fault supplied.now seen.readings reading.now ≡ None))
-            (λ fault. reading_fault supplied.now seen.readings reading.now ≡ Some fault) }
-        ensures context { self.new.context ≡ self.old.context }
-        ensures short { IfErr result IsShort }
+        requires { HasSlot reading.now.number }
+        ensures { TakesFacts supplied.now self.old self.new (is_register_value reading.now ∷ []) result }
     {
         match self.reading_fault(supplied, reading) {
             Some(fault) => Err(fault),
@@ -314,11 +304,7 @@ impl LogReader {
         table: u64,
         shown: Shown,
     ) -> Result<(), ImportFault>
-        ensures taken { (seen : Seen) → HasTakenFacts self.old seen → MatchResult result
-            (λ _. HasTakenFacts self.new (seen_after seen (reading_facts processor table shown)) × (facts_fault supplied.now seen (reading_facts processor table shown) ≡ None))
-            (λ fault. facts_fault supplied.now seen (reading_facts processor table shown) ≡ Some fault) }
-        ensures context { self.new.context ≡ self.old.context }
-        ensures short { IfErr result IsShort }
+        ensures { TakesFacts supplied.now self.old self.new (reading_facts processor table shown) result }
     {
         if !is_register(shown.number as u64) {
             return Ok(());
@@ -341,11 +327,7 @@ impl LogReader {
         table: u64,
         shown: Option<Shown>,
     ) -> Result<(), ImportFault>
-        ensures taken { (seen : Seen) → HasTakenFacts self.old seen → MatchResult result
-            (λ _. HasTakenFacts self.new (seen_after seen (shown_facts processor table shown)) × (facts_fault supplied.now seen (shown_facts processor table shown) ≡ None))
-            (λ fault. facts_fault supplied.now seen (shown_facts processor table shown) ≡ Some fault) }
-        ensures context { self.new.context ≡ self.old.context }
-        ensures short { IfErr result IsShort }
+        ensures { TakesFacts supplied.now self.old self.new (shown_facts processor table shown) result }
     {
         match shown {
             Some(shown) => self.take_shown(supplied, processor, table, shown),
@@ -361,11 +343,7 @@ impl LogReader {
         table: u64,
         shows: &Shows,
     ) -> Result<(), ImportFault>
-        ensures taken { (seen : Seen) → HasTakenFacts self.old seen → MatchResult result
-            (λ _. HasTakenFacts self.new (seen_after seen (shows_facts processor table shows.now)) × (facts_fault supplied.now seen (shows_facts processor table shows.now) ≡ None))
-            (λ fault. facts_fault supplied.now seen (shows_facts processor table shows.now) ≡ Some fault) }
-        ensures context { self.new.context ≡ self.old.context }
-        ensures short { IfErr result IsShort }
+        ensures { TakesFacts supplied.now self.old self.new (shows_facts processor table shows.now) result }
     {
         'shows: for i in 0..MOST_SHOWN {
             if let Err(fault) = self.take_one(supplied, processor, table, shown_at(shows, i)) {
@@ -382,11 +360,7 @@ impl LogReader {
         width: u64,
         place: Place,
     ) -> Result<(), ImportFault>
-        ensures taken { (seen : Seen) → HasTakenFacts self.old seen → MatchResult result
-            (λ _. HasTakenFacts self.new (seen_with seen (is_width width place)) × (width_fault supplied.now seen width place ≡ None))
-            (λ fault. width_fault supplied.now seen width place ≡ Some fault) }
-        ensures context { self.new.context ≡ self.old.context }
-        ensures short { IfErr result IsShort }
+        ensures { TakesFacts supplied.now self.old self.new (is_width width place ∷ []) result }
     {
         if !is_fit_width(width) {
             return Err(ImportFault::BadWidth(place));
@@ -408,11 +382,7 @@ impl LogReader {
         value: u64,
         place: Place,
     ) -> Result<(), ImportFault>
-        ensures taken { (seen : Seen) → HasTakenFacts self.old seen → let facts = value_facts self.old.context.announced self.old.context.table value place in MatchResult result
-            (λ _. HasTakenFacts self.new (seen_after seen facts) × (facts_fault supplied.now seen facts ≡ None))
-            (λ fault. facts_fault supplied.now seen facts ≡ Some fault) }
-        ensures context { self.new.context ≡ self.old.context }
-        ensures short { IfErr result IsShort }
+        ensures { TakesFacts supplied.now self.old self.new (value_facts self.old.context.announced self.old.context.table value place) result }
     {
         match self.context.announced {
             Some(announced) => {
@@ -432,11 +402,7 @@ impl LogReader {
         is_alone: bool,
         place: Place,
     ) -> Result<(), ImportFault>
-        ensures taken { (seen : Seen) → HasTakenFacts self.old seen → let facts = fixed_facts self.old.context is_enabled is_alone place in MatchResult result
-            (λ _. HasTakenFacts self.new (seen_after seen facts) × (facts_fault supplied.now seen facts ≡ None))
-            (λ fault. facts_fault supplied.now seen facts ≡ Some fault) }
-        ensures context { self.new.context ≡ self.old.context }
-        ensures short { IfErr result IsShort }
+        ensures { TakesFacts supplied.now self.old self.new (fixed_facts self.old.context is_enabled is_alone place) result }
     {
         if let Some(line) = fixed_clash(self.context.fixed, is_enabled) {
             let rival = Rival::Line(line);
@@ -453,11 +419,7 @@ impl LogReader {
 
     // Takes what a line says.
     fn take_said(&mut self, supplied: &Supplied, said: &LineSays) -> Result<(), ImportFault>
-        ensures taken { (seen : Seen) → HasTakenFacts self.old seen → MatchResult result
-            (λ _. HasTakenFacts self.new (seen_after seen (said_facts self.old.context said.now)) × (facts_fault supplied.now seen (said_facts self.old.context said.now) ≡ None))
-            (λ fault. facts_fault supplied.now seen (said_facts self.old.context said.now) ≡ Some fault) }
-        ensures context { self.new.context ≡ self.old.context }
-        ensures short { IfErr result IsShort }
+        ensures { TakesFacts supplied.now self.old self.new (said_facts self.old.context said.now) result }
     {
         let table = self.context.table;
         match said {
@@ -486,8 +448,7 @@ impl LogReader {
 
     // Counts a line.
     fn count_line(&mut self, number: u64, format: Option<Format>, matches: bool)
-        ensures taken { (seen : Seen) → HasTakenFacts self.old seen → HasTakenFacts self.new (seen_with seen (is_line number format matches)) }
-        ensures context { self.new.context ≡ self.old.context }
+        ensures { KeepsFact self.old self.new (is_line number format matches) }
     {
         self.tally = Tally {
             format,
@@ -519,11 +480,7 @@ impl LogReader {
         format: Option<Format>,
         said: &LineSays,
     ) -> Result<(), ImportFault>
-        ensures taken { (seen : Seen) → HasTakenFacts self.old seen → let facts = line_facts number format self.old.context said.now in MatchResult result
-            (λ _. HasTakenFacts self.new (seen_after seen facts) × (facts_fault supplied.now seen facts ≡ None))
-            (λ fault. facts_fault supplied.now seen facts ≡ Some fault) }
-        ensures context { self.new.context ≡ self.old.context }
-        ensures short { IfErr result IsShort }
+        ensures { TakesFacts supplied.now self.old self.new (line_facts number format self.old.context said.now) result }
     {
         self.count_line(number, format, said.is_match());
         self.take_said(supplied, said)
@@ -531,11 +488,8 @@ impl LogReader {
 
     /// Takes one line.
     pub fn take(&mut self, supplied: &Supplied, line: &Line<'_>) -> Result<(), ImportFault>
-        ensures taken { (seen : Seen) → HasTakenFacts self.old seen →
-            let facts = facts_of_line self.old.context line.now.number line.now.bytes.now in MatchResult result
-            (λ _. HasTakenFacts self.new (seen_after seen facts) × (facts_fault supplied.now seen facts ≡ None))
-            (λ fault. facts_fault supplied.now seen facts ≡ Some fault) }
-        ensures short { IfErr result IsShort }
+        ensures facts { TakesFacts supplied.now self.old self.new
+            (facts_of_line self.old.context line.now.number line.now.bytes.now) result }
         ensures context { IfOk result (λ _. self.new.context ≡ context_behind self.old.context line.now.number line.now.bytes.now) }
     {
         let before = self.context();

@@ -1,6 +1,6 @@
-ghost use Rattle.std.specs.Prelude.{◌≡◌, true, None};
+ghost use Rattle.std.specs.Prelude.{◌≡◌, true};
 ghost use Rattle.mt_import.specs.Readings.{all_registers, announced_after, context_after, fixed_after, fixed_shows, flag_shown, is_match, is_register, named_processor, one_shown, processor_after, processor_turned_to, starts, table_behind, two_shown, variable_bits, variable_shows};
-ghost use Rattle.mt_import.specs.Reader.{slot_of};
+ghost use Rattle.mt_import.specs.Reader.{HasSlot};
 ghost use Rattle.mt_import.specs.Shown.{tells_turn};
 
 use crate::Format;
@@ -281,7 +281,7 @@ fn all_registers() -> RegFile
 /// Whether some dump has a register of this number.
 pub(crate) fn is_register(number: u64) -> bool
     ensures register { result ≡ is_register number }
-    ensures slot { result ≡ true → slot_of number ≡ None → ⊥ }
+    ensures slot { result ≡ true → HasSlot number }
 {
     if number >= REGISTERS {
         return false;

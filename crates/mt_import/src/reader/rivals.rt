@@ -1,9 +1,9 @@
 // What contradicts a reading: a word of the command line, or a line before.
 ghost use Rattle.std.specs.Prelude.{◌≡◌, ◌≤◌, ◌<◌, bit_or, None, IfSome};
 ghost use Rattle.mt_regs.specs.RegisterFile.{low_byte};
-ghost use Rattle.mt_import.specs.Outcome.{Seen, capability_rival, contradiction, count_rival, counted, counts_fewer, fix_shown, fixed_rival, fixless_rival, lacks_fix, pairs_fault, ranged_rival, reading_fault, rival, shows_no_fix, slot_shown, uncounted_rival, width_rival};
+ghost use Rattle.mt_import.specs.Outcome.{capability_rival, contradiction, count_rival, counted, counts_fewer, fix_shown, fixed_rival, fixless_rival, lacks_fix, pairs_fault, ranged_rival, reading_fault, rival, shows_no_fix, slot_shown, uncounted_rival, width_rival};
 ghost use Rattle.mt_import.specs.Supplied.{bits_differ, differs};
-ghost use Rattle.mt_import.specs.Reader.{HasTakenFacts, IsShort, slot_of, slots_of};
+ghost use Rattle.mt_import.specs.Reader.{HasSlot, IsOfReadings, IsShort, MayKeep, pairs_after};
 
 use super::{LogReader, least_count, shows_fixed};
 use crate::shape::{LastPair, Reading, Slot};
@@ -171,7 +171,7 @@ impl LogReader {
     // What else gives other bits than a reading, or doesn't agree with it on VCNT.
     fn rival(&self, supplied: &Supplied, reading: &Reading) -> Option<Rival>
         requires { reading.now.processor < 16 }
-        ensures { (seen : Seen) → HasTakenFacts self.now seen → result ≡ rival supplied.now seen.readings reading.now }
+        ensures { IsOfReadings self.now (λ before. rival supplied.now before reading.now) result }
     {
         if bits_differ(supplied.value(reading.number), reading.bits, reading.value) {
             return Some(Rival::Word);
@@ -189,7 +189,7 @@ impl LogReader {
 
     // What else shows that a dump has no fixed ranges, or that it has them.
     fn fixed_rival(&self, word: Option<u64>, reading: &Reading) -> Option<Rival>
-        ensures { (seen : Seen) → HasTakenFacts self.now seen → result ≡ fixed_rival word seen.readings reading.now }
+        ensures { IsOfReadings self.now (λ before. fixed_rival word before reading.now) result }
     {
         if shows_fixed(reading) {
             fixless_rival(word, &self.capabilities)
@@ -203,8 +203,9 @@ impl LogReader {
     // The low byte of the capability register of a reading's processor behind the reading.
     fn pairs_after(&self, reading: &Reading) -> u64
         requires { reading.now.processor < 16 }
-        ensures held { result ≡ low_byte (bit_or (slots_of self.now reading.now.processor 0xfe).value reading.now.value) }
-        ensures shown { (seen : Seen) → HasTakenFacts self.now seen → result ≡ low_byte (bit_or (slot_shown seen.readings reading.now.processor 0xfe).value reading.now.value) }
+        ensures held { result ≡ pairs_after self.now reading.now }
+        ensures shown { IsOfReadings self.now
+            (λ before. low_byte (bit_or (slot_shown before reading.now.processor 0xfe).value reading.now.value)) result }
     {
         (self.slot(reading.processor, CAPABILITIES).value | reading.value) % 256
     }
@@ -212,9 +213,9 @@ impl LogReader {
     // Whether the capability register has more pairs than a dump may have, as this line and those before it show it.
     fn pairs_fault(&self, reading: &Reading) -> Option<ImportFault>
         requires { reading.now.processor < 16 }
-        ensures sound { result ≡ None → reading.now.number ≡ 0xfe → low_byte (bit_or (slots_of self.now reading.now.processor 0xfe).value reading.now.value) ≤ 32 }
+        ensures sound { result ≡ None → reading.now.number ≡ 0xfe → pairs_after self.now reading.now ≤ 32 }
         ensures short { IfSome result IsShort }
-        ensures fault { (seen : Seen) → HasTakenFacts self.now seen → result ≡ pairs_fault seen.readings reading.now }
+        ensures fault { IsOfReadings self.now (λ before. pairs_fault before reading.now) result }
     {
         if reading.number == CAPABILITIES && self.pairs_after(reading) > MAX_PAIRS as u64 {
             Some(ImportFault::TooManyPairs(reading.place))
@@ -229,11 +230,10 @@ impl LogReader {
         supplied: &Supplied,
         reading: &Reading,
     ) -> Option<ImportFault>
-        requires { slot_of reading.now.number ≡ None → ⊥ }
-        ensures sound { result ≡ None → (reading.now.processor < 16)
-            × (reading.now.number ≡ 0xfe → low_byte (bit_or (slots_of self.now reading.now.processor 0xfe).value reading.now.value) ≤ 32) }
+        requires { HasSlot reading.now.number }
+        ensures sound { result ≡ None → MayKeep self.now reading.now }
         ensures short { IfSome result IsShort }
-        ensures fault { (seen : Seen) → HasTakenFacts self.now seen → result ≡ reading_fault supplied.now seen.readings reading.now }
+        ensures fault { IsOfReadings self.now (λ before. reading_fault supplied.now before reading.now) result }
     {
         if reading.processor >= MOST_PROCESSORS {
             return Some(ImportFault::BadProcessor(reading.place));

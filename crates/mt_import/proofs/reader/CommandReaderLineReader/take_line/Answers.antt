@@ -4,4 +4,4 @@ use Rattle.mt_import.proofs.reader.CommandReaderLineReader.take_line.Goals as go
 pub returns-clause-takes : goal.returns-clause-takes
 returns-clause-takes c =
     let reader = c.args.self.now in
-    takes_line reader.is_auto reader.supplied.now reader.reader c.take.new.self c.args.line.now c.take.result c.take.ensures.taken c.take.ensures.context
+    takes_line reader.is_auto reader.supplied.now reader.reader c.take.new.self c.args.line.now c.take.result c.take.ensures.facts c.take.ensures.context

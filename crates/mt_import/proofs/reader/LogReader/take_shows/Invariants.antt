@@ -1,11 +1,8 @@
-use Rattle.std.proofs.Common.{◌≡◌}
-use Rattle.mt_import.specs.Outcome.{Seen}
-use Rattle.mt_import.specs.Reader.{HasTakenFacts}
-use Rattle.mt_import.proofs.Facts.{HasTakenFirst}
+use Rattle.std.proofs.Common.{take}
+use Rattle.std.specs.Prelude.{Ok, ⊤}
+use Rattle.mt_import.specs.Reader.{TakesFacts}
+use Rattle.mt_import.specs.Readings.{shows_facts}
 use Rattle.mt_import.proofs.reader.LogReader.take_shows.Given as goal
 
 abbrev pub invariant-shows : goal.invariant-shows
-invariant-shows l = record {
-  context : l.self.context ≡ l.initial.self.context;
-  taken : (seen : Seen) → HasTakenFacts l.initial.self seen → HasTakenFirst l.self l.supplied seen l.processor l.table l.i l.shows;
-}
+invariant-shows l = TakesFacts {U = ⊤} l.supplied l.initial.self l.self (shows_facts l.processor l.table (take l.i l.shows)) (Ok tt)
