@@ -6,8 +6,8 @@ ghost use Rattle.mt_import.specs.Coreboot.{base_value, colon_number, coreboot_sa
 use crate::LineSays;
 use crate::kernel::default_shown;
 use crate::pieces::{
-    VALUE_SIZE, before, behind, is_text, prefixed_number, prefixed_register, shown_as, shown_bits,
-    shows_one, shows_width, whole_number, word_place, word_text,
+    VALUE_SIZE, is_text, prefixed_number, prefixed_register, shown_as, shown_bits, shows_one,
+    shows_width, whole_number, word_place, word_text,
 };
 use crate::reading::{one_shown, two_shown};
 use mt_kinds::PAGE_BYTES;
@@ -31,7 +31,7 @@ const ENABLED: u64 = 0x800;
 fn colon_number(word: &[u8]) -> Option<u64>
     ensures { result ≡ colon_number word.now }
 {
-    match before(b":", word) {
+    match word.strip_suffix(b":") {
         Some(word) => prefixed_number(word),
         None => None,
     }
@@ -102,13 +102,13 @@ fn register_named(word: &[u8]) -> Option<u32>
     if is_text(b"IA32_MTRR_DEF_TYPE:", word) {
         return Some(DEFAULT_TYPE);
     }
-    if let Some(digits) = behind(b"PHYBASE", word) {
+    if let Some(digits) = word.strip_prefix(b"PHYBASE") {
         return of_pair(FIRST_PAIR, pair_digits(digits));
     }
-    if let Some(digits) = behind(b"PHYMASK", word) {
+    if let Some(digits) = word.strip_prefix(b"PHYMASK") {
         return of_pair(FIRST_MASK, pair_digits(digits));
     }
-    match behind(b"IA32_MTRR_FIX4K_", word) {
+    match word.strip_prefix(b"IA32_MTRR_FIX4K_") {
         Some(digits) => fixed_4k_by(digits),
         None => fixed_16k_named(word),
     }

@@ -3,7 +3,7 @@ ghost use Rattle.mt_import.specs.Edk2.{edk2_said, fixed_number, said_by_words, s
 
 use crate::LineSays;
 use crate::linux::pair_numbered;
-use crate::pieces::{behind, is_text, shows_one, sixteen_digits, value_at};
+use crate::pieces::{is_text, shows_one, sixteen_digits, value_at};
 use crate::reading::two_shown;
 use mt_regs::{DEFAULT_TYPE, FIRST_PAIR};
 use mt_text::{Line, Place, Words};
@@ -50,7 +50,7 @@ fn shows_pair(
 fn value_behind(head: &[u8], word: &[u8]) -> Option<u64>
     ensures { result ≡ value_behind head.now word.now }
 {
-    match behind(head, word) {
+    match word.strip_prefix(head) {
         Some(digits) => sixteen_digits(digits),
         None => None,
     }

@@ -3,7 +3,7 @@ ghost use Rattle.mt_import.specs.Pieces.{before};
 ghost use Rattle.mt_text.specs.Number.{decimal_number};
 ghost use Rattle.mt_import.specs.Inteltool.{halves_at, halves_value, inteltool_said, is_colon, is_register_line, is_shared, is_unique, of_halves, said_by_words, turned_by, turned_to};
 
-use crate::pieces::{before, is_text, prefixed_register, shows_one, whole_number};
+use crate::pieces::{is_text, prefixed_register, shows_one, whole_number};
 use crate::{LineSays, Turn};
 use mt_text::{Line, Words, decimal};
 
@@ -78,7 +78,7 @@ fn is_unique(words: &Words<'_>) -> bool
 fn turned_by(word: &[u8]) -> LineSays
     ensures { result ≡ turned_by (before (codes ")") word.now) }
 {
-    match before(b")", word) {
+    match word.strip_suffix(b")") {
         Some(digits) => turned_to(digits),
         None => LineSays::Turns(Turn::Unread),
     }

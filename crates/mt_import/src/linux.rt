@@ -4,9 +4,7 @@ ghost use Rattle.mt_import.specs.Linux.{amount_by, amount_in, amount_text, amoun
 
 use crate::kernel::{base_value, kernel_said, type_named};
 use crate::line_words::{LineWords, head_end};
-use crate::pieces::{
-    before, behind, is_text, number_in, prefixed_number, shown_bits, shows_one, value_at,
-};
+use crate::pieces::{is_text, number_in, prefixed_number, shown_bits, shows_one, value_at};
 use crate::reading::{one_shown, two_shown};
 use crate::{LineSays, Shown};
 use mt_regs::{CAPABILITIES, FIRST_PAIR, PAT, POWER_UP_PAT};
@@ -184,7 +182,7 @@ fn amount_in(word: &[u8]) -> Option<u64>
 fn amount_before(end: &[u8], word: &[u8]) -> Option<u64>
     ensures { result ≡ amount_by (before end.now word.now) }
 {
-    match before(end, word) {
+    match word.strip_suffix(end) {
         Some(word) => amount_in(word),
         None => None,
     }
@@ -251,7 +249,7 @@ pub(crate) fn pair_numbered(head: &[u8], end: &[u8], word: &[u8]) -> Option<u64>
     ensures pair { result ≡ pair_numbered head.now end.now word.now }
     ensures few { IfSome result (λ k. k < 32) }
 {
-    match behind(head, word) {
+    match word.strip_prefix(head) {
         Some(digits) => pair_before(end, digits),
         None => None,
     }
@@ -261,7 +259,7 @@ pub(crate) fn pair_numbered(head: &[u8], end: &[u8], word: &[u8]) -> Option<u64>
 fn number_behind(head: &[u8], word: &[u8]) -> Option<u64>
     ensures { result ≡ number_behind head.now word.now }
 {
-    match behind(head, word) {
+    match word.strip_prefix(head) {
         Some(digits) => number_in(hex64(digits)),
         None => None,
     }
@@ -296,7 +294,7 @@ fn amount_of(end: &[u8], words: &LineWords<'_>) -> Option<u64>
     if is_text(b"size=", words.text(at)) {
         return amount_before(end, words.text(at + 1));
     }
-    match behind(b"size=", words.text(at)) {
+    match words.text(at).strip_prefix(b"size=") {
         Some(word) => amount_before(end, word),
         None => None,
     }
@@ -305,7 +303,7 @@ fn amount_of(end: &[u8], words: &LineWords<'_>) -> Option<u64>
 fn is_count(word: &[u8]) -> bool
     ensures { result ≡ is_count word.now }
 {
-    behind(b"count=", word).is_some()
+    word.strip_prefix(b"count=").is_some()
 }
 
 // The type of a memory type's name before a comma.
@@ -313,7 +311,7 @@ fn type_before_comma(word: &[u8]) -> Option<u8>
     ensures code { result ≡ type_in (before (codes ",") word.now) }
     ensures small { IfSome result (λ code. code ≤ 6) }
 {
-    match before(b",", word) {
+    match word.strip_suffix(b",") {
         Some(word) => type_named(word),
         None => None,
     }
@@ -363,7 +361,7 @@ fn pair_before_comma(word: &[u8]) -> Option<u64>
     ensures pair { result ≡ pair_by (before (codes ",") word.now) }
     ensures few { IfSome result (λ pair. pair < 32) }
 {
-    match before(b",", word) {
+    match word.strip_suffix(b",") {
         Some(digits) => number_in(decimal(digits, 31)),
         None => None,
     }
@@ -446,7 +444,7 @@ fn entries_behind(word: &[u8]) -> Option<u64>
     ensures entries { result ≡ entries_in (behind (codes "(") word.now) }
     ensures few { IfSome result (λ n. n ≤ 999) }
 {
-    match behind(b"(", word) {
+    match word.strip_prefix(b"(") {
         Some(digits) => number_in(decimal(digits, MOST_ENTRIES)),
         None => None,
     }
@@ -457,7 +455,7 @@ fn entries_before(word: &[u8]) -> Option<u64>
     ensures entries { result ≡ entries_in (before (codes "),") word.now) }
     ensures few { IfSome result (λ n. n ≤ 999) }
 {
-    match before(b"),", word) {
+    match word.strip_suffix(b"),") {
         Some(digits) => number_in(decimal(digits, MOST_ENTRIES)),
         None => None,
     }
@@ -495,7 +493,7 @@ fn linux_words_said(words: &LineWords<'_>) -> LineSays
         pat_said(words)
     } else if is_text(b"reg", word) {
         cleanup_said(words)
-    } else if behind(b"reg", word).is_some() {
+    } else if word.strip_prefix(b"reg").is_some() {
         region_said(words)
     } else if is_map(words) {
         map_said(words)

@@ -2,7 +2,7 @@ ghost use Rattle.std.specs.Prelude.{◌≡◌, ◌+◌, MatchOption, Some, None,
 ghost use Rattle.mt_ports.specs.Causes.{one_more};
 ghost use Rattle.mt_text.specs.Text.{words_of};
 ghost use Rattle.mt_text.specs.Words.{place_of, text_of};
-ghost use Rattle.mt_import.specs.Pieces.{before, behind, is_prefixed, is_text, number_in, prefixed_number, prefixed_register, register_in, shown_as, shown_bits, shows_one, shows_width, whole_number, sixteen_digits, value_at};
+ghost use Rattle.mt_import.specs.Pieces.{is_prefixed, is_text, number_in, prefixed_number, prefixed_register, register_in, shown_as, shown_bits, shows_one, shows_width, whole_number, sixteen_digits, value_at};
 
 use crate::{LineSays, Shown};
 use mt_text::{Line, NumberFault, Place, Word, hex64};
@@ -18,20 +18,6 @@ pub(crate) fn is_text(text: &[u8], word: &[u8]) -> bool
     ensures { result ≡ is_text text.now word.now }
 {
     word == text
-}
-
-/// What stands behind a head, where the word begins with it.
-pub(crate) fn behind<'a>(head: &[u8], word: &'a [u8]) -> Option<&'a [u8]>
-    ensures { MatchOption result (behind head.now word.now ≡ None) (λ x. behind head.now word.now ≡ Some x.now) }
-{
-    word.strip_prefix(head)
-}
-
-/// What stands before a tail, where the word ends with it.
-pub(crate) fn before<'a>(tail: &[u8], word: &'a [u8]) -> Option<&'a [u8]>
-    ensures { MatchOption result (before tail.now word.now ≡ None) (λ x. before tail.now word.now ≡ Some x.now) }
-{
-    word.strip_suffix(tail)
 }
 
 pub(crate) fn is_prefixed(word: &[u8]) -> bool

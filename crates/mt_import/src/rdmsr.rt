@@ -4,9 +4,7 @@ ghost use Rattle.mt_import.specs.Pieces.{before, behind};
 ghost use Rattle.mt_import.specs.Rdmsr.{announced, call_from, call_of, call_said, column_register, column_said, digits_in, is_all, is_hex_option, is_padded, is_traced, option_at, processor_named, rdmsr_said, register_named, said_by_words, said_value, with_processor};
 
 use crate::line_words::LineWords;
-use crate::pieces::{
-    before, behind, is_prefixed, is_text, number_in, prefixed_register, register_in, shows_one,
-};
+use crate::pieces::{is_prefixed, is_text, number_in, prefixed_register, register_in, shows_one};
 use crate::{LineSays, Turn};
 use mt_text::{Line, Place, decimal, hex64};
 
@@ -88,7 +86,7 @@ fn with_processor(size: u8, processor: Option<u32>) -> Option<(u8, Option<u32>)>
 fn attached(word: &[u8]) -> Option<u32>
     ensures { result ≡ digits_in (behind (codes "-p") word.now) }
 {
-    match behind(b"-p", word) {
+    match word.strip_prefix(b"-p") {
         Some(digits) => processor_named(digits),
         None => None,
     }
@@ -141,7 +139,7 @@ fn said_value(place: Place, word: &[u8]) -> LineSays
 fn column_register(word: &[u8]) -> Option<u32>
     ensures { result ≡ column_register (before (codes ":") word.now) word.now }
 {
-    match before(b":", word) {
+    match word.strip_suffix(b":") {
         Some(name) => prefixed_register(name),
         None => prefixed_register(word),
     }

@@ -4,7 +4,7 @@ ghost use Rattle.mt_text.specs.Number.{decimal_number, hex_number};
 ghost use Rattle.mt_import.specs.Pieces.{behind};
 ghost use Rattle.mt_import.specs.Supplied.{AreGiven, IsSupplied, all_assumed, are_both, assumed_too, assumption_named, command_of, command_with, format_named, given_assumption, given_at, given_by, given_of, given_register, given_unless, given_width, is_equals, nothing_assumed, nothing_supplied, supplied_value, value_among, with_given, with_word, with_words};
 
-use crate::pieces::{behind, is_text};
+use crate::pieces::is_text;
 use crate::reading::is_register;
 use crate::{Choice, Format};
 use arrayvec::ArrayVec;
@@ -151,7 +151,7 @@ fn given_unless(word: &[u8]) -> Option<Given>
     ensures given { result ≡ given_unless word.now (behind (codes "assume=") word.now) }
     ensures sound { IfSome result AreGiven }
 {
-    match behind(b"assume=", word) {
+    match word.strip_prefix(b"assume=") {
         Some(name) => given_assumption(name),
         None => given_at(word),
     }
@@ -161,7 +161,7 @@ fn given_of(word: &[u8]) -> Option<Given>
     ensures given { result ≡ given_of word.now }
     ensures sound { IfSome result AreGiven }
 {
-    match behind(b"maxphyaddr=", word) {
+    match word.strip_prefix(b"maxphyaddr=") {
         Some(digits) => given_width(digits),
         None => given_unless(word),
     }

@@ -2,9 +2,7 @@ ghost use Rattle.std.specs.Prelude.{◌≡◌, ◌≤◌, codes};
 ghost use Rattle.mt_text.specs.Number.{decimal_number};
 ghost use Rattle.mt_import.specs.X86info.{first_read, is_listed, is_name, is_size, is_sizes, named_register, register_from, said_by_words, sizes_by_words, sizes_said, turned_to, x86info_said};
 
-use crate::pieces::{
-    VALUE_SIZE, before, behind, is_text, prefixed_register, shows_one, shows_width, whole_number,
-};
+use crate::pieces::{VALUE_SIZE, is_text, prefixed_register, shows_one, shows_width, whole_number};
 use crate::{LineSays, Turn};
 use mt_text::{Line, Words, decimal, without_ending};
 
@@ -22,9 +20,9 @@ fn turned_to(digits: &[u8]) -> LineSays
 fn named_register(word: &[u8]) -> Option<u32>
     ensures { result ≡ named_register word.now }
 {
-    let number = match behind(b"(", word) {
-        Some(rest) => before(b"):", rest),
-        None => before(b":", word),
+    let number = match word.strip_prefix(b"(") {
+        Some(rest) => rest.strip_suffix(b"):"),
+        None => word.strip_suffix(b":"),
     };
     match number {
         Some(number) => prefixed_register(number),
@@ -35,7 +33,7 @@ fn named_register(word: &[u8]) -> Option<u32>
 fn is_name(word: &[u8]) -> bool
     ensures { result ≡ is_name word.now }
 {
-    behind(b"MTRR", word).is_some()
+    word.strip_prefix(b"MTRR").is_some()
 }
 
 fn register_from(first: usize, words: &Words<'_>) -> LineSays
@@ -121,10 +119,10 @@ fn said_by_words(words: &Words<'_>) -> LineSays
 pub(crate) fn x86info_said(line: &Line<'_>) -> LineSays
     ensures { result ≡ x86info_said line.now.number line.now.bytes.now }
 {
-    let Some(rest) = behind(b"CPU #", without_ending(line.bytes, b'\r')) else {
+    let Some(rest) = without_ending(line.bytes, b'\r').strip_prefix(b"CPU #") else {
         return said_by_words(&line.first_words());
     };
-    match before(b":", rest) {
+    match rest.strip_suffix(b":") {
         Some(digits) => turned_to(digits),
         None => LineSays::Turns(Turn::Unread),
     }
