@@ -10,7 +10,7 @@ ends_whole told is = rw is refl
 pub ends_missing : (told : Summary) → is_empty told.missing ≡ false → ended_by told ≡ refusal told.tally told.missing
 ends_missing told is = rw is refl
 
-pub told_whole : (refused : Outcome) (told : Summary) (known capabilities : ℕ) (notes dump reasons : List ℕ) (width register : Option ℕ)
+pub told_whole : {notes dump reasons : List ℕ} {width register : Option ℕ} (refused : Outcome) (told : Summary) (known capabilities : ℕ)
     → notes ≡ told.notes → dump ≡ canon (dump_in told.values told.count known capabilities) → reasons ≡ remarks told.auto told.tally → width ≡ Some known → register ≡ Some capabilities
     → ◌≡◌ {A = Outcome} (record { notes = notes; dump = dump; reasons = reasons; status = Done }) (dump_outcome refused told width register)
-told_whole refused told known capabilities notes dump reasons width register a b c d e = rw (a, b, c, d, e) refl
+told_whole refused told known capabilities a b c d e = rw (a, b, c, d, e) refl

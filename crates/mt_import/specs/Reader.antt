@@ -1,7 +1,7 @@
 -- What a reader of a log keeps of the facts that it has taken (own).
 --     HasTakenFacts state seen      the reader has taken these facts
 --     TakesFacts supplied old new facts result      a call that takes more of them
-use Rattle.std.specs.Prelude.{ℕ, ◌≡◌, ◌≤◌, ◌<◌, ◌+◌, ◌-◌, ◌*◌, ◌==◌, nat_lt, bit_or, Bool, List, length, if◌then◌else◌, Option, Some, None, IfSome, Result, Ok, Err, IfErr, MatchResult, ⊤}
+use Rattle.std.specs.Prelude.{ℕ, ◌≡◌, ◌≤◌, ◌<◌, ◌+◌, ◌-◌, ◌*◌, ◌==◌, nat_lt, bit_or, Bool, List, [], length, if◌then◌else◌, Option, Some, None, IfSome, Result, Ok, Err, IfErr, MatchResult, ⊤}
 use Rattle.std.specs.List.{slice_index_or}
 use Rattle.std.specs.Option.{option_map_or}
 use Rattle.mt_text.specs.Reader.{Course}
@@ -19,7 +19,7 @@ use Rattle.mt_import.specs.Slot.{blank_slot}
 use Rattle.mt_import.specs.Supplied.{Supplied}
 use Rattle.mt_import.specs.Readings.{Fact}
 use Rattle.mt_import.specs.Shown.{facts_from}
-use Rattle.mt_import.specs.Outcome.{Findings, Outcome, Seen, Summary, capabilities_shown, ended, facts_fault, firm_of, hint_of, last_fixed_line, last_shown, processors, seen_after, seen_with, slot_shown, summary_of, values_of}
+use Rattle.mt_import.specs.Outcome.{Findings, Outcome, Seen, Summary, capabilities_shown, ended, facts_fault, firm_of, hint_of, is_missing, last_fixed_line, last_shown, missing_line, missing_lines, note_line, note_lines, noted, noted_of, processors, seen_after, seen_with, slot_shown, summary_of, values_of}
 
 pub record State : Type 0 where
   pub context : Context
@@ -61,6 +61,34 @@ hint_in supplied state = hint_of supplied (findings_in state)
 
 abbrev pub summary_in : Bool → Supplied → State → Summary
 summary_in auto supplied state = summary_of auto supplied (findings_in state) state.tally
+
+-- a processor lacks this register
+abbrev pub is_missing_in : Supplied → State → ℕ → Bool
+is_missing_in supplied state = is_missing (values_in supplied state) state.processors
+
+-- the line that names a register, if a processor lacks it
+abbrev pub missing_line_in : Supplied → State → ℕ → List ℕ
+missing_line_in supplied state number = if is_missing_in supplied state number then missing_line number (hint_in supplied state number) else []
+
+-- the same of each of these registers
+abbrev pub missing_lines_in : Supplied → State → List ℕ → List ℕ
+missing_lines_in supplied state = missing_lines (hint_in supplied state) (values_in supplied state) state.processors
+
+-- the assumed value of the first processor that has one
+abbrev pub noted_in : Supplied → State → ℕ → Option ℕ
+noted_in supplied state = noted (firm_in supplied state) (values_in supplied state) state.processors
+
+-- the numbers of the processors with this assumed value
+abbrev pub noted_of_in : Supplied → State → ℕ → ℕ → List ℕ
+noted_of_in supplied state = noted_of (firm_in supplied state) (values_in supplied state) state.processors
+
+-- the comments on a register, if it was assumed
+abbrev pub note_line_in : Supplied → State → ℕ → List ℕ
+note_line_in supplied state number = note_line number (noted_in supplied state number) (noted_of_in supplied state number)
+
+-- the same of each of these registers
+abbrev pub note_lines_in : Supplied → State → List ℕ → List ℕ
+note_lines_in supplied state = note_lines (firm_in supplied state) (values_in supplied state) state.processors
 
 -- a width that a dump may have
 abbrev pub IsFit : ℕ → Type 0

@@ -3,8 +3,7 @@ ghost use Rattle.mt_regs.specs.Registers.{fixed_numbers};
 ghost use Rattle.mt_kinds.specs.Bits.{is_bit_set};
 ghost use Rattle.mt_regs.specs.RegisterFile.{low_byte};
 ghost use Rattle.mt_import.specs.Outcome.{dump_in, dump_outcome, ended_by, file_of, files_of, first_pairs, fixed_of, is_empty, refusal, remarks, value_or_zero, version_of};
-ghost use Rattle.mt_import.specs.Reader.{slots_of, summary_in, values_in};
-ghost use Rattle.mt_import.specs.Values.{width_by};
+ghost use Rattle.mt_import.specs.Reader.{summary_in, values_in};
 ghost use Rattle.mt_import.specs.Import.{IsWritten, dump_text};
 
 use crate::shape::Tally;
@@ -138,8 +137,8 @@ impl LogReader {
     // The dump, where nothing is missing.
     fn dump_outcome(&self, is_auto: bool, supplied: &Supplied, missing: &[u8]) -> Outcome
         requires { length missing.now ≤ 0x7000 }
-        ensures told { result ≡ dump_outcome (refusal self.now.tally missing.now) (summary_in is_auto supplied.now self.now)
-            (width_by supplied.now (slots_of self.now) self.now.width) (values_in supplied.now self.now 0 0xfe) }
+        ensures told { let told = summary_in is_auto supplied.now self.now
+            in result ≡ dump_outcome (refusal self.now.tally missing.now) told told.width (told.values 0 0xfe) }
         ensures written { IsWritten result.status (dump_text result) }
     {
         let tally = self.tally();

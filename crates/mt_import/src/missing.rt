@@ -1,8 +1,8 @@
-ghost use Rattle.std.specs.Prelude.{◌≡◌, ◌≤◌, ◌<◌, ◌+◌, ◌++◌, [], Some, None, map, if◌then◌else◌, is_none};
+ghost use Rattle.std.specs.Prelude.{◌≡◌, ◌≤◌, ◌<◌, ◌+◌, ◌++◌, map};
 ghost use Rattle.arrayvec.specs.ArrayVec.{array_vec_len};
 ghost use Rattle.mt_regs.specs.Registers.{HasThreeDigits, number_of, writable};
-ghost use Rattle.mt_import.specs.Outcome.{is_missing, is_value, missing_line, missing_lines, missing_of, needed, note_by, note_line, note_lines, noted, noted_of, is_noted, notes_of};
-ghost use Rattle.mt_import.specs.Reader.{findings_in, firm_in, hint_in, values_in};
+ghost use Rattle.mt_import.specs.Outcome.{is_value, missing_of, note_by, is_noted, notes_of};
+ghost use Rattle.mt_import.specs.Reader.{findings_in, firm_in, is_missing_in, missing_line_in, missing_lines_in, note_line_in, note_lines_in, noted_in, noted_of_in, values_in};
 
 use crate::text::{append_noted, missing_line, note_by, width_hint, width_note};
 use crate::values::widest;
@@ -27,7 +27,7 @@ impl LogReader {
     // Whether one of the processors hasn't a register.
     fn is_missing(&self, supplied: &Supplied, number: u32) -> bool
         requires { number < 0x1000 }
-        ensures { result ≡ is_missing (values_in supplied.now self.now) self.now.processors number }
+        ensures { result ≡ is_missing_in supplied.now self.now number }
     {
         'processors: for k in 0..self.count() {
             if self.value(supplied, k, number).is_none() {
@@ -40,7 +40,7 @@ impl LogReader {
     // The value that one of the processors has by an assumption alone.
     fn noted(&self, supplied: &Supplied, number: u32) -> Option<u64>
         requires { number < 0x1000 }
-        ensures { result ≡ noted (firm_in supplied.now self.now) (values_in supplied.now self.now) self.now.processors number }
+        ensures { result ≡ noted_in supplied.now self.now number }
     {
         'processors: for k in 0..self.count() {
             if self.firm_value(supplied, k, number).is_none() {
@@ -56,9 +56,7 @@ impl LogReader {
     fn append_missing(&self, text: &mut TextBuffer, supplied: &Supplied, number: u32)
         requires room { array_vec_len text.old + 48 ≤ 0x8000 }
         requires number { HasThreeDigits number }
-        ensures text { text.new.items ≡ text.old.items
-            ++ (if is_missing (values_in supplied.now self.now) self.now.processors number
-            then missing_line number (hint_in supplied.now self.now number) else []) }
+        ensures text { text.new.items ≡ text.old.items ++ missing_line_in supplied.now self.now number }
         ensures size { array_vec_len text.new ≤ array_vec_len text.old + 48 }
     {
         if self.is_missing(supplied, number) {
@@ -80,7 +78,7 @@ impl LogReader {
     // The numbers of the processors that have this value by an assumption alone.
     fn noted_of(&self, supplied: &Supplied, number: u32, value: u64) -> LineBuffer
         requires { number < 0x1000 }
-        ensures text { result.items ≡ noted_of (firm_in supplied.now self.now) (values_in supplied.now self.now) self.now.processors number value }
+        ensures text { result.items ≡ noted_of_in supplied.now self.now number value }
         ensures short { array_vec_len result ≤ 48 }
     {
         let mut processors = ArrayVec::new();
@@ -96,7 +94,7 @@ impl LogReader {
         requires room { array_vec_len text.old + 112 ≤ 0x8000 }
         requires number { HasThreeDigits number }
         ensures text { text.new.items ≡ text.old.items
-            ++ note_by number value (noted_of (firm_in supplied.now self.now) (values_in supplied.now self.now) self.now.processors number value) }
+            ++ note_by number value (noted_of_in supplied.now self.now number value) }
         ensures size { array_vec_len text.new ≤ array_vec_len text.old + 112 }
     {
         let processors = self.noted_of(supplied, number, value);
@@ -108,9 +106,7 @@ impl LogReader {
     fn append_note(&self, text: &mut TextBuffer, supplied: &Supplied, number: u32)
         requires room { array_vec_len text.old + 224 ≤ 0x8000 }
         requires number { HasThreeDigits number }
-        ensures text { text.new.items ≡ text.old.items
-            ++ note_line number (noted (firm_in supplied.now self.now) (values_in supplied.now self.now) self.now.processors number)
-            (noted_of (firm_in supplied.now self.now) (values_in supplied.now self.now) self.now.processors number) }
+        ensures text { text.new.items ≡ text.old.items ++ note_line_in supplied.now self.now number }
         ensures size { array_vec_len text.new ≤ array_vec_len text.old + 224 }
     {
         if let Some(value) = self.noted(supplied, number) {
@@ -126,8 +122,7 @@ impl LogReader {
         requires { array_vec_len text.old ≤ 256 }
         ensures short { array_vec_len text.new ≤ 0x7000 }
         ensures text { text.new.items ≡ text.old.items
-            ++ missing_lines (hint_in supplied.now self.now) (values_in supplied.now self.now)
-            self.now.processors (map number_of (writable file.now)) }
+            ++ missing_lines_in supplied.now self.now (map number_of (writable file.now)) }
     {
         'registers: for i in 0..file.count() {
             let Some(register) = file.register_at(i) else {
@@ -141,8 +136,7 @@ impl LogReader {
     fn append_notes(&self, text: &mut TextBuffer, supplied: &Supplied, file: &RegFile)
         requires { array_vec_len text.old ≤ 512 }
         ensures { text.new.items ≡ text.old.items
-            ++ note_lines (firm_in supplied.now self.now) (values_in supplied.now self.now)
-            self.now.processors (map number_of (writable file.now)) }
+            ++ note_lines_in supplied.now self.now (map number_of (writable file.now)) }
     {
         'registers: for i in 0..file.count() {
             let Some(register) = file.register_at(i) else {

@@ -163,9 +163,8 @@ pub(crate) fn shows_width(width: Result<u64, NumberFault>, place: Place) -> Line
 
 // A word of a line, and its offset in the line.
 fn word_of<'a>(line: &Line<'a>, i: usize) -> Option<Word<'a>>
-    ensures word { MatchOption result
-        (slice_get (words_of line.now.bytes.now) i ≡ None)
-        (λ word. slice_get (words_of line.now.bytes.now) i ≡ Some (word.offset, word.text.now)) }
+    ensures word { let words = words_of line.now.bytes.now
+        in MatchOption result (slice_get words i ≡ None) (λ word. slice_get words i ≡ Some (word.offset, word.text.now)) }
     ensures place { IfSome result (λ word. word.place ≡ record { line = line.now.number; column = word.offset + 1 }) }
 {
     let alone = Line {

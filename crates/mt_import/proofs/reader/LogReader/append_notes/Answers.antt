@@ -1,8 +1,7 @@
 use Rattle.std.proofs.Common.{arith, map, take}
 use Rattle.mt_regs.specs.Registers.{number_of, writable}
 use Rattle.mt_import.proofs.Parts.{grows, notes_more, some_at}
-use Rattle.mt_import.specs.Outcome.{note_line, note_lines, noted, noted_of}
-use Rattle.mt_import.specs.Reader.{firm_in, values_in}
+use Rattle.mt_import.specs.Reader.{firm_in, note_line_in, note_lines_in, values_in}
 use Rattle.mt_import.proofs.reader.LogReader.append_notes.Goals as goal
 
 pub unreachable-requires : goal.unreachable-requires
@@ -10,12 +9,11 @@ unreachable-requires c = some_at (writable c.args.file.now) c.registers.i (omega
 
 pub registers-preserved : goal.registers-preserved
 registers-preserved c =
-    let firm = firm_in c.args.supplied.now c.args.self.now in
-    let values = values_in c.args.supplied.now c.args.self.now in
-    let count = c.args.self.now.processors in
+    let supplied = c.args.supplied.now in
+    let reader = c.args.self.now in
     record {
-      text = grows (λ n. note_line n (noted firm values count n) (noted_of firm values count n)) c.number.result (number_of c.in-Some.register) c.args.text.now.items
-          (note_lines firm values count (map number_of (take c.registers.i (writable c.args.file.now)))) _ _ _ c.number.ensures c.append_note.ensures.text c.registers.invariant.text
-          (notes_more firm values count c.registers.i (writable c.args.file.now) c.in-Some.register c.in-Some.ensures.at);
+      text = grows (note_line_in supplied reader) c.number.result (number_of c.in-Some.register) c.args.text.now.items
+          (note_lines_in supplied reader (map number_of (take c.registers.i (writable c.args.file.now)))) _ _ _ c.number.ensures c.append_note.ensures.text c.registers.invariant.text
+          (notes_more (firm_in supplied reader) (values_in supplied reader) reader.processors c.registers.i (writable c.args.file.now) c.in-Some.register c.in-Some.ensures.at);
       short = omega (arith, c.append_note.ensures.size, c.registers.invariant.short);
     }
