@@ -1,5 +1,5 @@
 -- A processor in its own system: its words, and what that system keeps.
-use Rattle.std.proofs.Common.{◌≡◌, ◌≢◌, ◌∙◌, ap, sym, refl, subst, arith, ℕ, zero, suc, ◌/◌, ◌<◌, Bool, true, false, List, [], ◌∷◌, get_or, length, replicate, ◌++◌, None, Some, length-append}
+use Rattle.std.proofs.Common.{◌≡◌, ◌≢◌, ◌∙◌, ap, sym, refl, subst, arith, ℕ, zero, suc, ◌/◌, ◌<◌, Bool, true, false, List, [], ◌∷◌, get_or, length, ◌++◌, None, Some, length-append}
 use mathlib.Core.Option.{some}
 use lib.ListN.{get_elem?}
 use Rattle.std.specs.Prelude.{IsNone, IsSome, cond, if◌then◌else◌, slice_get}
@@ -15,8 +15,10 @@ use Rattle.mt_laws.proofs.Barrier.Claims.{all_get}
 use Rattle.mt_laws.proofs.Barrier.Ranks.{and_left, and_right}
 use Rattle.mt_laws.proofs.Updates.Addresses.{length_addresses}
 use Rattle.mt_private.specs.Own.{own_memory, pages_of, words_on}
-use Rattle.mt_bus.specs.declared.system_parts.SystemParts.{SystemParts}
-use Rattle.mt_private.specs.Gathered.{AreRooms, IsRoom}
+use Rattle.mt_rendezvous.specs.declared.view.Start.{Start}
+use Rattle.mt_private.specs.declared.rooms.Room.{Room}
+use Rattle.mt_private.specs.Gathered.{AreFirst, IsRoom}
+use Rattle.mt_private.specs.Residents.{system_of}
 use Rattle.mt_private.proofs.Alone.{one_all}
 use Rattle.mt_private.proofs.Own.Buses.{in_pages}
 use Rattle.mt_private.proofs.Own.Owners.{within_of}
@@ -121,36 +123,41 @@ module _ {X : Type 0} where
   at_back [] x = refl
   at_back (y ∷ xs) x = at_back xs x
 
-pub front_tables : (ps : List Processor) (ts : List TypeTable) (p : Processor) (t : TypeTable) → AreTablesOf (ps ++ p ∷ []) (ts ++ t ∷ []) → AreTablesOf ps ts
-front_tables ps ts p t h = record {
-  count = (let a = h.count in let b = length-append ps (p ∷ []) in let c = length-append ts (t ∷ []) in omega arith);
-  each = λ k q u at_q at_u. h.each k q u (at_front ps (p ∷ []) k q at_q) (at_front ts (t ∷ []) k u at_u);
-}
+-- the last of the first ones: its own system is sound, and its table and its room are its own
+pub record IsLast (t : Start) (k : ℕ) (p : Processor) (u : TypeTable) (r : Room) : Type 0 where
+  pub at : slice_get t.cpus k ≡ Some p
+  pub sound : IsSound (record { processors = p ∷ []; memory = r.ram })
+  pub table : AreTablesOf (p ∷ []) (u ∷ [])
+  pub room : IsRoom p t.ram r
 
-pub front_rooms : (ps : List Processor) (m : Memory) (rs : List SystemParts) (p : Processor) (r : SystemParts) → AreRooms (ps ++ p ∷ []) m (rs ++ r ∷ []) → AreRooms ps m rs
-front_rooms ps m rs p r h = record {
-  count = (let a = h.count in let b = length-append ps (p ∷ []) in let c = length-append rs (r ∷ []) in omega arith);
-  each = λ k q u at_q at_u. h.each k q u (at_front ps (p ∷ []) k q at_q) (at_front rs (r ∷ []) k u at_u);
-}
+module _ (t : Start) (ps : List Processor) (us : List TypeTable) (rs : List Room) (p : Processor) (u : TypeTable) (r : Room) (h : AreFirst t (ps ++ p ∷ []) (us ++ u ∷ []) (rs ++ r ∷ [])) where
+  pub front_first : AreFirst t ps us rs
+  front_first = record {
+    sound = h.sound;
+    first = λ k q at. h.first k q (at_front ps (p ∷ []) k q at);
+    tables = record {
+      count = (let a = h.tables.count in let b = length-append ps (p ∷ []) in let c = length-append us (u ∷ []) in omega arith);
+      each = λ k q v at_q at_v. h.tables.each k q v (at_front ps (p ∷ []) k q at_q) (at_front us (u ∷ []) k v at_v);
+    };
+    have_rooms = record {
+      count = (let a = h.have_rooms.count in let b = length-append ps (p ∷ []) in let c = length-append rs (r ∷ []) in omega arith);
+      each = λ k q v at_q at_v. h.have_rooms.each k q v (at_front ps (p ∷ []) k q at_q) (at_front rs (r ∷ []) k v at_v);
+    };
+  }
 
-pub zeros : (n i : ℕ) → ◌≡◌ {A = ℕ} (get_or (replicate n 0) i 0) 0
-zeros zero i = refl
-zeros (suc n) zero = refl
-zeros (suc n) (suc i) = zeros n i
-
--- what the last ones are
-pub last_tables : (ps : List Processor) (ts : List TypeTable) (p : Processor) (t : TypeTable) → AreTablesOf (ps ++ p ∷ []) (ts ++ t ∷ []) → AreTablesOf (p ∷ []) (t ∷ [])
-last_tables ps ts p t h =
-    let a = h.count in
-    let b = length-append ps (p ∷ []) in
-    let c = length-append ts (t ∷ []) in
-    let same : length ts ≡ length ps = omega arith in
-    own_tables (ps ++ p ∷ []) (ts ++ t ∷ []) (length ps) p t h (at_back ps p) (subst (λ (n : ℕ). slice_get (ts ++ t ∷ []) n ≡ Some t) same (at_back ts t))
-
-pub last_room : (ps : List Processor) (m : Memory) (rs : List SystemParts) (p : Processor) (r : SystemParts) → AreRooms (ps ++ p ∷ []) m (rs ++ r ∷ []) → IsRoom p m r
-last_room ps m rs p r h =
-    let a = h.count in
-    let b = length-append ps (p ∷ []) in
-    let c = length-append rs (r ∷ []) in
-    let same : length rs ≡ length ps = omega arith in
-    h.each (length ps) p r (at_back ps p) (subst (λ (n : ℕ). slice_get (rs ++ r ∷ []) n ≡ Some r) same (at_back rs r))
+  pub last_first : IsLast t (length ps) p u r
+  last_first =
+      let b = length-append ps (p ∷ []) in
+      let tables = h.tables.count in
+      let rooms = h.have_rooms.count in
+      let c = length-append us (u ∷ []) in
+      let d = length-append rs (r ∷ []) in
+      let as_tables : length us ≡ length ps = omega arith in
+      let as_rooms : length rs ≡ length ps = omega arith in
+      let room = h.have_rooms.each (length ps) p r (at_back ps p) (subst (λ (n : ℕ). slice_get (rs ++ r ∷ []) n ≡ Some r) as_rooms (at_back rs r)) in
+      record {
+        at = h.first (length ps) p (at_back ps p);
+        sound = subst (λ (x : Memory). IsSound (record { processors = p ∷ []; memory = x })) (sym room) (own_sound (system_of t) (length ps) p h.sound (h.first (length ps) p (at_back ps p)));
+        table = own_tables (ps ++ p ∷ []) (us ++ u ∷ []) (length ps) p u h.tables (at_back ps p) (subst (λ (n : ℕ). slice_get (us ++ u ∷ []) n ≡ Some u) as_tables (at_back us u));
+        room = room;
+      }

@@ -8,6 +8,7 @@ use Rattle.mt_machine.specs.declared.op.Op.{Op}
 use Rattle.mt_machine.specs.declared.phase.Phase.{Phase}
 use Rattle.mt_machine.specs.declared.phase.Phase.TheVariants.{Arrived, Arrived2, Passed, Running, Taken}
 use Rattle.mt_machine.specs.System.{System}
+use Rattle.mt_bus.specs.declared.system_parts.SystemParts.{SystemParts}
 use Rattle.mt_machine.specs.Machine.{Machine, is_changing}
 use Rattle.mt_rendezvous.specs.declared.view.Added.{Added}
 use Rattle.mt_rendezvous.specs.declared.view.Added.TheVariants.{Never, Once, Twice}
@@ -21,13 +22,14 @@ use Rattle.mt_private.specs.declared.job.Job.{Job}
 use Rattle.mt_private.specs.declared.job.JobAnswers.{JobAnswers}
 use Rattle.mt_private.specs.declared.gathering.Queue.{Queue}
 use Rattle.mt_private.specs.declared.gathering.Gathering.{Gathering}
+use Rattle.mt_private.specs.declared.rooms.Room.{Room}
 use Rattle.mt_private.specs.declared.view.Resident.{Resident}
 use Rattle.mt_private.specs.declared.view.YardView.{YardView}
 use Rattle.mt_private.specs.declared.visiting.Guest.{Guest}
 use Rattle.mt_private.specs.declared.visiting.Visited.{Visited}
 use Rattle.mt_private.specs.declared.visiting.YardPass.{YardPass}
 use Rattle.mt_private.specs.declared.visitor.Visitor.{Visitor}
-use Rattle.mt_private.specs.Gathered.{AreGathered, IsGathered, IsRest, pass_of}
+use Rattle.mt_private.specs.Gathered.{AreFirst, AreGathered, IsGathered, IsRest, Offers, pass_of}
 use Rattle.mt_private.specs.Left.{AreBack, YardEnds}
 use Rattle.mt_private.specs.Visitors.{AreWaiting, HasCome, IsFresh, IsNew, Returned}
 use Rattle.mt_private.specs.YardCalls.{AreIn, IsDrained, IsLeft, KeepsOwn, Lodges, LodgesAtMostOnce, Stay, VisitEnds, Visits, done_in}
@@ -48,6 +50,10 @@ seat_in yard seat = record { table = yard.table.shared.table_id; start = start_a
 -- a seat is the root's of this yard, and has said this
 abbrev pub LeadsIn : Yard → Seat Op YardView → Go → Type 0
 LeadsIn yard seat go = Leads (as_seat (seat_in yard seat)) go
+
+-- it has the residents from number i on
+abbrev pub OffersIn : Yard → ℕ → Seat Op YardView → Type 0
+OffersIn yard i seat = Offers (start_at yard) i seat.me
 
 -- the host is of this yard, and has said this
 abbrev pub HostsIn : Yard → Host → Go → Type 0
@@ -132,6 +138,10 @@ IsGatheredIn yard k guest = IsGathered (pass_in yard guest.pass) k guest.own
 
 abbrev pub AreGatheredIn : Yard → List Guest → Type 0
 AreGatheredIn yard guests = AreGathered yard.table.shared.table_id (start_at yard) guests
+
+-- these parts and rooms are of the first processors of the system that was gathered
+abbrev pub AreFirstIn : Yard → SystemParts → List Room → Type 0
+AreFirstIn yard parts rooms = AreFirst (start_at yard) parts.cpus.items parts.tables.items rooms
 
 -- what is gathered from this start: the yard, its host, which has said nothing, and a guest for each processor
 pub record IsGatheredFrom (t : Start) (yard : Yard) (host : Host) (guests : List Guest) : Type 0 where

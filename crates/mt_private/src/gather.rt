@@ -1,145 +1,45 @@
 // A yard is gathered from a system.
-ghost use Rattle.std.specs.Prelude.{◌≡◌, ℕ, ◌+◌, ◌<◌, ◌≤◌, [], ◌∷◌, None, Some, cond, IfErr, IfOk, IfSome, length, replicate, slice_get, vec_capacity};
+ghost use Rattle.std.specs.Prelude.{◌≡◌, ◌+◌, ◌≤◌, [], IfErr, IfOk, IfSome, None, length, replicate, vec_capacity};
 ghost use Rattle.mt_machine.specs.declared.go.Go.TheVariants.{Pending};
 ghost use Rattle.mt_machine.specs.Memory.{IsMemory};
-ghost use Rattle.mt_machine.specs.System.{IsSound, Processor, System as MachineSystem};
-ghost use Rattle.mt_bus.specs.Tables.{AreTablesOf};
 ghost use Rattle.mt_rendezvous.specs.Calls.{gathered};
 ghost use Rattle.mt_private.specs.Alone.{named_by_none};
-ghost use Rattle.mt_private.specs.Own.{own_memory, own_system, pages_of};
-ghost use Rattle.mt_private.specs.Residents.{Opens, pages_at, system_of};
-ghost use Rattle.mt_private.specs.Gathered.{AreRooms, IsOwnOf, IsRest, IsRoom, OffersFrom};
-ghost use Rattle.mt_private.specs.InYard.{AreGatheredIn, HostsIn, IsFreshHost, IsGatheredIn, LeadsIn, start_at};
-ghost use Rattle.mt_private.specs.Left.{word_beside, word_by_word};
+ghost use Rattle.mt_private.specs.Own.{own_memory};
+ghost use Rattle.mt_private.specs.Residents.{Opens};
+ghost use Rattle.mt_private.specs.Gathered.{AreRooms, IsEmptied, IsOwnOf, IsRest};
+ghost use Rattle.mt_private.specs.InYard.{AreFirstIn, AreGatheredIn, HostsIn, IsFreshHost, IsGatheredIn, LeadsIn, OffersIn, start_at};
 
 use crate::host::{Host, Yard};
-use crate::joint::Joint;
-use crate::pages::names;
+use crate::joint::{Joint, put_words};
+use crate::rooms::Room;
 use crate::view::{HandsOver, YardView};
 use crate::visiting::{Guest, YardPass};
 use atomic_table::{Seat, Table};
-use mt_bus::{Holders, System, SystemParts, a_system_is_sound};
+use mt_bus::{System, SystemParts, a_system_is_sound};
 use mt_cpu::Cpu;
-use mt_kinds::PAGE_BYTES;
 use mt_machine::Op;
 use mt_ram::Ram;
 use mt_regs::RegFile;
 use mt_rendezvous::Key;
-use mt_types::KindTable;
 use std::alloc::Global;
 use std::snapshot::Snapshot;
 
-// A page, and whether a processor names it.
-#[derive(Drop)]
-struct Asked {
-    page: u64,
-    is_named: bool,
-}
-
-// The same of this page. It asks only if the last answer was of another page.
-fn asked_of(cpu: &Cpu, page: u64, last: Asked) -> Asked
-    requires { last.is_named ≡ pages_of cpu.now last.page }
-    ensures page { result.page ≡ page }
-    ensures is_named { result.is_named ≡ pages_of cpu.now page }
-{
-    if last.page == page {
-        return last;
-    }
-    Asked {
-        page,
-        is_named: names(cpu, page),
-    }
-}
-
-fn word_if(is_named: bool, word: u64) -> u64
-    ensures { result ≡ cond is_named word 0 }
-{
-    if is_named { word } else { 0 }
-}
-
-// Copies the words of the pages that the processor names. Most words follow one of the same page, so it asks only where the
-// page changes.
-fn copy_words(cpu: &Cpu, ram: &Ram, own: &mut Ram)
-    requires blank { own.old ≡ record ram.now { words = replicate (length ram.now.words) 0 } }
-    ensures { own.new ≡ own_memory (pages_of cpu.now) ram.now }
-{
-    let mut asked = Asked {
-        page: 0,
-        is_named: names(cpu, 0),
-    };
-    for i in 0..ram.words() {
-        asked = asked_of(cpu, ram.address(i) / PAGE_BYTES, asked);
-        own.put(i, word_if(asked.is_named, ram.word(i)));
-    }
-}
-
-// Memory with the words of the pages that the processor names, where there is room.
-fn own_ram(alloc: Global, cpu: &Cpu, ram: &Ram) -> Option<Ram>
-    ensures { IfSome result (λ r. r ≡ own_memory (pages_of cpu.now) ram.now) }
-{
-    let mut own = ram.blank(alloc)?;
-    copy_words(cpu, ram, &mut own);
-    Some(own)
-}
-
-// What a guest's own system is made in: empty lists with room for one processor and its table, the words of the pages that
-// the processor names, and no masks.
-fn room_for(alloc: Global, cpu: &Cpu, ram: &Ram) -> Option<SystemParts>
-    ensures { IfSome result (λ r. IsRoom cpu.now ram.now r) }
-{
-    let Ok(cpus) = Vec::with_capacity(alloc, 1) else {
-        return None;
-    };
-    let Ok(tables) = Vec::with_capacity(alloc, 1) else {
-        return None;
-    };
-    let ram = own_ram(alloc, cpu, ram)?;
-    Some(SystemParts {
-        cpus,
-        ram,
-        tables,
-        holders: Holders::unknown(alloc),
-    })
-}
-
-// Room for each guest.
-fn rooms_for(alloc: Global, cpus: &[Cpu], ram: &Ram) -> Option<Vec<SystemParts>>
+// A room for each guest, or none if an allocation fails.
+fn rooms_for(alloc: Global, cpus: &[Cpu], ram: &Ram) -> Option<Vec<Room>>
     ensures { IfSome result (λ rooms. AreRooms cpus.now ram.now rooms.items) }
 {
     let Ok(mut rooms) = Vec::with_capacity(alloc, cpus.len()) else {
         return None;
     };
     for k in 0..cpus.len() {
-        let room = room_for(alloc, &cpus[k], ram)?;
+        let room = Room::new(alloc, &cpus[k], ram)?;
         rooms.push_reserved(room);
     }
     Some(rooms)
 }
 
-// What stands at a word beside the own one.
-fn word_beside(joint: Joint, own: u64, word: u64) -> u64
-    ensures { result ≡ word_beside joint own word }
-{
-    match joint {
-        _ if own == 0 => word,
-        Joint::Less => 0,
-        Joint::Over => own,
-    }
-}
-
-// Puts at each word what stands there beside the own one.
-pub(crate) fn put_words(joint: Joint, own: &Ram, ram: &mut Ram)
-    requires { length own.now.words ≡ length ram.old.words }
-    ensures { ram.new ≡ record ram.old { words = word_by_word (word_beside joint) own.now.words ram.old.words } }
-{
-    for i in 0..ram.words() {
-        let word = word_beside(joint, own.word(i), ram.word(i));
-        ram.put(i, word);
-    }
-}
-
 // Leaves the words of the pages that no processor names, and puts 0 in place of the others.
-fn keep_left(cpus: &[Cpu], rooms: &[SystemParts], ram: &mut Ram)
+fn keep_left(cpus: &[Cpu], rooms: &[Room], ram: &mut Ram)
     requires memory { IsMemory ram.old }
     requires rooms { AreRooms cpus.now ram.old rooms.now }
     ensures { ram.new ≡ own_memory (named_by_none cpus.now) ram.old }
@@ -149,7 +49,7 @@ fn keep_left(cpus: &[Cpu], rooms: &[SystemParts], ram: &mut Ram)
     }
 }
 
-// Places for the systems that come back.
+// Places for the systems that come back, or none if an allocation fails.
 fn places_for(alloc: Global, count: usize) -> Option<Vec<Option<System>>>
     ensures { IfSome result (λ owns. owns.items ≡ replicate count None) }
 {
@@ -163,26 +63,13 @@ fn places_for(alloc: Global, count: usize) -> Option<Vec<Option<System>>>
     Some(owns)
 }
 
-// The guest's own system.
-fn settle(cpu: Cpu, table: KindTable, mut room: SystemParts) -> System
-    requires sound { IsSound (record { processors = cpu ∷ []; memory = room.ram }) }
-    requires tables { AreTablesOf (cpu ∷ []) (table ∷ []) }
-    requires room { (room.cpus.items ≡ []) × (1 ≤ vec_capacity room.cpus) × (room.tables.items ≡ []) × (1 ≤ vec_capacity room.tables) }
-    ensures { result ≡ record { processors = cpu ∷ []; memory = room.ram } }
-{
-    room.cpus.push_reserved(cpu);
-    room.tables.push_reserved(table);
-    room.holders.forget();
-    System::from_parts(room)
-}
-
 // The root's next resident goes to a new pass.
 fn give_away(yard: &Yard, seat: &mut Seat<Op, YardView>, own: System, i: usize) -> Guest
-    requires hosts { LeadsIn yard.now seat.old Pending }
-    requires offers { OffersFrom (start_at yard.now) i seat.old.me }
+    requires leads { LeadsIn yard.now seat.old Pending }
+    requires offers { OffersIn yard.now i seat.old }
     requires own { IsOwnOf (start_at yard.now) i own }
-    ensures hosts { LeadsIn yard.now seat.new Pending }
-    ensures offers { OffersFrom (start_at yard.now) (i + 1) seat.new.me }
+    ensures leads { LeadsIn yard.now seat.new Pending }
+    ensures offers { OffersIn yard.now (i + 1) seat.new }
     ensures guest { IsGatheredIn yard.now i result }
 {
     let seat = yard.table.shared.split_seat::<HandsOver>(seat);
@@ -201,23 +88,17 @@ fn give_all(
     yard: &Yard,
     seat: &mut Seat<Op, YardView>,
     parts: &mut SystemParts,
-    rooms: &mut Vec<SystemParts>,
+    rooms: &mut Vec<Room>,
     guests: &mut Vec<Guest>,
 )
-    requires hosts { LeadsIn yard.now seat.old Pending }
-    requires offers { OffersFrom (start_at yard.now) 0 seat.old.me }
-    requires sound { IsSound (system_of (start_at yard.now)) }
-    requires first { (k : ℕ) (p : Processor) → slice_get parts.old.cpus.items k ≡ Some p → slice_get (start_at yard.now).cpus k ≡ Some p }
-    requires tables { AreTablesOf parts.old.cpus.items parts.old.tables.items }
-    requires rooms { AreRooms parts.old.cpus.items (start_at yard.now).ram rooms.old.items }
+    requires leads { LeadsIn yard.now seat.old Pending }
+    requires offers { OffersIn yard.now 0 seat.old }
+    requires first { AreFirstIn yard.now parts.old rooms.old.items }
     requires room { length parts.old.cpus.items ≤ vec_capacity guests.old }
     requires empty { guests.old.items ≡ [] }
-    ensures hosts { LeadsIn yard.now seat.new Pending }
-    ensures offers { OffersFrom (start_at yard.now) (length parts.old.cpus.items) seat.new.me }
-    ensures emptied { (parts.new.cpus.items ≡ []) × (parts.new.tables.items ≡ []) }
-    ensures processors_fit { vec_capacity parts.new.cpus ≡ vec_capacity parts.old.cpus }
-    ensures tables_fit { vec_capacity parts.new.tables ≡ vec_capacity parts.old.tables }
-    ensures words { parts.new.ram ≡ parts.old.ram }
+    ensures leads { LeadsIn yard.now seat.new Pending }
+    ensures offers { OffersIn yard.now (length parts.old.cpus.items) seat.new }
+    ensures emptied { IsEmptied parts.old parts.new }
     ensures count { length guests.new.items ≡ length parts.old.cpus.items }
     ensures room { vec_capacity guests.new ≡ vec_capacity guests.old }
     ensures each { AreGatheredIn yard.now guests.new.items }
@@ -232,13 +113,13 @@ fn give_all(
         unreachable!()
     };
     let i = parts.cpus.len();
-    let own = settle(cpu, table, room);
+    let own = room.settle(cpu, table);
     give_all(yard, seat, parts, rooms, guests);
     let guest = give_away(yard, seat, own, i);
     guests.push_reserved(guest);
 }
 
-// A table for these processors, all of which the root has.
+// A table for these processors, all of which the root has, or none if an allocation fails.
 fn open(
     alloc: Global,
     cpus: &Vec<Cpu>,
@@ -246,19 +127,18 @@ fn open(
     goal: &RegFile,
 ) -> Option<(Yard, Seat<Op, YardView>)>
     requires opens { Opens (gathered cpus.now.items ram.now goal.now) }
-    ensures host { IfSome result (λ y. LeadsIn y.0 y.1 Pending × OffersFrom (start_at y.0) 0 y.1.me) }
+    ensures host { IfSome result (λ y. LeadsIn y.0 y.1 Pending × OffersIn y.0 0 y.1) }
     ensures key { IfSome result (λ y. start_at y.0 ≡ gathered cpus.now.items ram.now goal.now) }
 {
     let count = cpus.len();
-    let Ok(words) = vec![in alloc; 0u64; count + 2] else {
-        return None;
-    };
+    // The counts and the event words, which are 0.
+    let zeros = [0u64; 18];
     let key = Key {
         cpus: Snapshot::of(cpus),
         ram: Snapshot::of(ram),
         goal: Snapshot::of(goal),
     };
-    let Ok((table, seat)) = Table::of_words(alloc, words.as_slice(), &key) else {
+    let Ok((table, seat)) = Table::of_words(alloc, &zeros[..count + 2], &key) else {
         return None;
     };
     let yard = Yard {

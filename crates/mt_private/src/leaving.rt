@@ -8,9 +8,8 @@ ghost use Rattle.mt_private.specs.InYard.{AllBackIn, IsHostOf, LeavesIn, start_a
 ghost use Rattle.mt_private.specs.Left.{AreAsGathered, AreOwnsOf, AreParts, over, processors_in, with_words_of, word_by_word};
 ghost use Rattle.mt_private.specs.Residents.{system_of};
 
-use crate::gather::put_words;
 use crate::host::{Host, Yard};
-use crate::joint::Joint;
+use crate::joint::{Joint, put_words};
 use mt_bus::{System, SystemParts};
 
 // The one processor and its table go to the end of the lists, and its words to their places.

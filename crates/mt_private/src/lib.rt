@@ -10,6 +10,7 @@ mod job;
 mod joint;
 mod leaving;
 mod pages;
+mod rooms;
 mod runs;
 mod threads;
 mod view;

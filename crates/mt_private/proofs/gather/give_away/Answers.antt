@@ -25,7 +25,7 @@ split_seat-seat-requires c =
     let w = c.args.yard.now.wide in
     let o = c.requires.own in
     let t : Start = start_of c.args.yard.now.table.shared.key in
-    (c.requires.hosts.same, omega arith, splits_yard c.args.yard.now.table.shared.key _ _ _ _ (c.requires.offers ∙ offered t c.args.i o.0 o.1))
+    (c.requires.leads.same, omega arith, splits_yard c.args.yard.now.table.shared.key _ _ _ _ (c.requires.offers ∙ offered t c.args.i o.0 o.1))
 
 pub invariant_of-result-clause-known : goal.invariant_of-result-clause-known
 invariant_of-result-clause-known c =
@@ -37,10 +37,10 @@ invariant_of-result-clause-known c =
 pub invariant_of-result-clause-no_root : goal.invariant_of-result-clause-no_root
 invariant_of-result-clause-no_root c = ap (λ m. m.0.root) c.split_seat-seat.ensures.4
 
-pub returns-clause-hosts : goal.returns-clause-hosts
-returns-clause-hosts c =
+pub returns-clause-leads : goal.returns-clause-leads
+returns-clause-leads c =
     let s = c.split_seat-seat.ensures in
-    let l = c.requires.hosts in
+    let l = c.requires.leads in
     record {
       same = s.0 ∙ l.same;
       root = ap (λ m. m.0.root) s.2 ∙ l.root;
@@ -59,7 +59,7 @@ returns-clause-offers c =
 pub returns-clause-guest : goal.returns-clause-guest
 returns-clause-guest c =
     let s = c.split_seat-seat.ensures in
-    let l = c.requires.hosts in
+    let l = c.requires.leads in
     let o = c.requires.own in
     let t : Start = start_of c.args.yard.now.table.shared.key in
     let own : System = c.args.own in

@@ -1,6 +1,6 @@
 use Rattle.std.proofs.Common.{◌≡◌, length, take}
 use Rattle.mt_private.specs.Own.{own_memory, pages_of}
-use Rattle.mt_private.proofs.gather.copy_words.Given as goal
+use Rattle.mt_private.proofs.rooms.copy_words.Given as goal
 
 abbrev pub invariant-loop-i : goal.invariant-loop-i
 invariant-loop-i l = record {

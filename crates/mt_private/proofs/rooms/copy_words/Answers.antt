@@ -7,7 +7,7 @@ use Rattle.mt_machine.specs.Update.{addresses}
 use Rattle.mt_private.specs.Own.{own_memory, pages_of}
 use Rattle.mt_private.proofs.Copies.{as_many, length_on, word_there}
 use Rattle.mt_rendezvous.proofs.Handed.{same_words, taken_more}
-use Rattle.mt_private.proofs.gather.copy_words.Goals as goal
+use Rattle.mt_private.proofs.rooms.copy_words.Goals as goal
 
 pub loop-i-init : goal.loop-i-init
 loop-i-init c = record {

@@ -1,6 +1,6 @@
 use Rattle.std.proofs.Common.{◌≡◌, ℕ, ◌<◌, ◌≤◌, get_or, length}
 use Rattle.mt_private.specs.Left.{word_beside, word_by_word}
-use Rattle.mt_private.proofs.gather.put_words.Given as goal
+use Rattle.mt_private.proofs.joint.put_words.Given as goal
 
 abbrev pub invariant-loop-i : goal.invariant-loop-i
 invariant-loop-i l = record {

@@ -5,7 +5,7 @@ use Rattle.std.proofs.lemmas.List.{ext_get_or, get_or-set_other, get_or-set_same
 use Rattle.mt_machine.specs.Memory.{Memory}
 use Rattle.mt_private.specs.Left.{word_beside, word_by_word}
 use Rattle.mt_private.proofs.Left.{each_length, each_word}
-use Rattle.mt_private.proofs.gather.put_words.Goals as goal
+use Rattle.mt_private.proofs.joint.put_words.Goals as goal
 
 pub loop-i-init : goal.loop-i-init
 loop-i-init c = record {
