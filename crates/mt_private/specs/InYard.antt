@@ -1,5 +1,5 @@
 -- What holds in a yard: relations on a table and what it was gathered from, applied to the yard's own, and to seats, passes, guests and visitors.
-use Rattle.std.specs.Prelude.{◌≡◌, ◌⊎◌, ℕ, ◌≤◌, Bool, true, List, length, slice_get, vec_capacity, None, Some}
+use Rattle.std.specs.Prelude.{◌≡◌, ◌⊎◌, ℕ, Bool, true, List, length, slice_get, None, Some}
 use Rattle.atomic_table.specs.declared.shared.Seat.{Seat}
 use Rattle.mt_regs.specs.RegisterFile.{RegisterFile}
 use Rattle.mt_machine.specs.declared.go.Go.{Go}
@@ -20,9 +20,8 @@ use Rattle.mt_private.specs.declared.host.Host.{Host}
 use Rattle.mt_private.specs.declared.host.Yard.{Yard}
 use Rattle.mt_private.specs.declared.job.Job.{Job}
 use Rattle.mt_private.specs.declared.job.JobAnswers.{JobAnswers}
-use Rattle.mt_private.specs.declared.gathering.Queue.{Queue}
-use Rattle.mt_private.specs.declared.gathering.Gathering.{Gathering}
 use Rattle.mt_private.specs.declared.rooms.Room.{Room}
+use Rattle.mt_private.specs.declared.shared.Shared.{Shared}
 use Rattle.mt_private.specs.declared.view.Resident.{Resident}
 use Rattle.mt_private.specs.declared.view.YardView.{YardView}
 use Rattle.mt_private.specs.declared.visiting.Guest.{Guest}
@@ -205,28 +204,26 @@ pub record HasLeft (yard : Yard) (pass : YardPass) (core : Machine) (first : Sys
 abbrev pub IsOutside : Yard → YardPass → Machine → Type 0
 IsOutside yard pass core = HasNotTaken yard pass core ⊎ IsReleased yard pass core
 
--- ---- visitors of a gathering
+-- ---- visitors of a run
 
 -- it has this number and the job at that place, and has not begun
-pub record IsNewIn (gathering : Gathering) (k : ℕ) (visitor : Visitor) : Type 0 where
+pub record IsNewIn (shared : Shared) (k : ℕ) (visitor : Visitor) : Type 0 where
   pub job : Job
-  pub at : slice_get gathering.jobs.items k ≡ Some job
-  pub new : IsNew gathering.yard.table.shared.table_id (start_at gathering.yard) job k visitor
+  pub at : slice_get shared.jobs.items k ≡ Some job
+  pub new : IsNew shared.yard.table.shared.table_id (start_at shared.yard) job k visitor
 
 -- it has this number and the job at that place, and its visit has ended
-pub record HasComeIn (gathering : Gathering) (k : ℕ) (visitor : Visitor) : Type 0 where
+pub record HasComeIn (shared : Shared) (k : ℕ) (visitor : Visitor) : Type 0 where
   pub job : Job
-  pub at : slice_get gathering.jobs.items k ≡ Some job
-  pub come : HasCome gathering.yard.table.shared.table_id (start_at gathering.yard) job k visitor
+  pub at : slice_get shared.jobs.items k ≡ Some job
+  pub come : HasCome shared.yard.table.shared.table_id (start_at shared.yard) job k visitor
 
--- none of the guests in the queue has begun, and each has a place for its answers
-abbrev pub AreWaitingIn : Gathering → Queue → Type 0
-AreWaitingIn gathering queue = AreWaiting gathering.yard.table.shared.table_id (start_at gathering.yard) gathering.jobs.items queue.waiting.items queue.told.items
+-- none of these guests has begun, and each has a place for its answers
+abbrev pub AreWaitingIn : Shared → List Guest → List JobAnswers → Type 0
+AreWaitingIn shared waiting told = AreWaiting shared.yard.table.shared.table_id (start_at shared.yard) shared.jobs.items waiting told
 
--- the answers of all guests in the queue fit the list that has their places now
-abbrev pub HasRoom : Queue → Type 0
-HasRoom queue = length queue.waiting.items ≤ vec_capacity queue.told
-
--- the first visitors have come back, as many as there are answers
-abbrev pub ReturnedIn : Gathering → Host → List JobAnswers → Type 0
-ReturnedIn gathering host told = Returned (seat_in gathering.yard host.seat) gathering.jobs.items host.owns.items told
+-- the host has said so, and the first visitors have come back, as many, with these answers
+pub record ReturnedIn (shared : Shared) (host : Host) (go : Go) (count : ℕ) (told : List JobAnswers) : Type 0 where
+  pub came : Returned (seat_in shared.yard host.seat) shared.jobs.items host.owns.items told
+  pub said : said_by host ≡ go
+  pub whole : length told ≡ count

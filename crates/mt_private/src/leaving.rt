@@ -13,17 +13,17 @@ use crate::joint::{Joint, put_words};
 use mt_bus::{System, SystemParts};
 
 // The one processor and its table go to the end of the lists, and its words to their places.
-fn bring(own: System, room: &mut SystemParts)
+fn bring(own: System, rest: &mut SystemParts)
     requires one { length own.processors ≡ 1 }
-    requires words { length own.memory.words ≡ length room.old.ram.words }
-    requires processors { vec_len room.old.cpus < vec_capacity room.old.cpus }
-    requires places { vec_len room.old.tables < vec_capacity room.old.tables }
-    requires tables { AreTablesOf room.old.cpus.items room.old.tables.items }
-    ensures processors { room.new.cpus.items ≡ room.old.cpus.items ++ own.processors }
-    ensures tables { AreTablesOf room.new.cpus.items room.new.tables.items }
-    ensures words { room.new.ram ≡ record room.old.ram { words = word_by_word over own.memory.words room.old.ram.words } }
-    ensures count { length room.new.tables.items ≡ length room.old.tables.items + 1 }
-    ensures room { (vec_capacity room.new.cpus ≡ vec_capacity room.old.cpus) × (vec_capacity room.new.tables ≡ vec_capacity room.old.tables) }
+    requires words { length own.memory.words ≡ length rest.old.ram.words }
+    requires processors { vec_len rest.old.cpus < vec_capacity rest.old.cpus }
+    requires places { vec_len rest.old.tables < vec_capacity rest.old.tables }
+    requires tables { AreTablesOf rest.old.cpus.items rest.old.tables.items }
+    ensures processors { rest.new.cpus.items ≡ rest.old.cpus.items ++ own.processors }
+    ensures tables { AreTablesOf rest.new.cpus.items rest.new.tables.items }
+    ensures words { rest.new.ram ≡ record rest.old.ram { words = word_by_word over own.memory.words rest.old.ram.words } }
+    ensures count { length rest.new.tables.items ≡ length rest.old.tables.items + 1 }
+    ensures room { (vec_capacity rest.new.cpus ≡ vec_capacity rest.old.cpus) × (vec_capacity rest.new.tables ≡ vec_capacity rest.old.tables) }
 {
     let SystemParts {
         mut cpus,
@@ -37,32 +37,32 @@ fn bring(own: System, room: &mut SystemParts)
     let Some(table) = tables.pop() else {
         unreachable!()
     };
-    room.cpus.push_reserved(cpu);
-    room.tables.push_reserved(table);
-    put_words(Joint::Over, &ram, &mut room.ram);
+    rest.cpus.push_reserved(cpu);
+    rest.tables.push_reserved(table);
+    put_words(Joint::Over, &ram, &mut rest.ram);
 }
 
 // All of these, by their numbers.
-fn bring_all(owns: &mut Vec<Option<System>>, room: &mut SystemParts)
-    requires parts { AreParts room.old.ram owns.old.items }
-    requires empty { (room.old.cpus.items ≡ []) × (room.old.tables.items ≡ []) }
-    requires processors { length owns.old.items ≤ vec_capacity room.old.cpus }
-    requires places { length owns.old.items ≤ vec_capacity room.old.tables }
-    ensures processors { room.new.cpus.items ≡ processors_in owns.old.items }
-    ensures tables { AreTablesOf room.new.cpus.items room.new.tables.items }
-    ensures words { room.new.ram ≡ fold with_words_of room.old.ram owns.old.items }
-    ensures count { (length room.new.cpus.items ≡ length owns.old.items) × (length room.new.tables.items ≡ length owns.old.items) }
-    ensures room { (vec_capacity room.new.cpus ≡ vec_capacity room.old.cpus) × (vec_capacity room.new.tables ≡ vec_capacity room.old.tables) }
+fn bring_all(owns: &mut Vec<Option<System>>, rest: &mut SystemParts)
+    requires parts { AreParts rest.old.ram owns.old.items }
+    requires empty { (rest.old.cpus.items ≡ []) × (rest.old.tables.items ≡ []) }
+    requires processors { length owns.old.items ≤ vec_capacity rest.old.cpus }
+    requires places { length owns.old.items ≤ vec_capacity rest.old.tables }
+    ensures processors { rest.new.cpus.items ≡ processors_in owns.old.items }
+    ensures tables { AreTablesOf rest.new.cpus.items rest.new.tables.items }
+    ensures words { rest.new.ram ≡ fold with_words_of rest.old.ram owns.old.items }
+    ensures count { (length rest.new.cpus.items ≡ length owns.old.items) × (length rest.new.tables.items ≡ length owns.old.items) }
+    ensures room { (vec_capacity rest.new.cpus ≡ vec_capacity rest.old.cpus) × (vec_capacity rest.new.tables ≡ vec_capacity rest.old.tables) }
 {
     let Some(last) = owns.pop() else {
         return;
     };
     let Some(own) = last else { unreachable!() };
-    bring_all(owns, room);
-    bring(own, room);
+    bring_all(owns, rest);
+    bring(own, rest);
 }
 
-fn assembled(mut rest: SystemParts) -> System
+fn put_together(mut rest: SystemParts) -> System
     requires sound { IsSound (record { processors = rest.cpus.items; memory = rest.ram }) }
     requires tables { AreTablesOf rest.cpus.items rest.tables.items }
     ensures { result ≡ record { processors = rest.cpus.items; memory = rest.ram } }
@@ -91,5 +91,5 @@ pub fn leave(yard: Yard, host: Host) -> System
     let closed = table.close_with(seat);
     closed.free();
     bring_all(&mut owns, &mut rest);
-    assembled(rest)
+    put_together(rest)
 }

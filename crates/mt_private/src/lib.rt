@@ -1,10 +1,10 @@
 //! Processors that access memory of their own before and after one update of their range registers.
 #![tactic(auto)]
 
+mod attendance;
 mod caller;
 mod fault;
 mod gather;
-mod gathering;
 mod host;
 mod job;
 mod joint;
@@ -12,7 +12,7 @@ mod leaving;
 mod pages;
 mod rooms;
 mod runs;
-mod threads;
+mod shared;
 mod view;
 mod visiting;
 mod visitor;

@@ -15,14 +15,14 @@ ghost use Rattle.mt_private.specs.Visitors.{CanGoOn};
 ghost use Rattle.mt_private.specs.declared.job.Part.{Part as JobPart};
 ghost use Rattle.mt_private.specs.declared.job.Part.TheVariants.{Before, After};
 
+use crate::attendance::{Attendance, Ended, meet};
 use crate::caller::Caller;
 use crate::fault::PrivateFault;
-use crate::gathering::{Gathering, Queue};
 use crate::host::{Host, Yard};
 use crate::job::{Job, JobAnswers, Part, op_at};
 use crate::leaving::leave;
 use crate::pages::shared_page;
-use crate::threads::{Ended, visit_on_threads};
+use crate::shared::Shared;
 use crate::visiting::Guest;
 use mt_bus::System;
 use mt_core::{Core, a_core_arises};
@@ -101,7 +101,8 @@ fn answers_for(alloc: Global, jobs: &[Job]) -> Result<Vec<JobAnswers>, NoMemory>
     Ok(told)
 }
 
-fn rested(system: System) -> Core
+// A core without an update under way.
+fn at_rest(system: System) -> Core
     requires quiet { IsQuiet (at_rest system) }
     requires few { length system.processors ≤ 16 }
     ensures { result ≡ at_rest system }
@@ -121,7 +122,7 @@ fn gather_core(alloc: Global, core: &mut Core, goal: &RegFile) -> Option<(Yard, 
     match Yard::gather(alloc, system, goal) {
         Ok(yard) => Some(yard),
         Err(system) => {
-            *core = rested(system);
+            *core = at_rest(system);
             None
         }
     }
@@ -165,18 +166,22 @@ fn visit_all<R: Threads + Wait + Sync, G: Gate>(
     let Some((yard, host, guests)) = gather_core(alloc, core, &goal) else {
         return None;
     };
-    let gathering = Gathering { yard, goal, jobs };
-    let queue = Queue {
-        waiting: guests,
-        told,
-    };
+    let shared = Shared { yard, goal, jobs };
     let Ended {
         outcome,
         host,
         mut told,
-    } = visit_on_threads(caller, &gathering, host, queue);
-    let Gathering { yard, goal, jobs } = gathering;
-    *core = rested(leave(yard, host));
+    } = meet(
+        caller,
+        &shared,
+        Attendance {
+            host,
+            waiting: guests,
+            told,
+        },
+    );
+    let Shared { yard, goal, jobs } = shared;
+    *core = at_rest(leave(yard, host));
     match outcome {
         Ok(()) => Some(told),
         Err(refusal) => {

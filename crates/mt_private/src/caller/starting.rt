@@ -6,8 +6,8 @@ ghost use Rattle.mt_private.specs.InYard.{HasCancelledIn, HasComeIn, HoldsAsBefo
 
 use super::visits::visit_with;
 use crate::caller::Caller;
-use crate::gathering::{Gathering, job_of};
 use crate::host::Host;
+use crate::shared::{Shared, job_of};
 use crate::visitor::Visitor;
 use mt_ports::Gate;
 use mt_rendezvous::{OfProcessor, Refusal, Started};
@@ -18,14 +18,14 @@ use std::thread::{Promise, Scope};
 // What the thread of a visitor promises: it comes back, and its visit has ended. Only this file can make one.
 #[derive(Drop)]
 pub(crate) struct ComesBack {
-    gathering: Snapshot<Gathering>,
+    shared: Snapshot<Shared>,
     number: u64,
 }
 
 impl Promise<Visitor> for ComesBack {
     ghost use Rattle.mt_private.specs.InYard.{HasComeIn};
 
-    ghost kept_by = { λ p v. HasComeIn p.gathering.value p.number v };
+    ghost kept_by = { λ p v. HasComeIn p.shared.value p.number v };
 }
 
 impl OfProcessor for ComesBack {
@@ -37,29 +37,29 @@ impl OfProcessor for ComesBack {
 pub(crate) fn come_here<R: Wait, G: Gate>(
     _refusal: &Refusal,
     caller: &Caller<R, G>,
-    gathering: &Gathering,
+    shared: &Shared,
     _host: &Host,
     visitor: &mut Visitor,
 )
-    requires cancelled { HasCancelledIn gathering.now.yard _host.now }
-    requires new { IsNewIn gathering.now visitor.old.pass.number visitor.old }
-    ensures { HasComeIn gathering.now visitor.old.pass.number visitor.new }
+    requires cancelled { HasCancelledIn shared.now.yard _host.now }
+    requires new { IsNewIn shared.now visitor.old.pass.number visitor.old }
+    ensures { HasComeIn shared.now visitor.old.pass.number visitor.new }
 {
-    come(caller, gathering, visitor);
+    come(caller, shared, visitor);
 }
 
 // The whole visit, on the thread that calls it.
-fn come<R: Wait, G: Gate>(caller: &Caller<R, G>, gathering: &Gathering, visitor: &mut Visitor)
-    requires new { IsNewIn gathering.now visitor.old.pass.number visitor.old }
-    ensures { HasComeIn gathering.now visitor.old.pass.number visitor.new }
+fn come<R: Wait, G: Gate>(caller: &Caller<R, G>, shared: &Shared, visitor: &mut Visitor)
+    requires new { IsNewIn shared.now visitor.old.pass.number visitor.old }
+    ensures { HasComeIn shared.now visitor.old.pass.number visitor.new }
 {
-    let job = job_of(gathering, visitor.pass.number as usize);
+    let job = job_of(shared, visitor.pass.number as usize);
     visitor.visited = visit_with(
         caller,
-        &gathering.yard,
+        &shared.yard,
         &mut visitor.pass,
         &mut visitor.core,
-        &gathering.goal,
+        &shared.goal,
         job,
         &mut visitor.told,
     );
@@ -70,20 +70,20 @@ fn come<R: Wait, G: Gate>(caller: &Caller<R, G>, gathering: &Gathering, visitor:
 pub(crate) fn start<'s, E, R: Wait + Sync, G: Gate>(
     caller: &'s Caller<R, G>,
     scope: &Scope<'s, E>,
-    gathering: &'s Gathering,
+    shared: &'s Shared,
     host: &mut Host,
     visitor: Visitor,
 ) -> Result<Started<Visitor, ComesBack, G>, (Visitor, Refusal)>
-    requires hosts { HostsIn gathering.now.yard host.old Pending }
-    requires new { IsNewIn gathering.now visitor.pass.number visitor }
+    requires hosts { HostsIn shared.now.yard host.old Pending }
+    requires new { IsNewIn shared.now visitor.pass.number visitor }
     ensures same { HoldsAsBefore host.old host.new }
-    ensures pending { IfOk result (λ s. HostsIn gathering.now.yard host.new Pending) }
-    ensures child { IfOk result (λ s. (s.promise.value.gathering.value ≡ gathering.now) × (s.promise.value.number ≡ visitor.pass.number)) }
-    ensures cancelled { IfErr result (λ e. HostsIn gathering.now.yard host.new Cancelled) }
-    ensures come { IfErr result (λ e. HasComeIn gathering.now visitor.pass.number e.0) }
+    ensures pending { IfOk result (λ s. HostsIn shared.now.yard host.new Pending) }
+    ensures child { IfOk result (λ s. (s.promise.value.shared.value ≡ shared.now) × (s.promise.value.number ≡ visitor.pass.number)) }
+    ensures cancelled { IfErr result (λ e. HostsIn shared.now.yard host.new Cancelled) }
+    ensures come { IfErr result (λ e. HasComeIn shared.now visitor.pass.number e.0) }
 {
     let promise = ComesBack {
-        gathering: Snapshot::of(gathering),
+        shared: Snapshot::of(shared),
         number: visitor.pass.number,
     };
     match caller.crew.start(
@@ -91,19 +91,19 @@ pub(crate) fn start<'s, E, R: Wait + Sync, G: Gate>(
         visitor.pass.number as u32,
         promise,
         move || -> Visitor
-            requires shared { IsSync R.row }
-            requires new { IsNewIn gathering.now visitor.pass.number visitor }
-            ensures { HasComeIn gathering.entry.now visitor.pass.number result }
+            requires sync { IsSync R.row }
+            requires new { IsNewIn shared.now visitor.pass.number visitor }
+            ensures { HasComeIn shared.entry.now visitor.pass.number result }
         {
             let mut visitor = visitor;
-            come(caller, gathering, &mut visitor);
+            come(caller, shared, &mut visitor);
             visitor
         },
     ) {
         Ok(child) => Ok(child),
         Err(unstarted) => {
-            host.cancel(&gathering.yard);
-            Err(unstarted.done_here(&gathering.yard, host))
+            host.cancel(&shared.yard);
+            Err(unstarted.done_here(&shared.yard, host))
         }
     }
 }

@@ -25,18 +25,18 @@ bring_all-requires t c =
     let b = c.requires.places in (
       search rules,
       (
-        front_parts c.args.room.now.ram c.pop.new.self.items (c.in-Some.last ∷ []) (subst (AreParts c.args.room.now.ram) was c.requires.parts),
+        front_parts c.args.rest.now.ram c.pop.new.self.items (c.in-Some.last ∷ []) (subst (AreParts c.args.rest.now.ram) was c.requires.parts),
         (c.requires.empty, ((omega arith), (omega arith))),
       ),
     )
 
 pub bring-requires-clause-one : goal.bring-requires-clause-one
-bring-requires-clause-one t c = (part_is c.args.room.now.ram c.args.owns.now.items c.pop.new.self.items c.in-Some.last c.in-Some-last.own c.in-Some.ensures.items c.in-Some-last.is c.requires.parts).0
+bring-requires-clause-one t c = (part_is c.args.rest.now.ram c.args.owns.now.items c.pop.new.self.items c.in-Some.last c.in-Some-last.own c.in-Some.ensures.items c.in-Some-last.is c.requires.parts).0
 
 pub bring-requires-clause-words : goal.bring-requires-clause-words
 bring-requires-clause-words t c =
-    (part_is c.args.room.now.ram c.args.owns.now.items c.pop.new.self.items c.in-Some.last c.in-Some-last.own c.in-Some.ensures.items c.in-Some-last.is c.requires.parts).1
-    ∙ sym (ap (λ (m : Memory). length m.words) c.bring_all.ensures.words ∙ brought_length c.args.room.now.ram c.pop.new.self.items)
+    (part_is c.args.rest.now.ram c.args.owns.now.items c.pop.new.self.items c.in-Some.last c.in-Some-last.own c.in-Some.ensures.items c.in-Some-last.is c.requires.parts).1
+    ∙ sym (ap (λ (m : Memory). length m.words) c.bring_all.ensures.words ∙ brought_length c.args.rest.now.ram c.pop.new.self.items)
 
 pub returns-clause-processors : goal.returns-clause-processors
 returns-clause-processors t c =
@@ -50,6 +50,6 @@ pub returns-clause-words : goal.returns-clause-words
 returns-clause-words t c =
     c.bring.ensures.words
     ∙ ap (λ (m : Memory). with_words_of m (Some c.in-Some-last.own)) c.bring_all.ensures.words
-    ∙ sym (fold-append with_words_of c.args.room.now.ram c.pop.new.self.items (Some c.in-Some-last.own ∷ []))
-    ∙ ap (λ (x : Option System). fold with_words_of c.args.room.now.ram (c.pop.new.self.items ++ x ∷ [])) (sym c.in-Some-last.is)
-    ∙ ap (fold with_words_of c.args.room.now.ram) (sym c.in-Some.ensures.items)
+    ∙ sym (fold-append with_words_of c.args.rest.now.ram c.pop.new.self.items (Some c.in-Some-last.own ∷ []))
+    ∙ ap (λ (x : Option System). fold with_words_of c.args.rest.now.ram (c.pop.new.self.items ++ x ∷ [])) (sym c.in-Some-last.is)
+    ∙ ap (fold with_words_of c.args.rest.now.ram) (sym c.in-Some.ensures.items)

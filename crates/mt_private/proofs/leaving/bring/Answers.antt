@@ -13,7 +13,7 @@ pub returns-clause-processors : goal.returns-clause-processors
 returns-clause-processors c =
     let one = ap (λ (s : System). length s.processors) c.into_parts-cpus.ensures.value ∙ c.requires.one in
     c.push_reserved.ensures.items
-    ∙ ap (λ (ps : List Processor). c.args.room.now.cpus.items ++ ps)
+    ∙ ap (λ (ps : List Processor). c.args.rest.now.cpus.items ++ ps)
     (sym (one_left c.into_parts-cpus.result.cpus.items c.pop.new.self.items c.in-Some.cpu c.in-Some.ensures.items one) ∙ ap (λ (s : System). s.processors) c.into_parts-cpus.ensures.value)
 
 pub returns-clause-tables : goal.returns-clause-tables
@@ -22,10 +22,10 @@ returns-clause-tables c =
     let cpus = one_left c.into_parts-cpus.result.cpus.items c.pop.new.self.items c.in-Some.cpu c.in-Some.ensures.items one in
     let tables = one_left c.into_parts-cpus.result.tables.items c.pop-2.new.self.items c.in-Some-pop.table c.in-Some-pop.ensures.items (c.into_parts-cpus.ensures.whole.tables.count ∙ one) in
     subst (λ (x : List Processor × List TypeTable). AreTablesOf x.0 x.1) (λ i. (sym c.push_reserved.ensures.items i, sym c.push_reserved-2.ensures.items i))
-    (more_tables c.args.room.now.cpus.items (c.in-Some.cpu ∷ []) c.args.room.now.tables.items (c.in-Some-pop.table ∷ []) c.requires.tables
+    (more_tables c.args.rest.now.cpus.items (c.in-Some.cpu ∷ []) c.args.rest.now.tables.items (c.in-Some-pop.table ∷ []) c.requires.tables
     (subst (λ (x : List Processor × List TypeTable). AreTablesOf x.0 x.1) (λ i. (cpus i, tables i)) c.into_parts-cpus.ensures.whole.tables))
 
 pub returns-clause-words : goal.returns-clause-words
 returns-clause-words c =
     c.put_words.ensures
-    ∙ ap (λ (s : System). record { windows = c.args.room.now.ram.windows; words = word_by_word over s.memory.words c.args.room.now.ram.words }) c.into_parts-cpus.ensures.value
+    ∙ ap (λ (s : System). record { windows = c.args.rest.now.ram.windows; words = word_by_word over s.memory.words c.args.rest.now.ram.words }) c.into_parts-cpus.ensures.value

@@ -12,12 +12,12 @@ bring_all-requires-clause-parts c =
     let back = subst (λ (n : ℕ). AreBack n c.args.host.seat.me.0 c.args.host.owns.items) (sym c.args.yard.counted) c.requires.back in
     parts_there key f.0 f.1.0 _ _ f.1.1 c.args.host.owns.items back c.args.host.rest.ram c.requires.rest.words
 
-pub assembled-requires-clause-sound : goal.assembled-requires-clause-sound
-assembled-requires-clause-sound c =
+pub put_together-requires-clause-sound : goal.put_together-requires-clause-sound
+put_together-requires-clause-sound c =
     let key = c.args.yard.table.shared.key in
     let f = c.close_with-closed.ensures.values.2 in
     let back = subst (λ (n : ℕ). AreBack n c.args.host.seat.me.0 c.args.host.owns.items) (sym c.args.yard.counted) c.requires.back in
-    subst IsSound (sym (system_is key f.0 f.1.0 _ _ f.1.1 c.args.host.owns.items back c.bring_all.new.room.cpus.items c.bring_all.new.room.ram c.args.host.rest.ram c.bring_all.ensures.processors c.bring_all.ensures.words c.requires.rest.words))
+    subst IsSound (sym (system_is key f.0 f.1.0 _ _ f.1.1 c.args.host.owns.items back c.bring_all.new.rest.cpus.items c.bring_all.new.rest.ram c.args.host.rest.ram c.bring_all.ensures.processors c.bring_all.ensures.words c.requires.rest.words))
     (sound_there key f.0 f.1.0 _ _ f.1.1 c.args.host.owns.items back)
 
 pub returns-clause-leaves : goal.returns-clause-leaves
@@ -25,7 +25,7 @@ returns-clause-leaves c =
     let key = c.args.yard.table.shared.key in
     let f = c.close_with-closed.ensures.values.2 in
     let back = subst (λ (n : ℕ). AreBack n c.args.host.seat.me.0 c.args.host.owns.items) (sym c.args.yard.counted) c.requires.back in
-    let is = c.assembled.ensures ∙ system_is key f.0 f.1.0 _ _ f.1.1 c.args.host.owns.items back c.bring_all.new.room.cpus.items c.bring_all.new.room.ram c.args.host.rest.ram c.bring_all.ensures.processors c.bring_all.ensures.words c.requires.rest.words in
+    let is = c.put_together.ensures ∙ system_is key f.0 f.1.0 _ _ f.1.1 c.args.host.owns.items back c.bring_all.new.rest.cpus.items c.bring_all.new.rest.ram c.args.host.rest.ram c.bring_all.ensures.processors c.bring_all.ensures.words c.requires.rest.words in
     subst (YardEnds (start_of key) c.args.host.seat.me.0) (sym is) (leaves key f.0 f.1.0 _ _ f.1.1 c.requires.hosts.1)
 
 pub returns-clause-owns : goal.returns-clause-owns
@@ -33,7 +33,7 @@ returns-clause-owns c =
     let key = c.args.yard.table.shared.key in
     let f = c.close_with-closed.ensures.values.2 in
     let back = subst (λ (n : ℕ). AreBack n c.args.host.seat.me.0 c.args.host.owns.items) (sym c.args.yard.counted) c.requires.back in
-    let is = c.assembled.ensures ∙ system_is key f.0 f.1.0 _ _ f.1.1 c.args.host.owns.items back c.bring_all.new.room.cpus.items c.bring_all.new.room.ram c.args.host.rest.ram c.bring_all.ensures.processors c.bring_all.ensures.words c.requires.rest.words in
+    let is = c.put_together.ensures ∙ system_is key f.0 f.1.0 _ _ f.1.1 c.args.host.owns.items back c.bring_all.new.rest.cpus.items c.bring_all.new.rest.ram c.args.host.rest.ram c.bring_all.ensures.processors c.bring_all.ensures.words c.requires.rest.words in
     subst (AreOwnsOf (start_of key) c.args.host.owns.items) (sym is) (owns_of key f.0 f.1.0 _ _ f.1.1 c.args.host.owns.items back)
 
 pub returns-clause-unvisited : goal.returns-clause-unvisited
@@ -41,6 +41,6 @@ returns-clause-unvisited c same =
     let key = c.args.yard.table.shared.key in
     let f = c.close_with-closed.ensures.values.2 in
     let back = subst (λ (n : ℕ). AreBack n c.args.host.seat.me.0 c.args.host.owns.items) (sym c.args.yard.counted) c.requires.back in
-    c.assembled.ensures
-    ∙ system_is key f.0 f.1.0 _ _ f.1.1 c.args.host.owns.items back c.bring_all.new.room.cpus.items c.bring_all.new.room.ram c.args.host.rest.ram c.bring_all.ensures.processors c.bring_all.ensures.words c.requires.rest.words
+    c.put_together.ensures
+    ∙ system_is key f.0 f.1.0 _ _ f.1.1 c.args.host.owns.items back c.bring_all.new.rest.cpus.items c.bring_all.new.rest.ram c.args.host.rest.ram c.bring_all.ensures.processors c.bring_all.ensures.words c.requires.rest.words
     ∙ unvisited key f.0 f.1.0 _ _ f.1.1 c.args.host.owns.items back same

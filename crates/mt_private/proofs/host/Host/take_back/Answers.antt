@@ -10,7 +10,6 @@ use Rattle.mt_private.specs.YardCalls.{KeepsOwn}
 use Rattle.mt_private.proofs.Carried.{its_guest, own_is}
 use Rattle.mt_private.proofs.Lists.{at_put}
 use Rattle.mt_private.proofs.Residents.Seats.{joins_yard}
-use Rattle.mt_rendezvous.specs.Station.{held}
 use Rattle.mt_private.proofs.host.Host.take_back.Goals as goal
 
 pub join_seat-requires : goal.join_seat-requires

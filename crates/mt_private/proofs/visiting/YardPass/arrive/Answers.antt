@@ -1,4 +1,4 @@
-use Rattle.std.proofs.Common.{◌≡◌, ◌∙◌, refl, ap, sym, arith, true, false, [], ◌∷◌, inl, inr}
+use Rattle.std.proofs.Common.{◌≡◌, ◌∙◌, refl, ap, sym, arith, [], ◌∷◌, inl, inr}
 use Rattle.mt_machine.specs.declared.phase.Phase.TheVariants.{Arrived, Taken}
 use Rattle.mt_machine.specs.declared.event.Event.TheVariants.{Arrive}
 use Rattle.mt_machine.specs.declared.go.Go.TheVariants.{Given, Pending}

@@ -5,7 +5,7 @@ use Rattle.mt_machine.specs.declared.phase.Phase.TheVariants.{Running}
 use Rattle.mt_machine.specs.System.{System}
 use Rattle.mt_machine.specs.Machine.{Machine}
 use Rattle.mt_private.specs.declared.job.JobAnswers.{JobAnswers}
-use Rattle.mt_private.specs.declared.gathering.Gathering.{Gathering}
+use Rattle.mt_private.specs.declared.shared.Shared.{Shared}
 use Rattle.mt_private.specs.declared.visiting.Guest.{Guest}
 use Rattle.mt_private.specs.declared.visiting.Visited.TheVariants.{Cancelled}
 use Rattle.mt_private.specs.Gathered.{IsGathered}
@@ -14,7 +14,7 @@ use Rattle.mt_private.specs.Jobs.{FitsJob}
 use Rattle.mt_private.specs.YardCalls.{AreIn}
 use Rattle.mt_private.proofs.Copies.{at_back, at_front}
 use Rattle.mt_private.proofs.Lists.{got}
-use Rattle.mt_private.proofs.threads.last.Goals as goal
+use Rattle.mt_private.proofs.attendance.last.Goals as goal
 
 pub returns-clause-number : goal.returns-clause-number
 returns-clause-number c =
@@ -24,7 +24,7 @@ returns-clause-number c =
 
 pub returns-clause-some : goal.returns-clause-some
 returns-clause-some c =
-    let gathering : Gathering = c.args.gathering.now in
+    let shared : Shared = c.args.shared.now in
     let front = c.pop.new.self.items in
     let g : Guest = c.in_ok-own.field-0 in
     let rooms = c.pop-2.new.self.items in
@@ -39,17 +39,17 @@ returns-clause-some c =
     let there = ap (λ (l : List JobAnswers). slice_get l (length front)) had ∙ ap (slice_get (rooms ++ answers ∷ [])) same ∙ at_back rooms answers in
     let system = ap (λ (x : Machine). x.system) c.core_of.ensures in
     let few = c.requires.few in
-    let job = got gathering.jobs.items (length front) (omega arith) in
+    let job = got shared.jobs.items (length front) (omega arith) in
     let gathered = c.requires.gathered (length front) g at in
-    subst (λ (k : ℕ). IsNewIn gathering k (record { core = c.core_of.result; pass = g.pass; told = answers; visited = Cancelled })) (sym gathered.numbered)
+    subst (λ (k : ℕ). IsNewIn shared k (record { core = c.core_of.result; pass = g.pass; told = answers; visited = Cancelled })) (sym gathered.numbered)
     (record {
       job = job.0;
       at = job.1;
       new = record {
-        gathered = subst (λ (o : System). IsGathered (pass_in gathering.yard g.pass) (length front) o) (sym system) gathered;
+        gathered = subst (λ (o : System). IsGathered (pass_in shared.yard g.pass) (length front) o) (sym system) gathered;
         idle = ap (λ (x : Machine). x.order) c.core_of.ensures;
         runs = subst (AreIn Running) (sym system) (c.requires.running (length front) g at);
-        fits = subst FitsJob (get_or_from_slice_get gathering.jobs.items (length front) job.0 job.0 job.1) (c.requires.fits (length front) job.0 (slice_get_within gathering.jobs.items (length front) job.0 job.1));
+        fits = subst FitsJob (get_or_from_slice_get shared.jobs.items (length front) job.0 job.0 job.1) (c.requires.fits (length front) job.0 (slice_get_within shared.jobs.items (length front) job.0 job.1));
         has_room = λ part. c.requires.has_room part (length front) job.0 answers job.1 there;
       };
     })
