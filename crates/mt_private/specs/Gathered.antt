@@ -1,4 +1,4 @@
--- What a shared makes (own).
+-- What gathering a system makes (own).
 use Rattle.std.specs.Prelude.{◌≡◌, ℕ, ◌≤◌, false, List, [], ◌∷◌, drop, length, slice_get, vec_capacity, None, Some}
 use Rattle.atomic_table.specs.Seated.{TableId}
 use Rattle.mt_types.specs.Tables.{TypeTable}
