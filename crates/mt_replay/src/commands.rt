@@ -1,6 +1,5 @@
 ghost use Rattle.std.specs.Prelude.{◌≡◌, IfOk, ◌<◌, ◌≤◌, ◌+◌, ◌*◌, ◌^◌, ◌++◌, length, slice_get, MatchOption, OnOk, OnErr, None, Some, true};
-ghost use Rattle.std.specs.List.{All};
-ghost use Rattle.mt_machine.specs.Machine.{Accesses, Calls, Cancels, Controls, IsEnabled, FitsControl, FitsGoal, FitsOp, Goes, common_era, go_of, next};
+ghost use Rattle.mt_machine.specs.Machine.{Accesses, Calls, Cancels, Controls, IsEnabled, FitsControl, FitsOp, Goes, common_era, go_of, next};
 ghost use Rattle.mt_machine.specs.System.{Processor};
 ghost use Rattle.mt_machine.specs.Start.{HasEraRoom, IsQuiet};
 ghost use Rattle.mt_ram.specs.Windows.{refusal, window};
@@ -10,6 +9,7 @@ ghost use Rattle.mt_core.specs.Arises.{grown};
 ghost use Rattle.mt_core.specs.Rounds.{in_order};
 ghost use Rattle.mt_core.specs.Steps.{step_after, step_answer};
 ghost use Rattle.mt_machine.specs.Update.{updated};
+ghost use Rattle.mt_rendezvous.specs.Update.{FitsUpdate};
 ghost use Rattle.mt_replay.specs.ReplayState.{accessed_line, after_call, after_newcomer, after_retire, after_update, after_word, asked_of, call_fault, call_line, command_text, controlled_line, file_at, is_undecided, machine_after, mapping, may_come, memory_word, newcomer_text, retire_text, update_line};
 ghost use Rattle.mt_script.specs.Situation.{Situation};
 ghost use Rattle.mt_replay.specs.Doing.{CanAsk};
@@ -38,6 +38,13 @@ use mt_tlb::Mapping;
 use std::alloc::Global;
 use std::sync::Wait;
 use std::thread::Threads;
+
+/// What an update uses: the caller, and the allocator.
+#[derive(Drop)]
+pub(crate) struct Resources<'a, R, G> {
+    pub(crate) caller: &'a Caller<R, G>,
+    pub(crate) alloc: Global,
+}
 
 // Each of these does a command, and adds its line to the bytes that wait.
 
@@ -116,9 +123,7 @@ fn common_era(core: &Core) -> u64
 
 // Calls an update to these registers, and answers why it isn't begun.
 fn call_update(core: &mut Core, goal: &RegFile) -> Option<CallFault>
-    requires some { 0 < length core.old.system.processors }
-    requires fits { All (FitsGoal goal.now) core.old.system.processors }
-    requires room { HasEraRoom core.old }
+    requires { FitsUpdate core.old goal.now }
     ensures fault { result ≡ call_fault core.old goal.now }
     ensures called { MatchOption result ((core.new ≡ next core.old (Calls goal.now)) × IsQuiet core.old × IsEnabled core.old (Calls goal.now)) (λ _. core.new ≡ core.old) }
     ensures short { (own : Fault) → result ≡ Some (CallFault.Refused own) → HasThreeDigits own.msr }
@@ -133,20 +138,17 @@ fn call_update(core: &mut Core, goal: &RegFile) -> Option<CallFault>
 
 // Updates the processors to these registers, each on a thread of its own, and answers why it isn't begun.
 fn run_update<R: Threads + Wait + Sync, G: Gate>(
-    caller: &Caller<R, G>,
-    alloc: Global,
+    resources: &Resources<'_, R, G>,
     core: &mut Core,
     goal: &RegFile,
 ) -> Option<CallFault>
-    requires some { 0 < length core.old.system.processors }
-    requires fits { All (FitsGoal goal.now) core.old.system.processors }
-    requires room { HasEraRoom core.old }
+    requires { FitsUpdate core.old goal.now }
     ensures fault { result ≡ call_fault core.old goal.now }
     ensures updated { MatchOption result (core.new ≡ updated core.old.system (in_order core.old) goal.now) (λ _. core.new ≡ core.old) }
     ensures short { (own : Fault) → result ≡ Some (CallFault.Refused own) → HasThreeDigits own.msr }
 {
     goal.is_register_file(); // a fact for the proof
-    match update_with(caller, alloc, core, goal) {
+    match update_with(resources.caller, resources.alloc, core, goal) {
         Ok(()) => None,
         Err(fault) => Some(fault),
     }
@@ -155,20 +157,17 @@ fn run_update<R: Threads + Wait + Sync, G: Gate>(
 /// A whole update to these registers, and the era after it, or why it isn't begun.
 #[inline(never)]
 pub(crate) fn update<R: Threads + Wait + Sync, G: Gate>(
-    caller: &Caller<R, G>,
-    alloc: Global,
+    resources: &Resources<'_, R, G>,
     writer: &mut Writer,
     core: &mut Core,
     goal: &RegFile,
 )
     requires line { length writer.old + LINE_ROOM ≤ WRITER_ROOM }
-    requires some { 0 < length core.old.system.processors }
-    requires fits { All (FitsGoal goal.now) core.old.system.processors }
-    requires room { HasEraRoom core.old }
+    requires fits { FitsUpdate core.old goal.now }
     ensures text { writer.new ≡ writer.old ++ update_line core.old goal.now }
     ensures after { core.new ≡ after_update core.old goal.now }
 {
-    match run_update(caller, alloc, core, goal) {
+    match run_update(resources, core, goal) {
         None => writer.append(complete_line(common_era(core)).as_slice()),
         Some(fault) => writer.append(call_fault_line(&fault).as_slice()),
     }
@@ -178,9 +177,7 @@ pub(crate) fn update<R: Threads + Wait + Sync, G: Gate>(
 #[inline(never)]
 pub(crate) fn call(writer: &mut Writer, core: &mut Core, goal: &RegFile)
     requires line { length writer.old + LINE_ROOM ≤ WRITER_ROOM }
-    requires some { 0 < length core.old.system.processors }
-    requires fits { All (FitsGoal goal.now) core.old.system.processors }
-    requires room { HasEraRoom core.old }
+    requires fits { FitsUpdate core.old goal.now }
     ensures text { writer.new ≡ writer.old ++ call_line core.old goal.now }
     ensures after { core.new ≡ after_call core.old goal.now }
 {

@@ -16,12 +16,12 @@ ghost use Rattle.mt_output.specs.Ports.{change, port};
 ghost use Rattle.mt_replay.specs.Summing.{Begins, Lasts, state_in};
 ghost use Rattle.mt_replay.specs.Transcript.{ScriptState, in_body};
 
+use crate::commands::Resources;
 use crate::replayer::Replayer;
 use mt_dump::Dump;
 use mt_output::{LineBuffer, Writer, accepted_line, dump_refused_line, offence_line};
 use mt_ports::{Failed, Gate, NoMemory, Sink};
 use mt_regs::first_refusal;
-use mt_rendezvous::Caller;
 use mt_script::{Command, Head, Newcomer, Offence, Setup, read_command};
 use mt_stream::{Stop, tell};
 use mt_text::Line;
@@ -45,6 +45,18 @@ impl Run {
         match self {
             Run::Head(head) => &head.setup,
             Run::Body(replayer) => replayer.setup(),
+        }
+    }
+
+    // Takes the setup of a script whose dump has ended.
+    fn take_setup(&mut self) -> Setup
+        requires { state_in self.old ≡ None }
+        ensures taken { result ≡ setup_of self.old }
+        ensures head { state_in self.new ≡ None }
+    {
+        match self {
+            Run::Head(head) => mem::replace(&mut head.setup, Setup::new()),
+            Run::Body(_) => unreachable!(),
         }
     }
 }
@@ -74,18 +86,17 @@ fn tell_offence<K: Sink>(
 fn begin<K: Sink>(
     alloc: Global,
     run: &mut Run,
-    setup: Setup,
     dump: Dump,
     writer: &mut Writer,
     sink: &mut K,
 ) -> Result<Option<Stop>, Failed>
-    requires stage { is_in_dump setup.stage ≡ true }
-    requires each { has_each setup.cpus dump ≡ true }
+    requires stage { is_in_dump (setup_of run.old).stage ≡ true }
+    requires each { has_each (setup_of run.old).cpus dump ≡ true }
     requires head { state_in run.old ≡ None }
-    ensures bytes { (number : ℕ) → Takes (StandsAt run.new) (dump_at setup dump number) (change writer.old writer.new) (port K.taken sink.old sink.new) result }
+    ensures bytes { (number : ℕ) → Takes (StandsAt run.new) (dump_at (setup_of run.old) dump number) (change writer.old writer.new) (port K.taken sink.old sink.new) result }
     ensures eras { (most : ℕ) → IfGoesOn result (HasErasAt most run.new) }
     ensures asks { result ≡ Ok (Some Stop.NoMemory) → first_refusal dump.files ≡ None }
-    ensures state { Begins setup dump run.new result }
+    ensures state { Begins (setup_of run.old) dump run.new result }
     ensures cause { HasCause (K.faults sink.old) (K.faults sink.new) result }
 {
     dump.is_dump(); // a fact for the proof
@@ -94,7 +105,7 @@ fn begin<K: Sink>(
         let line = dump_refused_line(dump.version, k, &fault);
         return tell(writer, sink, line.as_slice(), Stop::Refused);
     }
-    let Ok(replayer) = Replayer::begin(alloc, setup, dump) else {
+    let Ok(replayer) = Replayer::begin(alloc, run.take_setup(), dump) else {
         return Ok(Some(Stop::NoMemory));
     };
     *run = Run::Body(replayer);
@@ -106,8 +117,7 @@ fn begin<K: Sink>(
 
 // Does a command that asks for no memory. Its line is formed behind the bytes that wait, once there is room for it.
 fn form<R: Threads + Wait + Sync, K: Sink, G: Gate>(
-    caller: &Caller<R, G>,
-    alloc: Global,
+    resources: &Resources<'_, R, G>,
     replayer: &mut Replayer,
     c: &Command,
     writer: &mut Writer,
@@ -122,7 +132,7 @@ fn form<R: Threads + Wait + Sync, K: Sink, G: Gate>(
 {
     match writer.make_room(sink) {
         Ok(()) => {
-            replayer.run(caller, alloc, c, writer);
+            replayer.run(resources.caller, resources.alloc, c, writer);
             Ok(())
         }
         Err(failed) => Err(failed),
@@ -168,8 +178,7 @@ fn bring_in<K: Sink>(
 
 // Does a command and writes what it says. It returns a stop if memory is refused.
 fn do_command<R: Threads + Wait + Sync, K: Sink, G: Gate>(
-    caller: &Caller<R, G>,
-    alloc: Global,
+    resources: &Resources<'_, R, G>,
     replayer: &mut Replayer,
     c: &Command,
     writer: &mut Writer,
@@ -192,7 +201,7 @@ fn do_command<R: Threads + Wait + Sync, K: Sink, G: Gate>(
             Err(_) => Ok(Some(Stop::NoMemory)),
         },
         Command::Newcomer(newcomer) => bring_in(replayer, newcomer, writer, sink),
-        _ => match form(caller, alloc, replayer, c, writer, sink) {
+        _ => match form(resources, replayer, c, writer, sink) {
             Ok(()) => Ok(None),
             Err(failed) => Err(failed),
         },
@@ -201,8 +210,7 @@ fn do_command<R: Threads + Wait + Sync, K: Sink, G: Gate>(
 
 // Takes a line behind the dump's end.
 fn take_command<R: Threads + Wait + Sync, K: Sink, G: Gate>(
-    caller: &Caller<R, G>,
-    alloc: Global,
+    resources: &Resources<'_, R, G>,
     replayer: &mut Replayer,
     line: &Line<'_>,
     writer: &mut Writer,
@@ -219,7 +227,7 @@ fn take_command<R: Threads + Wait + Sync, K: Sink, G: Gate>(
 {
     replayer.is_replay_state(); // a fact for the proof
     match read_command(line, replayer.setup()) {
-        Ok(command) => do_command(caller, alloc, replayer, &command, writer, sink),
+        Ok(command) => do_command(resources, replayer, &command, writer, sink),
         Err(fault) => tell_offence(writer, sink, &Offence::Script(fault)),
     }
 }
@@ -247,18 +255,14 @@ fn take_in_head<K: Sink>(
     };
     match head.take(line) {
         Ok(None) => Ok(None),
-        Ok(Some(dump)) => {
-            let setup = mem::replace(&mut head.setup, Setup::new());
-            begin(alloc, run, setup, dump, writer, sink)
-        }
+        Ok(Some(dump)) => begin(alloc, run, dump, writer, sink),
         Err(offence) => tell_offence(writer, sink, &offence),
     }
 }
 
 /// Takes a line. It returns a stop if the replay ends with it.
 pub(crate) fn take_line<R: Threads + Wait + Sync, K: Sink, G: Gate>(
-    caller: &Caller<R, G>,
-    alloc: Global,
+    resources: &Resources<'_, R, G>,
     run: &mut Run,
     line: &Line<'_>,
     writer: &mut Writer,
@@ -273,7 +277,7 @@ pub(crate) fn take_line<R: Threads + Wait + Sync, K: Sink, G: Gate>(
     ensures cause { HasCause (K.faults sink.old) (K.faults sink.new) result }
 {
     match run {
-        Run::Body(replayer) => take_command(caller, alloc, replayer, line, writer, sink),
-        Run::Head(_) => take_in_head(alloc, run, line, writer, sink),
+        Run::Body(replayer) => take_command(resources, replayer, line, writer, sink),
+        Run::Head(_) => take_in_head(resources.alloc, run, line, writer, sink),
     }
 }

@@ -3,8 +3,8 @@ ghost use Rattle.std.specs.List.{All};
 ghost use Rattle.mt_regs.specs.Faults.{IsAccepted};
 ghost use Rattle.mt_regs.specs.RegisterFile.{RegisterFile};
 ghost use Rattle.mt_dump.specs.ForProcessors.{has_each};
-ghost use Rattle.mt_machine.specs.Machine.{FitsGoal};
 ghost use Rattle.mt_machine.specs.Start.{HasEraRoom};
+ghost use Rattle.mt_rendezvous.specs.Update.{FitsUpdate};
 ghost use Rattle.mt_script.specs.Situation.{Situation};
 ghost use Rattle.mt_script.specs.Stages.{is_in_dump};
 ghost use Rattle.mt_script.specs.Accept.{Fits, accepted};
@@ -13,10 +13,12 @@ ghost use Rattle.mt_output.specs.Writing.{Adds};
 ghost use Rattle.mt_output.specs.Ports.{change, port};
 ghost use Rattle.mt_replay.specs.Kept.{IsReplayState};
 ghost use Rattle.mt_replay.specs.Doing.{CanDo};
-ghost use Rattle.mt_replay.specs.Parts.{IsFormed, state};
+ghost use Rattle.mt_replay.specs.Parts.{IsFormed, state_of};
 ghost use Rattle.mt_replay.specs.ReplayState.{after_call, after_update, call_line, command_text, file_at, first_state, goal_after, is_update, machine_after, may_come, state_after, update_line, with_register};
 
-use crate::commands::{add_window, ask_one, bring_in, call, cancel, go, retire, update, word};
+use crate::commands::{
+    Resources, add_window, ask_one, bring_in, call, cancel, go, retire, update, word,
+};
 use crate::report::write_report;
 use mt_core::Core;
 use mt_dump::Dump;
@@ -31,24 +33,31 @@ use std::marker::Model;
 use std::sync::Wait;
 use std::thread::Threads;
 
+// What commands act on: the machine, and the goal of the section that is read.
+#[derive(Drop)]
+struct Bench {
+    core: Core,
+    goal: RegFile,
+}
+
 /// A script between two lines after its dump: what stands set up, the machine, and the goal of the
 /// section that is read.
 #[derive(Drop)]
 pub struct Replayer {
     setup: Setup,
-    core: Core,
-    goal: RegFile,
+    bench: Bench,
 }
 
 impl Model for Replayer {
     ghost use Rattle.mt_replay.specs.ReplayState.{ReplayState};
     ghost use Rattle.mt_replay.specs.Kept.{IsReplayState};
+    ghost use Rattle.mt_replay.specs.Parts.{state_of};
 
     ghost Value = { ReplayState };
 
-    ghost view = { λ r. record { now = r.setup; machine = r.core; goal = r.goal } };
+    ghost view = { λ r. state_of r.setup r.bench };
 
-    ghost invariant = { λ r. IsReplayState (record { now = r.setup; machine = r.core; goal = r.goal }) };
+    ghost invariant = { λ r. IsReplayState (state_of r.setup r.bench) };
 }
 
 // The registers of the first processor, with which the goal of a section begins.
@@ -70,22 +79,19 @@ fn begin_goal(core: &Core, goal: &mut RegFile)
 
 // A section ends: an update, or a call for one.
 fn end_section<R: Threads + Wait + Sync, G: Gate>(
-    caller: &Caller<R, G>,
-    alloc: Global,
+    resources: &Resources<'_, R, G>,
     writer: &mut Writer,
     core: &mut Core,
     goal: &RegFile,
     stage: Stage,
 )
     requires line { length writer.old + LINE_ROOM ≤ WRITER_ROOM }
-    requires some { 0 < length core.old.system.processors }
-    requires fits { All (FitsGoal goal.now) core.old.system.processors }
-    requires room { HasEraRoom core.old }
+    requires fits { FitsUpdate core.old goal.now }
     ensures text { writer.new ≡ writer.old ++ (if is_update stage then update_line core.old goal.now else call_line core.old goal.now) }
     ensures after { core.new ≡ (if is_update stage then after_update core.old goal.now else after_call core.old goal.now) }
 {
     if stage == Stage::InUpdate {
-        update(caller, alloc, writer, core, goal);
+        update(resources, writer, core, goal);
     } else {
         call(writer, core, goal);
     }
@@ -97,63 +103,60 @@ fn set(goal: &mut RegFile, msr: u32, value: u64)
     let _ = goal.set(msr, value);
 }
 
-// A line of a section.
-#[inline(never)]
-fn take_section_line<R: Threads + Wait + Sync, G: Gate>(
-    caller: &Caller<R, G>,
-    alloc: Global,
-    writer: &mut Writer,
-    core: &mut Core,
-    goal: &mut RegFile,
-    line: Section,
-    stage: Stage,
-)
-    requires line { length writer.old + LINE_ROOM ≤ WRITER_ROOM }
-    requires some { 0 < length core.old.system.processors }
-    requires fits { All (FitsGoal goal.old) core.old.system.processors }
-    requires room { HasEraRoom core.old }
-    ensures text { (now : Situation) → now.stage ≡ stage → writer.new ≡ writer.old ++ command_text (state now core.old goal.old) (Command.Section line) }
-    ensures machine { (now : Situation) → now.stage ≡ stage → core.new ≡ machine_after (state now core.old goal.old) (Command.Section line) }
-    ensures goal { (now : Situation) → goal.new ≡ goal_after (state now core.old goal.old) (Command.Section line) }
-{
-    match line {
-        Section::Update | Section::Begin => begin_goal(core, goal),
-        Section::Register { msr, value } => set(goal, msr, value),
-        Section::End => end_section(caller, alloc, writer, core, goal, stage),
-    }
-}
-
-// Does a command that asks for no memory, and has at most one line.
-fn do_formed<R: Threads + Wait + Sync, G: Gate>(
-    caller: &Caller<R, G>,
-    alloc: Global,
-    writer: &mut Writer,
-    setup: &Setup,
-    core: &mut Core,
-    goal: &mut RegFile,
-    c: &Command,
-)
-    requires line { length writer.old + LINE_ROOM ≤ WRITER_ROOM }
-    requires state { IsReplayState (state setup.now core.old goal.old) }
-    requires formed { IsFormed c.now }
-    requires can { CanDo core.old c.now }
-    requires room { HasEraRoom core.old }
-    ensures text { writer.new ≡ writer.old ++ command_text (state setup.now core.old goal.old) c.now }
-    ensures machine { core.new ≡ machine_after (state setup.now core.old goal.old) c.now }
-    ensures goal { goal.new ≡ goal_after (state setup.now core.old goal.old) c.now }
-{
-    match *c {
-        Command::Ask(k, asked) => ask_one(writer, core, k, asked),
-        Command::Section(line) => {
-            take_section_line(caller, alloc, writer, core, goal, line, setup.stage())
+impl Bench {
+    // A line of a section.
+    #[inline(never)]
+    fn take_section_line<R: Threads + Wait + Sync, G: Gate>(
+        &mut self,
+        resources: &Resources<'_, R, G>,
+        writer: &mut Writer,
+        line: Section,
+        stage: Stage,
+    )
+        requires line { length writer.old + LINE_ROOM ≤ WRITER_ROOM }
+        requires fits { FitsUpdate self.old.core self.old.goal }
+        ensures text { (now : Situation) → now.stage ≡ stage → writer.new ≡ writer.old ++ command_text (state_of now self.old) (Command.Section line) }
+        ensures machine { (now : Situation) → now.stage ≡ stage → self.new.core ≡ machine_after (state_of now self.old) (Command.Section line) }
+        ensures goal { (now : Situation) → self.new.goal ≡ goal_after (state_of now self.old) (Command.Section line) }
+    {
+        match line {
+            Section::Update | Section::Begin => begin_goal(&self.core, &mut self.goal),
+            Section::Register { msr, value } => set(&mut self.goal, msr, value),
+            Section::End => end_section(resources, writer, &mut self.core, &self.goal, stage),
         }
-        Command::Selfsnoop(k) => core.self_snoop(k),
-        Command::Retire => retire(writer, core),
-        Command::Go => go(writer, core),
-        Command::Cancel => cancel(writer, core),
-        Command::Word(address) => word(writer, core, address),
-        Command::Blank | Command::Cpus(_) | Command::Dump | Command::DumpLine => {}
-        Command::Ram(..) | Command::Newcomer(_) | Command::Report => unreachable!(),
+    }
+
+    // Does a command that asks for no memory, and has at most one line.
+    fn do_formed<R: Threads + Wait + Sync, G: Gate>(
+        &mut self,
+        resources: &Resources<'_, R, G>,
+        writer: &mut Writer,
+        setup: &Setup,
+        c: &Command,
+    )
+        requires line { length writer.old + LINE_ROOM ≤ WRITER_ROOM }
+        requires state { IsReplayState (state_of setup.now self.old) }
+        requires formed { IsFormed c.now }
+        requires can { CanDo self.old.core c.now }
+        requires room { HasEraRoom self.old.core }
+        ensures text { writer.new ≡ writer.old ++ command_text (state_of setup.now self.old) c.now }
+        ensures machine { self.new.core ≡ machine_after (state_of setup.now self.old) c.now }
+        ensures goal { self.new.goal ≡ goal_after (state_of setup.now self.old) c.now }
+    {
+        let core = &mut self.core;
+        match *c {
+            Command::Ask(k, asked) => ask_one(writer, core, k, asked),
+            Command::Section(line) => {
+                self.take_section_line(resources, writer, line, setup.stage())
+            }
+            Command::Selfsnoop(k) => core.self_snoop(k),
+            Command::Retire => retire(writer, core),
+            Command::Go => go(writer, core),
+            Command::Cancel => cancel(writer, core),
+            Command::Word(address) => word(writer, core, address),
+            Command::Blank | Command::Cpus(_) | Command::Dump | Command::DumpLine => {}
+            Command::Ram(..) | Command::Newcomer(_) | Command::Report => unreachable!(),
+        }
     }
 }
 
@@ -173,7 +176,10 @@ impl Replayer {
         let core = Core::start(alloc, files.as_slice())?;
         let goal = dump.first_file().same();
         setup.dumped(dump);
-        Ok(Replayer { setup, core, goal })
+        Ok(Replayer {
+            setup,
+            bench: Bench { core, goal },
+        })
     }
 
     /// What stands set up.
@@ -187,14 +193,14 @@ impl Replayer {
     pub(crate) fn ram(&self) -> &Ram
         ensures { result.now ≡ self.now.machine.system.memory }
     {
-        self.core.system().ram()
+        self.bench.core.system().ram()
     }
 
     /// What every replayer keeps. This does nothing.
     pub fn is_replay_state(&self)
         ensures { IsReplayState self.now }
     {
-        let _ = &self.goal;
+        let _ = &self.bench;
     }
 
     /// Does a command that asks for no memory, and adds its line, if it has one, to the bytes that wait. An update runs
@@ -213,15 +219,8 @@ impl Replayer {
         ensures text { writer.new ≡ writer.old ++ command_text self.old c.now }
         ensures after { self.new ≡ state_after self.old c.now }
     {
-        do_formed(
-            caller,
-            alloc,
-            writer,
-            &self.setup,
-            &mut self.core,
-            &mut self.goal,
-            c,
-        );
+        let resources = Resources { caller, alloc };
+        self.bench.do_formed(&resources, writer, &self.setup, c);
         self.setup.accept(c);
     }
 
@@ -232,7 +231,7 @@ impl Replayer {
         ensures added { OnOk result (self.new ≡ state_after self.old (Command.Ram base lines)) }
         ensures kept { OnErr result (self.new ≡ self.old) }
     {
-        add_window(&mut self.core, base, lines)?;
+        add_window(&mut self.bench.core, base, lines)?;
         self.setup.accept(&Command::Ram(base, lines));
         Ok(())
     }
@@ -248,7 +247,7 @@ impl Replayer {
         ensures asks { OnErr result (may_come self.old.machine ≡ true) }
         ensures kept { OnErr result (self.new ≡ self.old) }
     {
-        let line = bring_in(&mut self.core, newcomer)?;
+        let line = bring_in(&mut self.bench.core, newcomer)?;
         self.setup.accept(&Command::Newcomer(newcomer));
         Ok(line)
     }
@@ -262,6 +261,6 @@ impl Replayer {
         ensures cause { HasCause (K.faults sink.old) (K.faults sink.new) result }
     {
         self.setup.accept(&Command::Report);
-        write_report(self.core.system().cpus(), writer, sink)
+        write_report(self.bench.core.system().cpus(), writer, sink)
     }
 }

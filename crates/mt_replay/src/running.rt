@@ -2,6 +2,7 @@ ghost use Rattle.mt_output.specs.Ports.{change, port, sink_run, source_run};
 ghost use Rattle.mt_replay.specs.Running.{HasEraRoomAt, IsReplay, replay_running};
 ghost use Rattle.mt_stream.specs.Handling.{Taken};
 
+use crate::commands::Resources;
 use crate::line::{Run, take_line};
 use mt_output::{Writer, offence_line};
 use mt_ports::{Failed, Gate, Sink, Source, Status};
@@ -54,6 +55,7 @@ pub fn replay_with<R: Threads + Wait + Sync, S: Source, K: Sink, G: Gate>(
     let Ok(mut writer) = Writer::new(alloc) else {
         return Status::NoMemory;
     };
+    let resources = Resources { caller, alloc };
     let mut run = Run::Head(Head::new());
     let take = |run: &mut Run, line: &Line<'_>, writer: &mut Writer, sink: &mut K|
         requires { HasEraRoomAt run.old }
@@ -64,7 +66,7 @@ pub fn replay_with<R: Threads + Wait + Sync, S: Source, K: Sink, G: Gate>(
           sink = port K.taken sink.old sink.new;
           faults = change (K.faults sink.old) (K.faults sink.new);
         }) result }
-    { take_line(caller, alloc, run, line, writer, sink) };
+    { take_line(&resources, run, line, writer, sink) };
     run_status(run_lines(take, &mut run, source, &mut writer, sink))
 }
 

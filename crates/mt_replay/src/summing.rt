@@ -3,6 +3,7 @@ ghost use Rattle.mt_machine.specs.Memory.{Memory};
 ghost use Rattle.mt_replay.specs.Summary.{begins_with, is_complete, memory_sum, summary, value_in};
 ghost use Rattle.mt_replay.specs.Summing.{state_in, with_line, with_memory, with_text};
 
+use crate::commands::Resources;
 use crate::line::{Run, take_line};
 use mt_output::{Writer, offence_line};
 use mt_ports::{Failed, Gate, NoMemory, Sink};
@@ -142,8 +143,7 @@ fn with_memory(totals: &Totals, run: &Run) -> Totals
 
 // Runs the lines of a text to their end, to an offence or to a refused dump.
 fn sum_lines<R: Threads + Wait + Sync, G: Gate>(
-    caller: &Caller<R, G>,
-    alloc: Global,
+    resources: &Resources<'_, R, G>,
     source: &[u8],
     writer: &mut Writer,
 ) -> Result<Totals, NoMemory>
@@ -156,7 +156,7 @@ fn sum_lines<R: Threads + Wait + Sync, G: Gate>(
     let mut at = 0;
     let mut number = 1;
     'lines: while let Some(line) = next_line(source, at, number) {
-        match take_line(caller, alloc, &mut run, &line, writer, &mut sink) {
+        match take_line(resources, &mut run, &line, writer, &mut sink) {
             Ok(None) => add_waiting(&mut totals, writer),
             Ok(Some(stop)) => {
                 if stop == Stop::NoMemory {
@@ -187,7 +187,8 @@ pub fn summary_with<R: Threads + Wait + Sync, G: Gate>(
     ensures { IfOk result (λ totals. totals ≡ summary source.now) }
 {
     let mut writer = Writer::new(alloc)?;
-    sum_lines(caller, alloc, source, &mut writer)
+    let resources = Resources { caller, alloc };
+    sum_lines(&resources, source, &mut writer)
 }
 
 /// The numbers of a script's transcript, which isn't written. The script is run as by `replay`, however long it is.

@@ -32,11 +32,10 @@ returns-in-Ok-Some-clause-bytes g c = λ came so_far was at quiet.
     let none : (so_far ≡ []) × (came ≡ false) = subst (λ (r : Run). HasOutput r came so_far) c.in-Head.is quiet in
     let (holds, step) = rw c.in-Ok-Some.field-0-is at (c.in-Ok-Some.ensures.step before read) in
     let same = (rw c.in-Ok-Some.field-0-is at c.in-Ok-Some.ensures.shown).1 in
-    let setup : c.replace-setup.result ≡ c.in-Head.head.setup = c.replace-setup.ensures.value ∙ same in
     let number = c.args.line.now.number in
     let writer = change c.args.writer.now c.begin.new.writer in
     let sink = port g.K.Sink.taken c.args.sink.now c.begin.new.sink in
-    let begun = subst (λ (now : Situation). Takes (StandsAt c.begin.new.run) (dump_at now c.in-Ok-Some.dump (number + 1)) writer sink c.begin.result) setup (c.begin.ensures.bytes (number + 1)) in
+    let begun = subst (λ (now : Situation). Takes (StandsAt c.begin.new.run) (dump_at now c.in-Ok-Some.dump (number + 1)) writer sink c.begin.result) same (c.begin.ensures.bytes (number + 1)) in
     let here = dump_at c.in-Head.head.setup c.in-Ok-Some.dump (number + 1) in
     let takes = subst (λ (l : List ℕ). Takes (StandsAt c.begin.new.run) (record here { so_far = l }) writer sink c.begin.result) (sym none.0) begun in
     subst (λ (p : ScriptState). Takes (StandsAt c.begin.new.run) (line_at came so_far number c.args.line.now.bytes.now p) writer sink c.begin.result) (sym is)
@@ -66,9 +65,8 @@ returns-in-Ok-Some-clause-last g c = λ was at.
     let (before, read, is) = in_the_head c.args.run.now c.in-Head.head was c.in-Head.is at in
     let (holds, step) = rw c.in-Ok-Some.field-0-is at (c.in-Ok-Some.ensures.step before read) in
     let shown = rw c.in-Ok-Some.field-0-is at c.in-Ok-Some.ensures.shown in
-    let setup : c.replace-setup.result ≡ c.in-Head.head.setup = c.replace-setup.ensures.value ∙ shown.1 in
     subst (λ (p : ScriptState). Lasts c.args.line.now.number c.args.line.now.bytes.now p c.begin.new.run c.begin.result) (sym is)
-    (head_shows c.in-Head.head.setup before c.args.line.now.number c.args.line.now.bytes.now c.in-Ok-Some.dump c.begin.new.run c.begin.result step c.replace-setup.result setup c.begin.ensures.state)
+    (head_shows c.in-Head.head.setup before c.args.line.now.number c.args.line.now.bytes.now c.in-Ok-Some.dump c.begin.new.run c.begin.result step c.take.new.self.setup shown.1 c.begin.ensures.state)
 
 pub returns-in-Err-clause-last : goal.returns-in-Err-clause-last
 returns-in-Err-clause-last g c = λ was at.

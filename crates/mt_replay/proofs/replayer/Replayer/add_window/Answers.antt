@@ -5,7 +5,7 @@ use Rattle.mt_script.specs.Accept.{Fits}
 use Rattle.mt_script.specs.Situation.{file_of}
 use Rattle.mt_script.specs.declared.command.Command.TheVariants as command
 use Rattle.mt_replay.specs.Kept.{IsReplayState}
-use Rattle.mt_replay.specs.Parts.{state}
+use Rattle.mt_replay.specs.Parts.{state_of}
 use Rattle.mt_replay.specs.ReplayState.{ReplayState, state_after}
 use Rattle.mt_replay.proofs.Asked.{has_place}
 use Rattle.mt_replay.proofs.Keeping.States.{first_here, state_kept}
@@ -28,7 +28,7 @@ add_window-requires-clause-room c =
 
 pub invariant_of-self-2 : goal.invariant_of-self-2
 invariant_of-self-2 c =
-    let kept : IsReplayState (state_after (state c.self.inside.setup c.self.inside.core c.self.inside.goal) (command.Ram c.args.base c.args.lines)) =
-    state_kept (state c.self.inside.setup c.self.inside.core c.self.inside.goal) (command.Ram c.args.base c.args.lines) c.self.invariant
+    let kept : IsReplayState (state_after (state_of c.self.inside.setup c.self.inside.bench) (command.Ram c.args.base c.args.lines)) =
+    state_kept (state_of c.self.inside.setup c.self.inside.bench) (command.Ram c.args.base c.args.lines) c.self.invariant
     (subst (λ (s : ReplayState). Fits s.now (command.Ram c.args.base c.args.lines)) (sym c.self.view_is) c.requires.fits) in
     rw (c.accept.ensures, c.in_ok-add_window.ensures.added) kept

@@ -2,7 +2,7 @@ use Rattle.std.proofs.Common.{◌∙◌, ◌++◌, ap, sym, subst}
 use Rattle.mt_machine.specs.Start.{HasEraRoom}
 use Rattle.mt_script.specs.Accept.{Fits}
 use Rattle.mt_replay.specs.Kept.{IsReplayState}
-use Rattle.mt_replay.specs.Parts.{state}
+use Rattle.mt_replay.specs.Parts.{state_of}
 use Rattle.mt_replay.specs.ReplayState.{ReplayState, command_text, state_after}
 use Rattle.mt_replay.proofs.Doing.{can_do}
 use Rattle.mt_replay.proofs.Keeping.States.{state_kept}
@@ -10,7 +10,7 @@ use Rattle.mt_replay.proofs.replayer.Replayer.run.Goals as goal
 
 pub do_formed-requires-clause-can : goal.do_formed-requires-clause-can
 do_formed-requires-clause-can g c κs within =
-    can_do (state c.self.inside.setup c.self.inside.core c.self.inside.goal) c.self.invariant c.args.c.now
+    can_do (state_of c.self.inside.setup c.self.inside.bench) c.self.invariant c.args.c.now
     (subst (λ (s : ReplayState). Fits s.now c.args.c.now) (sym c.self.view_is) c.requires.fits)
 
 pub do_formed-requires-clause-room : goal.do_formed-requires-clause-room
@@ -26,7 +26,7 @@ returns-clause-after g c =
 
 pub invariant_of-self : goal.invariant_of-self
 invariant_of-self g c =
-    let s : ReplayState = state c.self.inside.setup c.self.inside.core c.self.inside.goal in
+    let s : ReplayState = state_of c.self.inside.setup c.self.inside.bench in
     let kept : IsReplayState (state_after s c.args.c.now) =
     state_kept s c.args.c.now c.self.invariant (subst (λ (s : ReplayState). Fits s.now c.args.c.now) (sym c.self.view_is) c.requires.fits) in
     rw (c.accept.ensures, c.do_formed.ensures.machine, c.do_formed.ensures.goal) kept
