@@ -1,4 +1,4 @@
-use Rattle.std.proofs.Common.{◌≡◌, ◌∙◌, sym, refl, subst, ◌+◌, ℕ, false, List, [], None, Ok}
+use Rattle.std.proofs.Common.{◌≡◌, sym, refl, subst, ◌+◌, ℕ, false, List, [], None, Ok}
 use Rattle.mt_stream.specs.declared.ending.Stop.TheVariants.{BadText, NoMemory}
 use Rattle.mt_output.specs.Lines.{offence_line}
 use Rattle.mt_script.specs.Head.{offends}
