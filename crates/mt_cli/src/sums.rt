@@ -33,7 +33,7 @@ pub fn summary_text(totals: &Totals) -> LineBuffer
 }
 
 /// Writes the numbers of the transcript of the text for measurements, which is run as a script.
-#[inline(never)]
+#[inline(never)] // so that other commands need no stack for it
 pub fn big<R: Threads + Wait + Sync, K: Sink, G: Gate>(
     caller: &mt_rendezvous::Caller<R, G>,
     alloc: Global,
@@ -53,7 +53,7 @@ pub fn big<R: Threads + Wait + Sync, K: Sink, G: Gate>(
 }
 
 /// Writes what the jobs sum to that three numbers determine.
-#[inline(never)]
+#[inline(never)] // so that other commands need no stack for it
 pub fn private<R: Threads + Wait + Sync, K: Sink, G: Gate>(
     caller: &mt_private::Caller<R, G>,
     alloc: Global,

@@ -70,11 +70,11 @@ is_missing_in supplied state = is_missing (values_in supplied state) state.proce
 abbrev pub missing_line_in : Supplied → State → ℕ → List ℕ
 missing_line_in supplied state number = if is_missing_in supplied state number then missing_line number (hint_in supplied state number) else []
 
--- the same of each of these registers
+-- the lines on these registers, in their order
 abbrev pub missing_lines_in : Supplied → State → List ℕ → List ℕ
 missing_lines_in supplied state = missing_lines (hint_in supplied state) (values_in supplied state) state.processors
 
--- the assumed value of the first processor that has one
+-- a register's assumed value, of the first processor that has one
 abbrev pub noted_in : Supplied → State → ℕ → Option ℕ
 noted_in supplied state = noted (firm_in supplied state) (values_in supplied state) state.processors
 
@@ -86,7 +86,7 @@ noted_of_in supplied state = noted_of (firm_in supplied state) (values_in suppli
 abbrev pub note_line_in : Supplied → State → ℕ → List ℕ
 note_line_in supplied state number = note_line number (noted_in supplied state number) (noted_of_in supplied state number)
 
--- the same of each of these registers
+-- the comments on these registers, in their order
 abbrev pub note_lines_in : Supplied → State → List ℕ → List ℕ
 note_lines_in supplied state = note_lines (firm_in supplied state) (values_in supplied state) state.processors
 
@@ -110,7 +110,7 @@ HasSlot number = slot_of number ≡ None → ⊥
 abbrev pub pairs_after : State → Reading → ℕ
 pairs_after state reading = low_byte (bit_or (slots_of state reading.processor 0xfe).value reading.value)
 
--- A reader can keep this reading, and each processor has at most 32 pairs then.
+-- The reader has a slot for this reading. If it is of 0FEH, its processor has at most 32 pairs after it.
 pub record MayKeep (state : State) (reading : Reading) : Type 0 where
   pub processor : reading.processor < 16
   pub register : HasSlot reading.number
@@ -127,11 +127,11 @@ pub record HasTakenFacts (state : State) (seen : Seen) : Type 0 where
   pub line_of_width_is : state.line_of_width ≡ seen.line_of_width
   pub tally_is : state.tally ≡ seen.tally
 
--- A call returns this function of the readings that a reader has taken.
+-- Whatever facts the reader has taken, the result is this function of their readings.
 abbrev pub IsOfReadings : {A : Type 0} → State → (List Reading → A) → A → Type 0
 IsOfReadings state f result = (seen : Seen) → HasTakenFacts state seen → result ≡ f seen.readings
 
--- A call takes one fact, and the context is unchanged.
+-- A call takes one fact and keeps the context. It says nothing of whether the fact has a fault.
 pub record KeepsFact (old new : State) (fact : Fact) : Type 0 where
   pub taken : (seen : Seen) → HasTakenFacts old seen → HasTakenFacts new (seen_with seen fact)
   pub context : new.context ≡ old.context
@@ -145,7 +145,8 @@ IsShort (BadWidth place) = ⊤
 IsShort (Contradiction place number rival) = HasThreeDigits number
 IsShort (WidthContradiction place rival) = ⊤
 
--- A call takes facts. At `Ok` they have no fault, and the reader has taken them too. At `Err` the result is their first fault.
+-- A call takes facts. At `Ok` they have no fault, and the reader has taken them too. At `Err` the result is their first fault,
+-- which names no register of more than three hexadecimal digits. It says nothing of the context, nor of the reader at `Err`.
 pub record TakesFacts {U : Type 0} (supplied : Supplied) (old new : State) (facts : List Fact) (result : Result U ImportFault) : Type 0 where
   pub taken : (seen : Seen) → HasTakenFacts old seen → MatchResult result
       (λ _. HasTakenFacts new (seen_after seen facts) × (facts_fault supplied seen facts ≡ None))

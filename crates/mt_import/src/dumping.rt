@@ -137,8 +137,8 @@ impl LogReader {
     // The dump, where nothing is missing.
     fn dump_outcome(&self, is_auto: bool, supplied: &Supplied, missing: &[u8]) -> Outcome
         requires { length missing.now ≤ 0x7000 }
-        ensures told { let told = summary_in is_auto supplied.now self.now
-            in result ≡ dump_outcome (refusal self.now.tally missing.now) told told.width (told.values 0 0xfe) }
+        ensures told { let summary = summary_in is_auto supplied.now self.now
+            in result ≡ dump_outcome (refusal self.now.tally missing.now) summary summary.width (summary.values 0 0xfe) }
         ensures written { IsWritten result.status (dump_text result) }
     {
         let tally = self.tally();

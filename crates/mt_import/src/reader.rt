@@ -282,7 +282,7 @@ impl LogReader {
         self.processors = greater(reading.processor + 1, self.processors);
     }
 
-    // Takes a reading. At `Err` the reader is unchanged.
+    // Takes a reading.
     fn take_reading(&mut self, supplied: &Supplied, reading: &Reading) -> Result<(), ImportFault>
         requires { HasSlot reading.now.number }
         ensures { TakesFacts supplied.now self.old self.new (is_register_value reading.now ∷ []) result }
@@ -353,7 +353,7 @@ impl LogReader {
         Ok(())
     }
 
-    // Takes a width. At `Err` the reader is unchanged.
+    // Takes a width.
     fn take_width(
         &mut self,
         supplied: &Supplied,

@@ -45,7 +45,7 @@ fn append_view(text: &mut String, layout: &Layout) -> Result<(), AllocError> {
     write!(text, "' viewBox='0 {origin} {width} {height}'>\n")
 }
 
-/// All that stands in front of the headline and the title.
+/// All that stands in front of the caption and the headline.
 pub(crate) fn head_text(alloc: Global, layout: &Layout) -> Result<String, AllocError> {
     let mut text = String::new(alloc);
     text.push_str("<svg xmlns='http://www.w3.org/2000/svg")?;

@@ -1,4 +1,4 @@
--- An update of processors whose caches are empty leaves memory as it is. So it is the same over no memory.
+-- If no cache has a line, an update leaves memory as it is. So over no memory it leaves the same processors.
 use Rattle.std.proofs.Common.{◌≡◌, ◌==◌, ℕ, List, [], ◌∷◌, length, map, Option, None, Bool, true, false, refl, sym, ap, ◌∙◌, arith}
 use Rattle.std.specs.List.{list_all}
 use Rattle.std.specs.Option.{option_map_or, option_or}

@@ -47,6 +47,10 @@ pub record HasTaken (s : Machine) (goal : RegisterFile) (m : Machine) : Type 0 w
   pub order : m.order ≡ Some (order_of_call s goal)
   pub begins : Begins (gathered m.system.processors m.system.memory goal)
 
+-- the processor's cache has no line
+abbrev pub has_empty_cache : Processor → Bool
+has_empty_cache p = length p.lines == 0
+
 -- ---- what is left
 
 abbrev pub decided : Bool → Go
@@ -65,10 +69,6 @@ left_by false s goal = all_running s
 abbrev pub tables_left : Bool → TypeTable → List TypeTable → List TypeTable
 tables_left true kinds ts = map (λ t. kinds) ts
 tables_left false kinds ts = ts
-
--- its cache has no line
-abbrev pub has_empty_cache : Processor → Bool
-has_empty_cache p = length p.lines == 0
 
 -- ---- without threads
 

@@ -21,7 +21,7 @@ const GO: u64 = 1;
 
 pub(crate) const CANCEL: u64 = 0x1_0000_0000;
 
-/// The words of one update: the two counts, a phase word for each processor, and the words of memory.
+/// The words of one update: the two counts, a phase word for each processor, and the words of the gathered memory.
 #[derive(Drop)]
 pub struct Station {
     pub table: Table<(), View, Key, Meeting, Global>,

@@ -72,7 +72,7 @@ fn give_up(mut cpus: Vec<Cpu>, ram: Ram, refusal: Refusal) -> Attempt
     }
 }
 
-// Tries the update of taken processors on threads, one for each, which share this memory's words.
+// Tries the update of taken processors on threads, one for each. The table has a copy of this memory's words.
 fn update_over<R: Threads + Wait + Sync, G: Gate>(
     caller: &Caller<R, G>,
     alloc: Global,
@@ -132,8 +132,8 @@ fn are_caches_empty(cpus: &[Cpu]) -> bool
     cpus.iter().all(|cpu| cpu.cache().len() == 0)
 }
 
-// Tries the update of taken processors on threads, one for each. If no cache has a line, no word of memory is written, so the
-// threads share none.
+// Tries the update of taken processors on threads, one for each. If no cache has a line, nothing is written back. So the table
+// has no words of memory, and this memory stays.
 fn update_on_threads<R: Threads + Wait + Sync, G: Gate>(
     caller: &Caller<R, G>,
     alloc: Global,

@@ -44,7 +44,7 @@ impl LineRun for Run {
 }
 
 /// Does what `replay` does, for a caller with a runtime and a gate.
-#[inline(never)]
+#[inline(never)] // so that other commands need no stack for it
 pub fn replay_with<R: Threads + Wait + Sync, S: Source, K: Sink, G: Gate>(
     caller: &Caller<R, G>,
     alloc: Global,

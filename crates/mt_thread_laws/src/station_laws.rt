@@ -1,7 +1,8 @@
 ghost use Rattle.mt_rendezvous.specs.Laws.{BroadcastBegins, EachStepFollows, HoldsWhereFull, IsLedTo, LeftWhereCancelled, ReleasedWhereFull, ShownIsFound, StandsForOne};
 ghost use Rattle.mt_rendezvous.specs.Laws.{ArriveAgainFollows, ArriveFollows, CancelFollows, GoFollows, JoinFollows, PassFollows, ReleaseFollows, SplitFollows, WorkFollows};
 
-/// Between any two steps the words and the views stand for one state, to which the broadcast state leads.
+/// Between any two steps the words and the views stand for one state, to which the broadcast state of what was gathered
+/// leads.
 pub fn station_is_led()
     ensures led { IsLedTo }
     ensures one { StandsForOne }
@@ -28,8 +29,8 @@ pub fn every_step_is_one_event()
     ensures shown { ShownIsFound }
 {}
 
-/// Where all have arrived again each processor has the goal's registers and holds nothing, and each
-/// word is in memory.
+/// Where all have arrived again each processor has the goal's registers and holds nothing. Each word of the gathered
+/// memory has its value of the broadcast state.
 pub fn full_station_holds()
     ensures { HoldsWhereFull }
 {}
