@@ -6,14 +6,13 @@ use Rattle.mt_script.specs.Situation.{Situation}
 use Rattle.mt_script.specs.declared.command.Command.{Command}
 use Rattle.mt_script.specs.declared.command.Command.TheVariants as command
 use Rattle.mt_replay.specs.ReplayState.{ReplayState, may_come}
-use Rattle.mt_replay.specs.declared.replayer.Bench.{Bench}
+use Rattle.mt_replay.specs.declared.replayer.Parts.{Parts}
 
 abbrev pub state : Situation → Machine → RegisterFile → ReplayState
 state now machine goal = record { now = now; machine = machine; goal = goal }
 
--- with what commands act on
-abbrev pub state_of : Situation → Bench → ReplayState
-state_of now bench = state now bench.core bench.goal
+abbrev pub state_of : Parts → ReplayState
+state_of parts = state parts.setup parts.core parts.goal
 
 -- a command of a window asks for memory, and one that brings a processor up where one may come; no other does
 abbrev pub AsksForMemory : Machine → Command → Type 0

@@ -39,13 +39,6 @@ use std::alloc::Global;
 use std::sync::Wait;
 use std::thread::Threads;
 
-/// What an update uses: the caller, and the allocator.
-#[derive(Drop)]
-pub(crate) struct Resources<'a, R, G> {
-    pub(crate) caller: &'a Caller<R, G>,
-    pub(crate) alloc: Global,
-}
-
 // Each of these does a command, and adds its line to the bytes that wait.
 
 /// An access.
@@ -138,7 +131,8 @@ fn call_update(core: &mut Core, goal: &RegFile) -> Option<CallFault>
 
 // Updates the processors to these registers, each on a thread of its own, and answers why it isn't begun.
 fn run_update<R: Threads + Wait + Sync, G: Gate>(
-    resources: &Resources<'_, R, G>,
+    caller: &Caller<R, G>,
+    alloc: Global,
     core: &mut Core,
     goal: &RegFile,
 ) -> Option<CallFault>
@@ -148,7 +142,7 @@ fn run_update<R: Threads + Wait + Sync, G: Gate>(
     ensures short { (own : Fault) → result ≡ Some (CallFault.Refused own) → HasThreeDigits own.msr }
 {
     goal.is_register_file(); // a fact for the proof
-    match update_with(resources.caller, resources.alloc, core, goal) {
+    match update_with(caller, alloc, core, goal) {
         Ok(()) => None,
         Err(fault) => Some(fault),
     }
@@ -157,7 +151,8 @@ fn run_update<R: Threads + Wait + Sync, G: Gate>(
 /// A whole update to these registers, and the era after it, or why it isn't begun.
 #[inline(never)]
 pub(crate) fn update<R: Threads + Wait + Sync, G: Gate>(
-    resources: &Resources<'_, R, G>,
+    caller: &Caller<R, G>,
+    alloc: Global,
     writer: &mut Writer,
     core: &mut Core,
     goal: &RegFile,
@@ -167,7 +162,7 @@ pub(crate) fn update<R: Threads + Wait + Sync, G: Gate>(
     ensures text { writer.new ≡ writer.old ++ update_line core.old goal.now }
     ensures after { core.new ≡ after_update core.old goal.now }
 {
-    match run_update(resources, core, goal) {
+    match run_update(caller, alloc, core, goal) {
         None => writer.append(complete_line(common_era(core)).as_slice()),
         Some(fault) => writer.append(call_fault_line(&fault).as_slice()),
     }

@@ -16,12 +16,12 @@ ghost use Rattle.mt_output.specs.Ports.{change, port};
 ghost use Rattle.mt_replay.specs.Summing.{Begins, Lasts, state_in};
 ghost use Rattle.mt_replay.specs.Transcript.{ScriptState, in_body};
 
-use crate::commands::Resources;
 use crate::replayer::Replayer;
 use mt_dump::Dump;
 use mt_output::{LineBuffer, Writer, accepted_line, dump_refused_line, offence_line};
 use mt_ports::{Failed, Gate, NoMemory, Sink};
 use mt_regs::first_refusal;
+use mt_rendezvous::Caller;
 use mt_script::{Command, Head, Newcomer, Offence, Setup, read_command};
 use mt_stream::{Stop, tell};
 use mt_text::Line;
@@ -29,6 +29,13 @@ use std::alloc::Global;
 use std::mem;
 use std::sync::Wait;
 use std::thread::Threads;
+
+/// What a line may use: the caller, and the allocator.
+#[derive(Drop)]
+pub(crate) struct Resources<'a, R, G> {
+    pub(crate) caller: &'a Caller<R, G>,
+    pub(crate) alloc: Global,
+}
 
 /// A run of a script between two lines: up to the dump's end, or behind it.
 #[derive(Drop)]

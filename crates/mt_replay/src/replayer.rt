@@ -1,11 +1,10 @@
-ghost use Rattle.std.specs.Prelude.{◌≡◌, ◌≤◌, ◌<◌, ◌+◌, ◌++◌, true, length, IfOk, OnOk, OnErr, if◌then◌else◌};
+ghost use Rattle.std.specs.Prelude.{◌≡◌, ◌≤◌, ◌<◌, ◌+◌, ◌++◌, true, length, IfOk, OnOk, OnErr};
 ghost use Rattle.std.specs.List.{All};
 ghost use Rattle.mt_regs.specs.Faults.{IsAccepted};
 ghost use Rattle.mt_regs.specs.RegisterFile.{RegisterFile};
 ghost use Rattle.mt_dump.specs.ForProcessors.{has_each};
 ghost use Rattle.mt_machine.specs.Start.{HasEraRoom};
 ghost use Rattle.mt_rendezvous.specs.Update.{FitsUpdate};
-ghost use Rattle.mt_script.specs.Situation.{Situation};
 ghost use Rattle.mt_script.specs.Stages.{is_in_dump};
 ghost use Rattle.mt_script.specs.Accept.{Fits, accepted};
 ghost use Rattle.mt_ports.specs.Causes.{HasCause};
@@ -14,11 +13,9 @@ ghost use Rattle.mt_output.specs.Ports.{change, port};
 ghost use Rattle.mt_replay.specs.Kept.{IsReplayState};
 ghost use Rattle.mt_replay.specs.Doing.{CanDo};
 ghost use Rattle.mt_replay.specs.Parts.{IsFormed, state_of};
-ghost use Rattle.mt_replay.specs.ReplayState.{after_call, after_update, call_line, command_text, file_at, first_state, goal_after, is_update, machine_after, may_come, state_after, update_line, with_register};
+ghost use Rattle.mt_replay.specs.ReplayState.{command_text, file_at, first_state, goal_after, machine_after, may_come, state_after, with_register};
 
-use crate::commands::{
-    Resources, add_window, ask_one, bring_in, call, cancel, go, retire, update, word,
-};
+use crate::commands::{add_window, ask_one, bring_in, call, cancel, go, retire, update, word};
 use crate::report::write_report;
 use mt_core::Core;
 use mt_dump::Dump;
@@ -33,9 +30,10 @@ use std::marker::Model;
 use std::sync::Wait;
 use std::thread::Threads;
 
-// What commands act on: the machine, and the goal of the section that is read.
+// The parts of a replayer, without its invariant: that doesn't hold while a command is done.
 #[derive(Drop)]
-struct Bench {
+struct Parts {
+    setup: Setup,
     core: Core,
     goal: RegFile,
 }
@@ -44,8 +42,7 @@ struct Bench {
 /// section that is read.
 #[derive(Drop)]
 pub struct Replayer {
-    setup: Setup,
-    bench: Bench,
+    parts: Parts,
 }
 
 impl Model for Replayer {
@@ -55,9 +52,9 @@ impl Model for Replayer {
 
     ghost Value = { ReplayState };
 
-    ghost view = { λ r. state_of r.setup r.bench };
+    ghost view = { λ r. state_of r.parts };
 
-    ghost invariant = { λ r. IsReplayState (state_of r.setup r.bench) };
+    ghost invariant = { λ r. IsReplayState (state_of r.parts) };
 }
 
 // The registers of the first processor, with which the goal of a section begins.
@@ -77,78 +74,78 @@ fn begin_goal(core: &Core, goal: &mut RegFile)
     *goal = first_file(core);
 }
 
-// A section ends: an update, or a call for one.
-fn end_section<R: Threads + Wait + Sync, G: Gate>(
-    resources: &Resources<'_, R, G>,
-    writer: &mut Writer,
-    core: &mut Core,
-    goal: &RegFile,
-    stage: Stage,
-)
-    requires line { length writer.old + LINE_ROOM ≤ WRITER_ROOM }
-    requires fits { FitsUpdate core.old goal.now }
-    ensures text { writer.new ≡ writer.old ++ (if is_update stage then update_line core.old goal.now else call_line core.old goal.now) }
-    ensures after { core.new ≡ (if is_update stage then after_update core.old goal.now else after_call core.old goal.now) }
-{
-    if stage == Stage::InUpdate {
-        update(resources, writer, core, goal);
-    } else {
-        call(writer, core, goal);
-    }
-}
-
 fn set(goal: &mut RegFile, msr: u32, value: u64)
     ensures { goal.new ≡ with_register goal.old msr value }
 {
     let _ = goal.set(msr, value);
 }
 
-impl Bench {
+impl Parts {
+    // A section ends: an update, or a call for one.
+    fn end_section<R: Threads + Wait + Sync, G: Gate>(
+        &mut self,
+        caller: &Caller<R, G>,
+        alloc: Global,
+        writer: &mut Writer,
+    )
+        requires line { length writer.old + LINE_ROOM ≤ WRITER_ROOM }
+        requires fits { FitsUpdate self.old.core self.old.goal }
+        ensures text { writer.new ≡ writer.old ++ command_text (state_of self.old) (Command.Section Section.End) }
+        ensures machine { self.new.core ≡ machine_after (state_of self.old) (Command.Section Section.End) }
+        ensures kept { (self.new.setup ≡ self.old.setup) × (self.new.goal ≡ self.old.goal) }
+    {
+        if self.setup.stage() == Stage::InUpdate {
+            update(caller, alloc, writer, &mut self.core, &self.goal);
+        } else {
+            call(writer, &mut self.core, &self.goal);
+        }
+    }
+
     // A line of a section.
     #[inline(never)]
     fn take_section_line<R: Threads + Wait + Sync, G: Gate>(
         &mut self,
-        resources: &Resources<'_, R, G>,
+        caller: &Caller<R, G>,
+        alloc: Global,
         writer: &mut Writer,
         line: Section,
-        stage: Stage,
     )
         requires line { length writer.old + LINE_ROOM ≤ WRITER_ROOM }
         requires fits { FitsUpdate self.old.core self.old.goal }
-        ensures text { (now : Situation) → now.stage ≡ stage → writer.new ≡ writer.old ++ command_text (state_of now self.old) (Command.Section line) }
-        ensures machine { (now : Situation) → now.stage ≡ stage → self.new.core ≡ machine_after (state_of now self.old) (Command.Section line) }
-        ensures goal { (now : Situation) → self.new.goal ≡ goal_after (state_of now self.old) (Command.Section line) }
+        ensures text { writer.new ≡ writer.old ++ command_text (state_of self.old) (Command.Section line) }
+        ensures machine { self.new.core ≡ machine_after (state_of self.old) (Command.Section line) }
+        ensures goal { self.new.goal ≡ goal_after (state_of self.old) (Command.Section line) }
+        ensures setup { self.new.setup ≡ self.old.setup }
     {
         match line {
             Section::Update | Section::Begin => begin_goal(&self.core, &mut self.goal),
             Section::Register { msr, value } => set(&mut self.goal, msr, value),
-            Section::End => end_section(resources, writer, &mut self.core, &self.goal, stage),
+            Section::End => self.end_section(caller, alloc, writer),
         }
     }
 
     // Does a command that asks for no memory, and has at most one line.
     fn do_formed<R: Threads + Wait + Sync, G: Gate>(
         &mut self,
-        resources: &Resources<'_, R, G>,
+        caller: &Caller<R, G>,
+        alloc: Global,
         writer: &mut Writer,
-        setup: &Setup,
         c: &Command,
     )
         requires line { length writer.old + LINE_ROOM ≤ WRITER_ROOM }
-        requires state { IsReplayState (state_of setup.now self.old) }
+        requires state { IsReplayState (state_of self.old) }
         requires formed { IsFormed c.now }
         requires can { CanDo self.old.core c.now }
         requires room { HasEraRoom self.old.core }
-        ensures text { writer.new ≡ writer.old ++ command_text (state_of setup.now self.old) c.now }
-        ensures machine { self.new.core ≡ machine_after (state_of setup.now self.old) c.now }
-        ensures goal { self.new.goal ≡ goal_after (state_of setup.now self.old) c.now }
+        ensures text { writer.new ≡ writer.old ++ command_text (state_of self.old) c.now }
+        ensures machine { self.new.core ≡ machine_after (state_of self.old) c.now }
+        ensures goal { self.new.goal ≡ goal_after (state_of self.old) c.now }
+        ensures setup { self.new.setup ≡ self.old.setup }
     {
         let core = &mut self.core;
         match *c {
             Command::Ask(k, asked) => ask_one(writer, core, k, asked),
-            Command::Section(line) => {
-                self.take_section_line(resources, writer, line, setup.stage())
-            }
+            Command::Section(line) => self.take_section_line(caller, alloc, writer, line),
             Command::Selfsnoop(k) => core.self_snoop(k),
             Command::Retire => retire(writer, core),
             Command::Go => go(writer, core),
@@ -177,8 +174,7 @@ impl Replayer {
         let goal = dump.first_file().same();
         setup.dumped(dump);
         Ok(Replayer {
-            setup,
-            bench: Bench { core, goal },
+            parts: Parts { setup, core, goal },
         })
     }
 
@@ -186,21 +182,21 @@ impl Replayer {
     pub fn setup(&self) -> &Setup
         ensures { result.now ≡ self.now.now }
     {
-        &self.setup
+        &self.parts.setup
     }
 
     /// The machine's memory.
     pub(crate) fn ram(&self) -> &Ram
         ensures { result.now ≡ self.now.machine.system.memory }
     {
-        self.bench.core.system().ram()
+        self.parts.core.system().ram()
     }
 
     /// What every replayer keeps. This does nothing.
     pub fn is_replay_state(&self)
         ensures { IsReplayState self.now }
     {
-        let _ = &self.bench;
+        let _ = &self.parts;
     }
 
     /// Does a command that asks for no memory, and adds its line, if it has one, to the bytes that wait. An update runs
@@ -219,9 +215,8 @@ impl Replayer {
         ensures text { writer.new ≡ writer.old ++ command_text self.old c.now }
         ensures after { self.new ≡ state_after self.old c.now }
     {
-        let resources = Resources { caller, alloc };
-        self.bench.do_formed(&resources, writer, &self.setup, c);
-        self.setup.accept(c);
+        self.parts.do_formed(caller, alloc, writer, c);
+        self.parts.setup.accept(c);
     }
 
     /// Adds a window of memory, and writes nothing. Fails only if an allocation fails; nothing then changes.
@@ -231,8 +226,8 @@ impl Replayer {
         ensures added { OnOk result (self.new ≡ state_after self.old (Command.Ram base lines)) }
         ensures kept { OnErr result (self.new ≡ self.old) }
     {
-        add_window(&mut self.bench.core, base, lines)?;
-        self.setup.accept(&Command::Ram(base, lines));
+        add_window(&mut self.parts.core, base, lines)?;
+        self.parts.setup.accept(&Command::Ram(base, lines));
         Ok(())
     }
 
@@ -247,8 +242,8 @@ impl Replayer {
         ensures asks { OnErr result (may_come self.old.machine ≡ true) }
         ensures kept { OnErr result (self.new ≡ self.old) }
     {
-        let line = bring_in(&mut self.bench.core, newcomer)?;
-        self.setup.accept(&Command::Newcomer(newcomer));
+        let line = bring_in(&mut self.parts.core, newcomer)?;
+        self.parts.setup.accept(&Command::Newcomer(newcomer));
         Ok(line)
     }
 
@@ -260,7 +255,7 @@ impl Replayer {
         ensures after { self.new ≡ state_after self.old Command.Report }
         ensures cause { HasCause (K.faults sink.old) (K.faults sink.new) result }
     {
-        self.setup.accept(&Command::Report);
-        write_report(self.bench.core.system().cpus(), writer, sink)
+        self.parts.setup.accept(&Command::Report);
+        write_report(self.parts.core.system().cpus(), writer, sink)
     }
 }

@@ -2,8 +2,7 @@ ghost use Rattle.mt_output.specs.Ports.{change, port, sink_run, source_run};
 ghost use Rattle.mt_replay.specs.Running.{HasEraRoomAt, IsReplay, replay_running};
 ghost use Rattle.mt_stream.specs.Handling.{Taken};
 
-use crate::commands::Resources;
-use crate::line::{Run, take_line};
+use crate::line::{Resources, Run, take_line};
 use mt_output::{Writer, offence_line};
 use mt_ports::{Failed, Gate, Sink, Source, Status};
 use mt_rendezvous::Caller;

@@ -3,8 +3,7 @@ ghost use Rattle.mt_machine.specs.Memory.{Memory};
 ghost use Rattle.mt_replay.specs.Summary.{begins_with, is_complete, memory_sum, summary, value_in};
 ghost use Rattle.mt_replay.specs.Summing.{state_in, with_line, with_memory, with_text};
 
-use crate::commands::Resources;
-use crate::line::{Run, take_line};
+use crate::line::{Resources, Run, take_line};
 use mt_output::{Writer, offence_line};
 use mt_ports::{Failed, Gate, NoMemory, Sink};
 use mt_ram::Ram;

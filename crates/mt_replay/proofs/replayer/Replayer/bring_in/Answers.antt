@@ -9,7 +9,7 @@ use Rattle.mt_replay.proofs.replayer.Replayer.bring_in.Goals as goal
 
 pub invariant_of-self-2 : goal.invariant_of-self-2
 invariant_of-self-2 c =
-    let kept : IsReplayState (state_after (state_of c.self.inside.setup c.self.inside.bench) (command.Newcomer c.args.newcomer)) =
-    state_kept (state_of c.self.inside.setup c.self.inside.bench) (command.Newcomer c.args.newcomer) c.self.invariant
+    let kept : IsReplayState (state_after (state_of c.self.inside.parts) (command.Newcomer c.args.newcomer)) =
+    state_kept (state_of c.self.inside.parts) (command.Newcomer c.args.newcomer) c.self.invariant
     (subst (λ (s : ReplayState). Fits s.now (command.Newcomer c.args.newcomer)) (sym c.self.view_is) c.requires.fits) in
     rw (c.accept.ensures, c.in_ok-line.ensures.after) kept

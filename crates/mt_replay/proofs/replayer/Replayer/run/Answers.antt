@@ -1,6 +1,7 @@
 use Rattle.std.proofs.Common.{◌∙◌, ◌++◌, ap, sym, subst}
 use Rattle.mt_machine.specs.Start.{HasEraRoom}
-use Rattle.mt_script.specs.Accept.{Fits}
+use Rattle.mt_script.specs.Accept.{Fits, accepted}
+use Rattle.mt_script.specs.Situation.{Situation}
 use Rattle.mt_replay.specs.Kept.{IsReplayState}
 use Rattle.mt_replay.specs.Parts.{state_of}
 use Rattle.mt_replay.specs.ReplayState.{ReplayState, command_text, state_after}
@@ -10,7 +11,7 @@ use Rattle.mt_replay.proofs.replayer.Replayer.run.Goals as goal
 
 pub do_formed-requires-clause-can : goal.do_formed-requires-clause-can
 do_formed-requires-clause-can g c κs within =
-    can_do (state_of c.self.inside.setup c.self.inside.bench) c.self.invariant c.args.c.now
+    can_do (state_of c.self.inside.parts) c.self.invariant c.args.c.now
     (subst (λ (s : ReplayState). Fits s.now c.args.c.now) (sym c.self.view_is) c.requires.fits)
 
 pub do_formed-requires-clause-room : goal.do_formed-requires-clause-room
@@ -21,12 +22,12 @@ returns-clause-text g c = c.do_formed.ensures.text ∙ ap (λ (s : ReplayState).
 
 pub returns-clause-after : goal.returns-clause-after
 returns-clause-after g c =
-    (λ i. record { now = c.accept.ensures i; machine = c.do_formed.ensures.machine i; goal = c.do_formed.ensures.goal i })
+    (λ i. record { now = (c.accept.ensures ∙ ap (λ (now : Situation). accepted now c.args.c.now) c.do_formed.ensures.setup) i; machine = c.do_formed.ensures.machine i; goal = c.do_formed.ensures.goal i })
     ∙ ap (λ (s : ReplayState). state_after s c.args.c.now) c.self.view_is
 
 pub invariant_of-self : goal.invariant_of-self
 invariant_of-self g c =
-    let s : ReplayState = state_of c.self.inside.setup c.self.inside.bench in
+    let s : ReplayState = state_of c.self.inside.parts in
     let kept : IsReplayState (state_after s c.args.c.now) =
     state_kept s c.args.c.now c.self.invariant (subst (λ (s : ReplayState). Fits s.now c.args.c.now) (sym c.self.view_is) c.requires.fits) in
-    rw (c.accept.ensures, c.do_formed.ensures.machine, c.do_formed.ensures.goal) kept
+    rw (c.accept.ensures, c.do_formed.ensures.setup, c.do_formed.ensures.machine, c.do_formed.ensures.goal) kept
