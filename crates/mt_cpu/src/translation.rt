@@ -65,9 +65,9 @@ impl Cpu {
         self.fill(vpage, kinds)
     }
 
-    /// The physical address and the memory type of a virtual address, by the TLB entry of its
-    /// page. If there is no entry, the page's mapping fills one. Its type is the effective type of
-    /// the mapping's PAT entry and of what the table gives the physical page. Returns `None` if and only if the page has no mapping; nothing then changes.
+    /// The physical address and the memory type of a virtual address, by the TLB entry of its page. If there is no entry, the
+    /// page's mapping fills one. The entry's type is the effective type of the mapping's PAT entry and of the physical page's
+    /// type in the table. Returns `None` if and only if the page has no mapping; nothing then changes.
     pub fn translate<P: PageKinds>(&mut self, va: u64, kinds: &P) -> Option<(u64, MemType)>
         requires running { self.old.phase ≡ Phase.Running }
         requires pages { P.page_count kinds.now ≡ page_count self.old.file }
