@@ -18,7 +18,7 @@ use Rattle.mt_laws.proofs.Barrier.Ranks.{and_left, and_right}
 use Rattle.mt_laws.proofs.Clearing.Renewed.{at_change}
 use Rattle.mt_laws.proofs.Words.LineLists.{KeepsNumber, find_miss, passes_append, passes_changed, passes_without}
 use Rattle.mt_bus.specs.Parts.{lines_in, with_changed, without_memory}
-use Rattle.mt_bus.specs.Holders.{AreHeldBy, Covers, CoversBut, CoversOthers, IsNowhere, IsNowhereElse, all_may, may_hold}
+use Rattle.mt_bus.specs.Holders.{AreHeldBy, Covers, CoversBut, CoversOthers, IsNowhereElse, all_may, may_hold}
 use Rattle.mt_bus.proofs.Changed.{lent_at}
 use Rattle.mt_bus.proofs.Newcomers.{get_front}
 use Rattle.mt_bus.proofs.Tables.{pushed_at}
@@ -27,10 +27,10 @@ use Rattle.mt_bus.proofs.Masks.{full_may}
 -- ---- the lines of one cache
 
 -- no line is new
-abbrev pub IsLess : List CacheLine → List CacheLine → Type 0
+abbrev IsLess : List CacheLine → List CacheLine → Type 0
 IsLess ls old = (masks : List ℕ) (k : ℕ) → all_may masks k old ≡ true → all_may masks k ls ≡ true
 
-pub less_without : (n : ℕ) (ls : List CacheLine) → IsLess (without_line n ls) ls
+less_without : (n : ℕ) (ls : List CacheLine) → IsLess (without_line n ls) ls
 less_without n ls = λ masks k h. passes_without (λ l. may_hold masks k l.number) n ls h
 
 pub less_changed : (n : ℕ) (f : CacheLine → CacheLine) → KeepsNumber f → (ls : List CacheLine) → IsLess (change_line n f ls) ls
@@ -74,7 +74,7 @@ absent masks k n (l ∷ ls) h not = one (l.number == n) refl (absent masks k n l
 
 -- ---- other masks
 
-pub held_more : (ps : List Processor) (masks others : List ℕ) → Covers masks others → AreHeldBy ps others → AreHeldBy ps masks
+held_more : (ps : List Processor) (masks others : List ℕ) → Covers masks others → AreHeldBy ps others → AreHeldBy ps masks
 held_more ps masks others covers h = record { each = λ k p at. all_more masks others k (covers.each k) p.lines (h.each k p at) }
 
 pub held_but : (ps : List Processor) (masks others : List ℕ) (k n : ℕ) → CoversBut k n masks others → count_by (has_residue (n % 4096)) (lines_in k ps) ≡ 0 → AreHeldBy ps others → AreHeldBy ps masks
@@ -95,7 +95,7 @@ held_open ps masks full = record { each = λ k p at. all_open masks k (full_may 
 
 -- ---- another processor in a place
 
-pub put_at : (ps : List Processor) (i j : ℕ) (p q r : Processor) → slice_get ps i ≡ Some p → slice_get (slice_set ps i q) j ≡ Some r → ((j ≡ i) × (q ≡ r)) ⊎ (slice_get ps j ≡ Some r)
+put_at : (ps : List Processor) (i j : ℕ) (p q r : Processor) → slice_get ps i ≡ Some p → slice_get (slice_set ps i q) j ≡ Some r → ((j ≡ i) × (q ≡ r)) ⊎ (slice_get ps j ≡ Some r)
 put_at [] i j p q r at h = absurd (cc)
 put_at (x ∷ ps) zero zero p q r at h = inl (refl, cc)
 put_at (x ∷ ps) zero (suc j) p q r at h = inr h
@@ -134,12 +134,8 @@ held_emptied f k ps masks others empty covers h = record {
 
 -- ---- one processor of a pass over all
 
-pub lacks_at : (ps : List Processor) (masks : List ℕ) (i n : ℕ) (p : Processor) (may : Bool) → AreHeldBy ps masks → i < length ps → p ≡ slice_index_or ps i p
-    → may ≡ may_hold masks i n → may ≡ false → find_line n p.lines ≡ None
-lacks_at ps masks i n p may h within lent is not = absent masks i n p.lines (h.each i p (lent_at ps i p within lent)) (sym is ∙ not)
-
 -- its lines hold after as before
-abbrev pub Keeps : Processor → Processor → Type 0
+abbrev Keeps : Processor → Processor → Type 0
 Keeps p q = (masks : List ℕ) (k : ℕ) → all_may masks k p.lines ≡ true → all_may masks k q.lines ≡ true
 
 pub keeps_cleaned : (n : ℕ) (p q : Processor) → q ≡ with_lines (change_line n clean_line) p → Keeps p q
@@ -171,13 +167,6 @@ none_there ps k n p ls may within lent own is none =
     ap (λ (o : Option Processor). count_by (has_residue (n % 4096)) (option_map_or (λ x. x.lines) o [])) (lent_at ps k p within lent)
     ∙ ap (count_by (has_residue (n % 4096))) (sym own)
     ∙ eqb-true _ _ (not-false _ (sym is ∙ none))
-
-pub nowhere : (ps : List Processor) (masks : List ℕ) (n : ℕ) → AreHeldBy ps masks → length ps ≤ 16 → ((j : ℕ) → j < 16 → may_hold masks j n ≡ false) → IsNowhere n ps
-nowhere ps masks n h few none = record { each = λ j. one j (slice_get ps j) refl }
-  where
-    one : (j : ℕ) (o : Option Processor) → slice_get ps j ≡ o → find_line n (option_map_or (λ p. p.lines) o []) ≡ None
-    one j None is = refl
-    one j (Some p) is = absent masks j n p.lines (h.each j p is) (none j (omega (arith, slice_get_within ps j p is, few)))
 
 pub nowhere_else : (ps : List Processor) (masks : List ℕ) (k n : ℕ) → AreHeldBy ps masks → length ps ≤ 16 → ((j : ℕ) → j < 16 → (j ≡ k → ⊥) → may_hold masks j n ≡ false) → IsNowhereElse k n ps
 nowhere_else ps masks k n h few none = record { each = λ j other. one j other (slice_get ps j) refl }

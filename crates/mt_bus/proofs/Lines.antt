@@ -43,7 +43,7 @@ only_line n (x ∷ xs) apart = one (x.number == n) refl (only_line n xs apart.1)
     one true is rest = ap (λ ls. x ∷ ls) (rest ∙ ap (λ o. option_map_or (λ (l : CacheLine). l ∷ []) o []) (ap (λ k. find_line k xs) (sym (eqb-true _ _ is)) ∙ apart.0))
     one false is rest = rest
 
-pub back_found : (n : ℕ) (m : Memory) (l : CacheLine) (ls : List CacheLine) → AreDistinct ls → find_line n ls ≡ Some l → write_back_of n m ls ≡ write_back m l
+back_found : (n : ℕ) (m : Memory) (l : CacheLine) (ls : List CacheLine) → AreDistinct ls → find_line n ls ≡ Some l → write_back_of n m ls ≡ write_back m l
 back_found n m l ls apart is = ap (fold write_back m) (only_line n ls (to_apart number_of ls apart) ∙ ap (λ o. option_map_or (λ (k : CacheLine). k ∷ []) o []) is)
 
 pub back_absent : (n : ℕ) (m : Memory) (ls : List CacheLine) → AreDistinct ls → find_line n ls ≡ None → write_back_of n m ls ≡ m

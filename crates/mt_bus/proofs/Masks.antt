@@ -1,11 +1,12 @@
 -- A mask is put into its place: which caches may have which lines then.
-use Rattle.std.proofs.Common.{◌≡◌, ◌∙◌, ap, sym, refl, arith, ℕ, ◌+◌, ◌-◌, ◌<◌, ◌≤◌, ◌%◌, ◌^◌, ◌==◌, Bool, true, false, if◌then◌else◌, List, [], ◌∷◌, zero, suc, length, bit_and, bit_or, ⊎_elim, w16}
+use Rattle.std.proofs.Common.{◌≡◌, ◌∙◌, ap, sym, refl, arith, ℕ, ◌+◌, ◌-◌, ◌<◌, ◌≤◌, ◌%◌, ◌/◌, ◌^◌, ◌==◌, Bool, true, false, if◌then◌else◌, List, [], ◌∷◌, zero, suc, length, bit_and, bit_or, ⊎_elim, w16}
 use Rattle.std.specs.Prelude.{min, nat_lt, slice_index_or, slice_set}
-use Rattle.std.specs.Int.{bit_at, bit_not}
+use Rattle.std.specs.Int.{bit_at, bit_not, trailing_zeros}
+use Rattle.std.proofs.Math.Pow.{shr-shr}
 use Rattle.std.proofs.lemmas.Bool.{cases_eq, cases_lt, lt-ltb, ltb-true}
 use Rattle.std.proofs.lemmas.List.{get_or-set_other, get_or-set_same, get_or_past, set_past}
 use Rattle.std.proofs.lemmas.Nat.{pow_below}
-use Rattle.std.proofs.lemmas.Nat.Bits.{bit_at-lt, bit_at-pow_other, bit_at_and, bit_at_not, bit_at_ones}
+use Rattle.std.proofs.lemmas.Nat.Bits.{bit_at-lt, bit_at-pow_other, bit_at-trailing_zeros, bit_at-zero, bit_at_above, bit_at_and, bit_at_not, bit_at_ones}
 use Rattle.mt_kinds.specs.Bits.{is_bit_set}
 use Rattle.mt_laws.proofs.Words.BitLaws.{set_other, set_same}
 use Rattle.mt_bus.specs.Holders.{Covers, CoversBut, CoversOthers, mask_of, may_hold}
@@ -15,14 +16,14 @@ within true is x = refl
 within false is x = absurd (let e : false ≡ true = is in cc e)
 
 -- a processor with a bit
-pub by_bit : (masks : List ℕ) (k n : ℕ) → k < 16 → may_hold masks k n ≡ is_bit_set (mask_of masks n) k
+by_bit : (masks : List ℕ) (k n : ℕ) → k < 16 → may_hold masks k n ≡ is_bit_set (mask_of masks n) k
 by_bit masks k n small = within (nat_lt k 16) (lt-ltb k 16 small) (is_bit_set (mask_of masks n) k)
 
 mask_there : (masks : List ℕ) (n m : ℕ) → n % 4096 < length masks → mask_of (slice_set masks (n % 4096) m) n ≡ m
 mask_there masks n m there = get_or-set_same masks (n % 4096) m 0xffff there
 
 -- what holds before holds after, where the mask that is put in has the bit too
-pub put_keeps : (masks : List ℕ) (n m j i : ℕ) → (i % 4096 ≡ n % 4096 → j < 16 → is_bit_set (mask_of masks n) j ≡ true → is_bit_set m j ≡ true)
+put_keeps : (masks : List ℕ) (n m j i : ℕ) → (i % 4096 ≡ n % 4096 → j < 16 → is_bit_set (mask_of masks n) j ≡ true → is_bit_set m j ≡ true)
     → may_hold masks j i ≡ true → may_hold (slice_set masks (n % 4096) m) j i ≡ true
 put_keeps masks n m j i given before = by_test (nat_lt j 16) refl before
   where
@@ -135,3 +136,46 @@ covers_on k masks others first more before = record { each = λ j i ne h. more.e
 pub one_bit : (masks : List ℕ) (k n : ℕ) → mask_of masks n ≡ 2 ^ k → (j : ℕ) → j < 16 → (j ≡ k → ⊥) → may_hold masks j n ≡ false
 one_bit masks k n is j small other =
     by_bit masks j n small ∙ ap (λ x. is_bit_set x j) is ∙ ap (λ b. b == 1) (bit_at-pow_other k j other)
+
+-- ---- the bits from number i on
+
+shifted : (x i j : ℕ) → bit_at (x / 2 ^ i) j ≡ bit_at x (i + j)
+shifted x i j = ap (λ y. y % 2) (shr-shr x i j)
+
+skipped_bit : (masks : List ℕ) (n i j : ℕ) → i ≤ j → j < 16 → bit_at (mask_of masks n / 2 ^ i) (j - i) ≡ 0 → may_hold masks j n ≡ false
+skipped_bit masks n i j from small clear =
+    let at : j ≡ i + (j - i) = omega (arith, from) in
+    by_bit masks j n small
+    ∙ ap (λ b. b == 1) (ap (bit_at (mask_of masks n)) at ∙ sym (shifted (mask_of masks n) i (j - i)) ∙ clear)
+
+pub skipped_all : (masks : List ℕ) (n i m : ℕ) → m ≡ mask_of masks n → m / 2 ^ i ≡ 0 → (j : ℕ) → i ≤ j → j < 16 → may_hold masks j n ≡ false
+skipped_all masks n i m of none j from small =
+    skipped_bit masks n i j from small (ap (λ x. bit_at x (j - i)) (ap (λ x. x / 2 ^ i) (sym of) ∙ none) ∙ bit_at-zero (j - i))
+
+-- the lowest of them
+module _ (masks : List ℕ) (n i m : ℕ) (of : m ≡ mask_of masks n) (fits : m < 2 ^ 16) (some : m / 2 ^ i ≡ 0 → ⊥) where
+  abbrev steps : ℕ
+  steps = trailing_zeros w16 (m / 2 ^ i)
+
+  lowest : (steps < 16) × (bit_at (m / 2 ^ i) steps ≡ 1) × ((j : ℕ) → j < steps → bit_at (m / 2 ^ i) j ≡ 0)
+  lowest = bit_at-trailing_zeros w16 (m / 2 ^ i) (omega (arith, some)) (omega (arith, fits))
+
+  low : i + steps < 16
+  low =
+      ⊎_elim (λ (lt : i + steps < 16). lt)
+      (λ (ge : 16 ≤ i + steps).
+      absurd
+      (let bit = sym lowest.1 ∙ shifted m i steps ∙ bit_at_above m 16 (i + steps) fits ge in
+      let no : 1 ≡ 0 = bit in
+      omega (arith, no)))
+      (cases_lt (i + steps) 16)
+
+  pub skipped_below : (j : ℕ) → i ≤ j → j < i + steps → may_hold masks j n ≡ false
+  skipped_below j from below =
+      skipped_bit masks n i j from (omega (arith, below, low))
+      (ap (λ x. bit_at (x / 2 ^ i) (j - i)) (sym of) ∙ lowest.2 (j - i) (omega (arith, from, below)))
+
+  pub lowest_holds : may_hold masks (i + steps) n ≡ true
+  lowest_holds =
+      by_bit masks (i + steps) n low
+      ∙ ap (λ b. b == 1) (ap (λ x. bit_at x (i + steps)) (sym of) ∙ sym (shifted m i steps) ∙ lowest.1)

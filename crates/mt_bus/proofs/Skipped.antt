@@ -1,29 +1,20 @@
--- On a cache without the line no step of the bus changes anything.
-use Rattle.std.proofs.Common.{◌≡◌, ◌∙◌, ap, sym, refl, arith, ℕ, zero, suc, ◌+◌, ◌==◌, Bool, true, false, if◌then◌else◌, List, [], ◌∷◌, map, None, Some, slice_get, ne_eqb}
-use Rattle.std.specs.Prelude.{slice_set}
-use Rattle.std.specs.List.{filter, fold, remove}
-use Rattle.std.proofs.lemmas.Bool.{eq-eqb, eqb-false}
+-- A pass over the processors of a bus may skip those whose cache doesn't have the line: a step changes nothing there.
+use Rattle.std.proofs.Common.{◌≡◌, ◌∙◌, ap, sym, refl, subst, arith, ℕ, zero, suc, ◌+◌, ◌-◌, ◌<◌, ◌≤◌, ◌==◌, Bool, true, false, if◌then◌else◌, List, [], ◌∷◌, ◌++◌, drop, length, map, take, None, Some, Option, slice_get}
+use Rattle.std.specs.Prelude.{slice_index_or, slice_set}
+use Rattle.std.specs.List.{filter, fold}
+use Rattle.std.specs.Option.{option_map_or}
+use Rattle.std.proofs.lemmas.Bool.{eqb-false}
 use Rattle.mt_cache.specs.declared.line.CacheLine.{CacheLine}
 use Rattle.mt_cache.specs.Lines.{change_line, clean_line, find_line, has_number, without_line}
 use Rattle.mt_machine.specs.Memory.{Memory, write_back, write_back_of}
-use Rattle.mt_machine.specs.System.{Processor}
+use Rattle.mt_machine.specs.System.{Processor, System}
 use Rattle.mt_machine.specs.Bus.{bus_read, invalidate, invalidate_others, others_from, with_lines, write_back_others}
-use Rattle.mt_bus.specs.Parts.{lines_in, system, written_back}
-use Rattle.mt_bus.specs.Holders.{IsNowhere, IsNowhereElse}
+use Rattle.mt_bus.specs.Parts.{system, written_back}
+use Rattle.mt_bus.specs.Holders.{AreHeldBy, IsNowhereElse, may_hold}
+use Rattle.mt_bus.proofs.Changed.{lent_at}
+use Rattle.mt_bus.proofs.Held.{absent}
 use Rattle.mt_bus.proofs.Lines.{change_absent, without_absent}
-
--- a list of lines without the line stays as it is
-abbrev Leaves : (List CacheLine → List CacheLine) → ℕ → Type 0
-Leaves f n = (ls : List CacheLine) → find_line n ls ≡ None → f ls ≡ ls
-
-abbrev Lack : ℕ → List Processor → Type 0
-Lack n ps = (j : ℕ) → find_line n (lines_in j ps) ≡ None
-
-cleaned_leaves : (n : ℕ) → Leaves (change_line n clean_line) n
-cleaned_leaves n = change_absent n clean_line
-
-dropped_leaves : (n : ℕ) → Leaves (without_line n) n
-dropped_leaves n = without_absent n
+use Rattle.mt_bus.proofs.Others.{others_back, others_written}
 
 none_of_number : (n : ℕ) (ls : List CacheLine) → find_line n ls ≡ None → filter (has_number n) ls ≡ []
 none_of_number n [] none = refl
@@ -34,101 +25,166 @@ none_of_number n (l ∷ ls) none = one (has_number n l) none (λ e. none_of_numb
     one true e rest = absurd (cc)
     one false e rest = rest e
 
-pub none_written : (n : ℕ) (m : Memory) (ls : List CacheLine) → find_line n ls ≡ None → write_back_of n m ls ≡ m
+none_written : (n : ℕ) (m : Memory) (ls : List CacheLine) → find_line n ls ≡ None → write_back_of n m ls ≡ m
 none_written n m ls none = ap (fold write_back m) (none_of_number n ls none)
 
-pub processor_left : (f : List CacheLine → List CacheLine) (p : Processor) → f p.lines ≡ p.lines → with_lines f p ≡ p
-processor_left f p same = ap (λ (ls : List CacheLine). record p { lines = ls }) same
+cleaned_left : (n : ℕ) (p : Processor) → find_line n p.lines ≡ None → with_lines (change_line n clean_line) p ≡ p
+cleaned_left n p none = ap (λ (ls : List CacheLine). record p { lines = ls }) (change_absent n clean_line p.lines none)
 
--- ---- where no cache has it
+dropped_left : (n : ℕ) (p : Processor) → find_line n p.lines ≡ None → with_lines (without_line n) p ≡ p
+dropped_left n p none = ap (λ (ls : List CacheLine). record p { lines = ls }) (without_absent n p.lines none)
 
-map_left : (f : List CacheLine → List CacheLine) (n : ℕ) → Leaves f n → (ps : List Processor) → Lack n ps → map (with_lines f) ps ≡ ps
-map_left f n leaves [] lack = refl
-map_left f n leaves (p ∷ ps) lack =
-    λ i. processor_left f p (leaves p.lines (lack 0)) i ∷ map_left f n leaves ps (λ j. lack (suc j)) i
+-- ---- any pass
 
-back_left : (n : ℕ) (m : Memory) (ps : List Processor) → Lack n ps → written_back n m ps ≡ m
-back_left n m [] lack = refl
-back_left n m (p ∷ ps) lack = ap (λ w. written_back n w ps) (none_written n m p.lines (lack 0)) ∙ back_left n m ps (λ j. lack (suc j))
+-- with these processors in front
+abbrev behind : List Processor → System → System
+behind front s = record s { processors = front ++ s.processors }
 
-pub read_nowhere : (n : ℕ) (ps : List Processor) (m : Memory) → IsNowhere n ps → system ps m ≡ bus_read n (system ps m)
-read_nowhere n ps m none =
-    sym (λ i. system (map_left (change_line n clean_line) n (cleaned_leaves n) ps none.each i) (back_left n m ps none.each i))
+-- the pass goes on with processor i
+abbrev pub pass_from : (ℕ → Memory → List Processor → System) → ℕ → System → System
+pass_from v i s = behind (take i s.processors) (v i s.memory (drop i s.processors))
 
-pub dropped_nowhere : (n : ℕ) (ps : List Processor) (m : Memory) → IsNowhere n ps → system ps m ≡ invalidate n (bus_read n (system ps m))
-dropped_nowhere n ps m none =
-    sym
-    (ap (invalidate n) (sym (read_nowhere n ps m none))
-    ∙ ap (λ qs. system qs m) (map_left (without_line n) n (dropped_leaves n) ps none.each))
+-- a step of the pass at processor i changes neither this processor nor memory
+abbrev IsLeft : (ℕ → Processor → Processor) → (ℕ → Memory → Processor → Memory) → ℕ → Processor → Type 0
+IsLeft h w i p = (h i p ≡ p) × ((m : Memory) → w i m p ≡ m)
 
--- ---- where no other cache has it
+-- the pass v over processors, the first with number i: a step replaces processor p by `h i p` and memory m by `w i m p`.
+-- Without line n it changes nothing.
+pub record IsPass (n : ℕ) (v : ℕ → Memory → List Processor → System) (h : ℕ → Processor → Processor) (w : ℕ → Memory → Processor → Memory) : Type 0 where
+  ends : (i : ℕ) (m : Memory) → v i m [] ≡ system [] m
+  goes : (i : ℕ) (m : Memory) (p : Processor) (ps : List Processor) → v i m (p ∷ ps) ≡ behind (h i p ∷ []) (v (i + 1) (w i m p) ps)
+  leaves : (i : ℕ) (p : Processor) → find_line n p.lines ≡ None → IsLeft h w i p
 
--- the list begins with number i
-abbrev LackBut : ℕ → ℕ → ℕ → List Processor → Type 0
-LackBut i k n ps = (j : ℕ) → (i + j ≡ k → ⊥) → find_line n (lines_in j ps) ≡ None
+module _ {n : ℕ} {v : ℕ → Memory → List Processor → System} {h : ℕ → Processor → Processor} {w : ℕ → Memory → Processor → Memory} (is : IsPass n v h w) where
+  taken : (a i : ℕ) (m : Memory) (ps : List Processor) (p : Processor) → slice_get ps i ≡ Some p
+      → behind (take (suc i) (slice_set ps i (h a p))) (v (a + 1) (w a m p) (drop (suc i) (slice_set ps i (h a p)))) ≡ behind (take i ps) (v a m (drop i ps))
+  taken a i m [] p at = absurd (cc)
+  taken a zero m (x ∷ ps) p at =
+      let same : x ≡ p = cc in
+      sym (is.goes a m p ps) ∙ ap (λ (y : Processor). v a m (y ∷ ps)) (sym same)
+  taken a (suc i) m (x ∷ ps) p at = ap (behind (x ∷ [])) (taken a i m ps p at)
 
-rest_lacks : (i k n : ℕ) (p : Processor) (ps : List Processor) → LackBut i k n (p ∷ ps) → LackBut (i + 1) k n ps
-rest_lacks i k n p ps lack = λ j other. lack (suc j) (λ e. other (omega (arith, e)))
+  left : (a i : ℕ) (m : Memory) (ps : List Processor) → ((p : Processor) → slice_get ps i ≡ Some p → IsLeft h w a p)
+      → behind (take (suc i) ps) (v (a + 1) m (drop (suc i) ps)) ≡ behind (take i ps) (v a m (drop i ps))
+  left a zero m [] same = is.ends (a + 1) m ∙ sym (is.ends a m)
+  left a (suc i) m [] same = is.ends (a + 1) m ∙ sym (is.ends a m)
+  left a zero m (p ∷ ps) same =
+      let here = same p refl in
+      sym (is.goes a m p ps ∙ λ i. behind (here.0 i ∷ []) (v (a + 1) (here.1 m i) ps))
+  left a (suc i) m (p ∷ ps) same = ap (behind (p ∷ [])) (left a i m ps same)
 
-others_left : (f : List CacheLine → List CacheLine) (n : ℕ) → Leaves f n → (i k : ℕ) (ps : List Processor) → LackBut i k n ps → others_from i k (with_lines f) ps ≡ ps
-others_left f n leaves i k [] lack = refl
-others_left f n leaves i k (p ∷ ps) lack =
-    λ j. one (i == k) refl j ∷ others_left f n leaves (i + 1) k ps (rest_lacks i k n p ps lack) j
+  next : (i : ℕ) (m : Memory) (ps : List Processor) → behind (take (suc i) ps) (v (i + 1) m (drop (suc i) ps)) ≡ pass_from v (i + 1) (system ps m)
+  next i m ps = let more : suc i ≡ i + 1 = omega arith in ap (λ j. behind (take j ps) (v (i + 1) m (drop j ps))) more
+
+  -- no step at the processors between
+  skipped : (d i : ℕ) (s : System) → ((j : ℕ) → i ≤ j → j < i + d → (p : Processor) → slice_get s.processors j ≡ Some p → IsLeft h w j p)
+      → pass_from v (i + d) s ≡ pass_from v i s
+  skipped zero i s same = let none : i + 0 ≡ i = omega arith in ap (λ j. pass_from v j s) none
+  skipped (suc d) i s same =
+      let more : i + suc d ≡ i + d + 1 = omega arith in
+      ap (λ j. pass_from v j s) more
+      ∙ sym (next (i + d) s.memory s.processors)
+      ∙ left (i + d) (i + d) s.memory s.processors (same (i + d) (omega arith) (omega arith))
+      ∙ skipped d i s (λ j from below. same j from (omega arith))
+
+  -- on to a processor that may have the line
+  pub lacked : (i j : ℕ) (s t : System) (ps : List Processor) (m : Memory) (masks : List ℕ) → system ps m ≡ s → AreHeldBy ps masks → i ≤ j
+      → ((x : ℕ) → i ≤ x → x < j → may_hold masks x n ≡ false) → pass_from v i s ≡ t → pass_from v j s ≡ t
+  lacked i j s t ps m masks view held from none before =
+      let to : j ≡ i + (j - i) = omega (arith, from) in
+      ap (λ x. pass_from v x s) to
+      ∙ skipped (j - i) i s
+      (λ x low high p at.
+      is.leaves x p (absent masks x n p.lines (held.each x p (ap (λ (y : System). slice_get y.processors x) view ∙ at)) (none x low (omega (arith, high, from)))))
+      ∙ before
+
+  -- a step at processor i, and on to the next
+  pub turned : (i j : ℕ) (s t u : System) (ps qs : List Processor) (m k : Memory) (p q : Processor) (to : Memory) (masks : List ℕ)
+      → pass_from v i s ≡ u → system ps m ≡ s → i < length ps → p ≡ slice_index_or ps i p → q ≡ h i p → to ≡ w i m p → t ≡ system (slice_set ps i q) to
+      → system qs k ≡ t → AreHeldBy qs masks → i + 1 ≤ j → ((x : ℕ) → i + 1 ≤ x → x < j → may_hold masks x n ≡ false) → pass_from v j t ≡ u
+  turned i j s t u ps qs m k p q to masks before view within lent made written new after held from none =
+      lacked (i + 1) j t u qs k masks after held from none
+      (ap (pass_from v (i + 1)) (new ∙ λ x. system (slice_set ps i (made x)) (written x))
+      ∙ sym (next i (w i m p) (slice_set ps i (h i p)))
+      ∙ taken i i m ps p (lent_at ps i p within lent)
+      ∙ ap (pass_from v i) view
+      ∙ before)
+
+  -- past the last
+  ended : (i : ℕ) (s : System) → length s.processors ≤ i → pass_from v i s ≡ s
+  ended i s past = all i s.processors past
+    where
+      all : (j : ℕ) (ps : List Processor) → length ps ≤ j → behind (take j ps) (v i s.memory (drop j ps)) ≡ system ps s.memory
+      all zero [] past = is.ends i s.memory
+      all (suc j) [] past = is.ends i s.memory
+      all zero (p ∷ ps) past = absurd (omega (arith, past))
+      all (suc j) (p ∷ ps) past = ap (behind (p ∷ [])) (all j ps (omega (arith, past)))
+
+  pub passed : (i : ℕ) (s u : System) (ps : List Processor) (m : Memory) → system ps m ≡ s → length ps ≤ i → pass_from v i s ≡ u → s ≡ u
+  passed i s u ps m view past is = sym (ended i s (subst (λ (x : System). length x.processors ≤ i) view past)) ∙ is
+
+  -- if all are left
+  all_left : (s : System) → ((j : ℕ) (p : Processor) → slice_get s.processors j ≡ Some p → IsLeft h w j p) → s ≡ v 0 s.memory s.processors
+  all_left s same = sym (ended (0 + length s.processors) s (omega arith)) ∙ skipped (length s.processors) 0 s (λ j from below. same j)
+
+-- ---- the passes
+
+either : {A : Type 0} (b : Bool) (x y z : A) → x ≡ z → y ≡ z → (if b then x else y) ≡ z
+either true x y z e g = e
+either false x y z e g = g
+
+pub read_pass : (n : ℕ) → IsPass n (λ i m ps. bus_read n (system ps m)) (λ i. with_lines (change_line n clean_line)) (λ i m p. write_back_of n m p.lines)
+read_pass n = record {
+  ends = λ i m. refl;
+  goes = λ i m p ps. refl;
+  leaves = λ i p none. (cleaned_left n p none, λ m. none_written n m p.lines none);
+}
+
+both_left : (n : ℕ) (p : Processor) → find_line n p.lines ≡ None → with_lines (without_line n) (with_lines (change_line n clean_line) p) ≡ p
+both_left n p none = ap (with_lines (without_line n)) (cleaned_left n p none) ∙ dropped_left n p none
+
+pub dropped_pass : (n : ℕ)
+    → IsPass n (λ i m ps. invalidate n (bus_read n (system ps m))) (λ i p. with_lines (without_line n) (with_lines (change_line n clean_line) p)) (λ i m p. write_back_of n m p.lines)
+dropped_pass n = record {
+  ends = λ i m. refl;
+  goes = λ i m p ps. refl;
+  leaves = λ i p none. (both_left n p none, λ m. none_written n m p.lines none);
+}
+
+-- except at processor k, whose copy stays
+abbrev pub others_dropped : ℕ → ℕ → ℕ → Memory → List Processor → System
+others_dropped k n i m ps = system (others_from i k (with_lines (without_line n)) (map (with_lines (change_line n clean_line)) ps)) (written_back n m ps)
+
+pub others_pass : (k n : ℕ)
+    → IsPass n (others_dropped k n)
+    (λ i p. if i == k then with_lines (change_line n clean_line) p else with_lines (without_line n) (with_lines (change_line n clean_line) p)) (λ i m p. write_back_of n m p.lines)
+others_pass k n = record {
+  ends = λ i m. refl;
+  goes = λ i m p ps. refl;
+  leaves = λ i p none. (either (i == k) _ _ p (cleaned_left n p none) (both_left n p none), λ m. none_written n m p.lines none);
+}
+
+abbrev pub others_taken : ℕ → ℕ → ℕ → Memory → List Processor → System
+others_taken k n i m ps = system (others_from i k (with_lines (without_line n)) ps) (others_back i k n m ps)
+
+pub taken_pass : (k n : ℕ)
+    → IsPass n (others_taken k n) (λ i p. if i == k then p else with_lines (without_line n) p) (λ i m p. if i == k then m else write_back_of n m p.lines)
+taken_pass k n = record {
+  ends = λ i m. refl;
+  goes = λ i m p ps. refl;
+  leaves = λ i p none. (either (i == k) p _ p refl (dropped_left n p none), λ m. either (i == k) m _ m refl (none_written n m p.lines none));
+}
+
+pub all_taken : (k n : ℕ) (s : System) → k < length s.processors → others_taken k n 0 s.memory s.processors ≡ invalidate_others k n (write_back_others k n s)
+all_taken k n s within = ap (system (others_from 0 k (with_lines (without_line n)) s.processors)) (others_written k n s.memory s.processors within)
+
+-- if no other cache has the line
+pub taken_alone : (k n : ℕ) (s : System) → k < length s.processors → IsNowhereElse k n s.processors → s ≡ invalidate_others k n (write_back_others k n s)
+taken_alone k n s within none = all_left (taken_pass k n) s (λ j p at. one j p at (j == k) refl) ∙ all_taken k n s within
   where
-    one : (b : Bool) → (i == k) ≡ b → (if b then p else with_lines f p) ≡ p
-    one true is = refl
-    one false is = processor_left f p (leaves p.lines (lack 0 (λ e. eqb-false i k is (omega (arith, e)))))
-
-back_others : (i k j n : ℕ) (m : Memory) (ps : List Processor) → k ≡ i + j → LackBut i k n ps → written_back n m (remove ps j) ≡ m
-back_others i k zero n m [] is lack = refl
-back_others i k (suc j) n m [] is lack = refl
-back_others i k zero n m (p ∷ ps) is lack = back_left n m ps (λ x. lack (suc x) (λ e. omega (arith, is, e)))
-back_others i k (suc j) n m (p ∷ ps) is lack =
-    ap (λ w. written_back n w (remove ps j)) (none_written n m p.lines (lack 0 (λ e. omega (arith, is, e))))
-    ∙ back_others (i + 1) k j n m ps (omega (arith, is)) (rest_lacks i k n p ps lack)
-
-from_first : (k n : ℕ) (ps : List Processor) → IsNowhereElse k n ps → LackBut 0 k n ps
-from_first k n ps none = λ j other. none.each j (λ e. other (omega (arith, e)))
-
-pub taken_alone : (k n : ℕ) (ps : List Processor) (m : Memory) → IsNowhereElse k n ps → system ps m ≡ invalidate_others k n (write_back_others k n (system ps m))
-taken_alone k n ps m none =
-    sym
-    (λ i. system (others_left (without_line n) n (dropped_leaves n) 0 k ps (from_first k n ps none) i) (back_others 0 k k n m ps (omega arith) (from_first k n ps none) i))
-
--- the own copy is cleaned
-own_cleaned : (i k j n : ℕ) (ps : List Processor) (p : Processor) → k ≡ i + j → slice_get ps j ≡ Some p → LackBut i k n ps
-    → others_from i k (with_lines (without_line n)) (map (with_lines (change_line n clean_line)) ps) ≡ slice_set ps j (with_lines (change_line n clean_line) p)
-own_cleaned i k j n [] p is at lack = absurd (cc)
-own_cleaned i k zero n (q ∷ ps) p is at lack =
-    let same : q ≡ p = cc in
-    let past : (j : ℕ) → find_line n (lines_in j ps) ≡ None = λ j. lack (suc j) (λ e. omega (arith, is, e)) in
-    let rest : others_from (i + 1) k (with_lines (without_line n)) (map (with_lines (change_line n clean_line)) ps) ≡ ps =
-    ap (others_from (i + 1) k (with_lines (without_line n))) (map_left (change_line n clean_line) n (cleaned_leaves n) ps past)
-    ∙ others_left (without_line n) n (dropped_leaves n) (i + 1) k ps (λ j other. past j) in
-    let c : Processor → Processor = with_lines (change_line n clean_line) in
-    ap (λ b. (if b then c q else with_lines (without_line n) (c q)) ∷ others_from (i + 1) k (with_lines (without_line n)) (map c ps)) (eq-eqb i k (omega (arith, is)))
-    ∙ (λ x. c (same x) ∷ rest x)
-own_cleaned i k (suc j) n (q ∷ ps) p is at lack =
-    let none : find_line n q.lines ≡ None = lack 0 (λ e. omega (arith, is, e)) in
-    let c : Processor → Processor = with_lines (change_line n clean_line) in
-    let d : Processor → Processor = with_lines (without_line n) in
-    let first : d (c q) ≡ q = ap d (processor_left (change_line n clean_line) q (cleaned_leaves n q.lines none)) ∙ processor_left (without_line n) q (dropped_leaves n q.lines none) in
-    ap (λ b. (if b then c q else d (c q)) ∷ others_from (i + 1) k d (map c ps)) (ne_eqb i k (λ e. omega (arith, is, e)))
-    ∙ (λ x. first x ∷ own_cleaned (i + 1) k j n ps p (omega (arith, is)) at (rest_lacks i k n q ps lack) x)
-
-own_written : (i k j n : ℕ) (m : Memory) (ps : List Processor) (p : Processor) → k ≡ i + j → slice_get ps j ≡ Some p → LackBut i k n ps → written_back n m ps ≡ write_back_of n m p.lines
-own_written i k j n m [] p is at lack = absurd (cc)
-own_written i k zero n m (q ∷ ps) p is at lack =
-    let same : q ≡ p = cc in
-    back_left n (write_back_of n m q.lines) ps (λ j. lack (suc j) (λ e. omega (arith, is, e)))
-    ∙ ap (λ (x : Processor). write_back_of n m x.lines) same
-own_written i k (suc j) n m (q ∷ ps) p is at lack =
-    ap (λ w. written_back n w ps) (none_written n m q.lines (lack 0 (λ e. omega (arith, is, e))))
-    ∙ own_written (i + 1) k j n m ps p (omega (arith, is)) at (rest_lacks i k n q ps lack)
-
-pub cleaned_alone : (k n : ℕ) (ps qs : List Processor) (m w : Memory) (p : Processor) → slice_get ps k ≡ Some p → IsNowhereElse k n ps
-    → qs ≡ slice_set ps k (with_lines (change_line n clean_line) p) → w ≡ write_back_of n m p.lines
-    → system qs w ≡ invalidate_others k n (bus_read n (system ps m))
-cleaned_alone k n ps qs m w p at none changed written =
-    (λ i. system (changed i) (written i))
-    ∙ sym (λ i. system (own_cleaned 0 k k n ps p (omega arith) at (from_first k n ps none) i) (own_written 0 k k n m ps p (omega arith) at (from_first k n ps none) i))
+    one : (j : ℕ) (p : Processor) → slice_get s.processors j ≡ Some p → (b : Bool) → (j == k) ≡ b
+        → ((if j == k then p else with_lines (without_line n) p) ≡ p) × ((m : Memory) → (if j == k then m else write_back_of n m p.lines) ≡ m)
+    one j p at true is = (ap (λ b. if b then p else with_lines (without_line n) p) is, λ m. ap (λ b. if b then m else write_back_of n m p.lines) is)
+    one j p at false is =
+        (taken_pass k n).leaves j p
+        (ap (λ (o : Option Processor). find_line n (option_map_or (λ q. q.lines) o [])) (sym at) ∙ none.each j (eqb-false j k is))

@@ -36,9 +36,6 @@ pub record CoversBut (k n : ℕ) (masks others : List ℕ) : Type 0 where
 pub record CoversOthers (k : ℕ) (masks others : List ℕ) : Type 0 where
   pub each : (j i : ℕ) → (j ≡ k → ⊥) → may_hold others j i ≡ true → may_hold masks j i ≡ true
 
--- no cache has the line, and none but that of processor k
-pub record IsNowhere (n : ℕ) (ps : List Processor) : Type 0 where
-  pub each : (j : ℕ) → find_line n (lines_in j ps) ≡ None
-
+-- no cache except that of processor k has the line
 pub record IsNowhereElse (k n : ℕ) (ps : List Processor) : Type 0 where
   pub each : (j : ℕ) → (j ≡ k → ⊥) → find_line n (lines_in j ps) ≡ None

@@ -2,7 +2,6 @@
 use Rattle.std.specs.Prelude.{ℕ, ◌/◌, Bool, false, List, [], slice_get, Option, None}
 use Rattle.std.specs.Option.{option_map_or}
 use Rattle.mt_kinds.specs.Sizes.{page_bytes}
-use Rattle.mt_kinds.specs.declared.mem_type.MemType.{MemType}
 use Rattle.mt_cache.specs.declared.line.CacheLine.{CacheLine}
 use Rattle.mt_tlb.specs.declared.entry.Entry.{Entry}
 use Rattle.mt_tlb.specs.declared.mapping.Mapping.{Mapping}

@@ -1,5 +1,5 @@
 // Which caches may have a line.
-ghost use Rattle.std.specs.Prelude.{◌≡◌, ℕ, ◌<◌, ◌%◌, ◌^◌, List, [], false, replicate, slice_index_or, slice_set, true, IfOk, IsTrue};
+ghost use Rattle.std.specs.Prelude.{◌≡◌, ℕ, ◌<◌, ◌≤◌, ◌%◌, ◌^◌, List, [], false, replicate, slice_index_or, slice_set, true, IfOk, IsTrue};
 ghost use Rattle.mt_cache.specs.Counts.{modulus};
 ghost use Rattle.mt_machine.specs.System.{Processor};
 ghost use Rattle.mt_bus.specs.Holders.{AreHeldBy, Covers, CoversBut, CoversOthers, mask_of, may_hold};
@@ -85,11 +85,6 @@ impl Holders {
         self.marked = 0xffff;
     }
 
-    /// Whether there are masks.
-    pub(crate) fn is_known(&self) -> bool {
-        !self.masks.is_empty()
-    }
-
     // The mask of a line.
     #[inline(always)]
     fn mask(&self, number: u64) -> u16
@@ -110,6 +105,24 @@ impl Holders {
             is_bit_set(self.mask(number) as u64, k as u8)
         } else {
             true
+        }
+    }
+
+    /// Returns the first processor from number `i` on whose cache may have a line. It may be past the last processor.
+    #[inline(always)]
+    pub(crate) fn next(&self, i: usize, number: u64) -> usize
+        ensures from { i ≤ result }
+        ensures holder { may_hold self.now result number ≡ true }
+        ensures skipped { (j : ℕ) → i ≤ j → j < result → may_hold self.now j number ≡ false }
+    {
+        if i >= BITS {
+            return i;
+        }
+        let rest = self.mask(number) >> i as u16;
+        if rest == 0 {
+            BITS
+        } else {
+            i + rest.trailing_zeros() as usize
         }
     }
 

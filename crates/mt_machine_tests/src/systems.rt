@@ -249,6 +249,23 @@ fn updated(alloc: Global) -> Option<Core> {
     Some(core)
 }
 
+/// A system whose processor 0 has stored a word, and no other processor has.
+fn stored(alloc: Global) -> Option<System> {
+    let mut core = core_of(alloc, &file(6)?, 2)?;
+    if !stores(&mut core, 0, 0, 0x2a) {
+        return None;
+    }
+    Some(core.into_system())
+}
+
+// The line at 1 MB has the number 4000H.
+#[test]
+fn a_mask_has_the_bit_of_the_cache_with_the_line(rt: HostRuntime) {
+    let parts = some(&rt, stored(rt.alloc())).into_parts();
+    holds(&rt, parts.holders.may_hold(0, 0x4000));
+    holds(&rt, !parts.holders.may_hold(1, 0x4000));
+}
+
 // The line at 1 MB, which both caches have dropped, has the number 4000H.
 #[test]
 fn masks_of_holders_are_kept(rt: HostRuntime) {

@@ -1,21 +1,25 @@
-use Rattle.std.proofs.Common.{◌∙◌, ap, rules, set, subst, sym}
-use Rattle.mt_machine.specs.System.{System}
-use Rattle.mt_machine.specs.Bus.{bus_read, invalidate_others}
-use Rattle.mt_bus.specs.Holders.{IsNowhereElse}
-use Rattle.mt_bus.proofs.Changed.{lent_at}
-use Rattle.mt_bus.proofs.Held.{held_lent, keeps_cleaned}
-use Rattle.mt_bus.proofs.Skipped.{cleaned_alone}
+use Rattle.std.proofs.Common.{arith, refl, rules}
+use Rattle.mt_bus.proofs.Held.{held_lent, keeps_cleaned_or_dropped}
+use Rattle.mt_bus.proofs.Skipped.{lacked, others_pass, passed, turned}
 use Rattle.mt_bus.proofs.bus.Bus.read_and_drop_others.Goals as goal
 
 pub invariant_of-self : goal.invariant_of-self
 invariant_of-self c =
-    held_lent c.self.inside.cpus.items c.self.inside.holders c.args.k c.index_mut.result.now c.clean_in.new.cpu (search rules) c.index_mut.ensures.value
-    (keeps_cleaned c.args.number c.index_mut.result.now c.clean_in.new.cpu c.clean_in.ensures.cpu) c.self.invariant
+    held_lent c.self-in-holders.inside.cpus.items c.self-in-holders.inside.holders c.holders.i c.index_mut.result.now c.clean_or_drop_in.new.cpu (search rules) c.index_mut.ensures.value
+    (keeps_cleaned_or_dropped c.args.number _ c.index_mut.result.now c.clean_or_drop_in.new.cpu c.clean_or_drop_in.ensures.cpu) c.self-in-holders.invariant
 
-pub returns-then-is_nowhere_else : goal.returns-then-is_nowhere_else
-returns-then-is_nowhere_else c =
-    cleaned_alone c.args.k c.args.number c.self.inside.cpus.items _ c.self.inside.ram c.clean_in.new.ram c.index_mut.result.now
-    (lent_at c.self.inside.cpus.items c.args.k c.index_mut.result.now (search rules) c.index_mut.ensures.value)
-    (subst (λ (s : System). IsNowhereElse c.args.k c.args.number s.processors) (sym c.self.view_is) (c.is_nowhere_else.ensures c.if-is_nowhere_else.true))
-    (ap (set c.self.inside.cpus.items c.args.k) c.clean_in.ensures.cpu) c.clean_in.ensures.ram
-    ∙ ap (λ (s : System). invalidate_others c.args.k c.args.number (bus_read c.args.number s)) c.self.view_is
+pub holders-init : goal.holders-init
+holders-init c =
+    lacked (others_pass c.args.k c.args.number) 0 c.next-i.result c.args.self.now _ c.self.inside.cpus.items c.self.inside.ram c.self.inside.holders c.self.view_is c.self.invariant c.next-i.ensures.from
+    c.next-i.ensures.skipped refl
+
+pub holders-preserved : goal.holders-preserved
+holders-preserved c =
+    turned (others_pass c.args.k c.args.number) c.holders.i c.next-i-in-holders.result c.holders.self c.look_at.new.self _
+    c.self-in-holders.inside.cpus.items c.self-in-holders-2.inside.cpus.items c.self-in-holders.inside.ram c.self-in-holders-2.inside.ram c.index_mut.result.now c.clean_or_drop_in.new.cpu c.clean_or_drop_in.new.ram c.self-in-holders-2.inside.holders
+    c.holders.invariant c.self-in-holders.view_is (search rules) c.index_mut.ensures.value c.clean_or_drop_in.ensures.cpu c.clean_or_drop_in.ensures.ram c.look_at.ensures
+    c.self-in-holders-2.view_is c.self-in-holders-2.invariant c.next-i-in-holders.ensures.from c.next-i-in-holders.ensures.skipped
+
+pub returns : goal.returns
+returns c =
+    passed (others_pass c.args.k c.args.number) c.holders.i c.holders.self _ c.self-in-holders.inside.cpus.items c.self-in-holders.inside.ram c.self-in-holders.view_is (omega (arith, c.len.ensures, c.holders-test.false)) c.holders.invariant

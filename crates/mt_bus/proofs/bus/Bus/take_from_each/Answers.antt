@@ -1,32 +1,25 @@
-use Rattle.std.proofs.Common.{◌∙◌, ap, arith, rules}
-use Rattle.std.proofs.lemmas.Grind.{common_steps}
-use Rattle.std.specs.List.{remove}
-use Rattle.mt_cache.specs.Lines.{without_line}
-use Rattle.mt_machine.specs.Memory.{Memory}
-use Rattle.mt_machine.specs.Bus.{with_lines}
-use Rattle.mt_bus.specs.Parts.{system, written_back}
-use Rattle.mt_bus.proofs.Others.{passed, passed_back}
-use Rattle.mt_bus.proofs.Held.{held_lent, keeps_same_or_dropped, lacks_at}
+use Rattle.std.proofs.Common.{arith, rules}
+use Rattle.mt_bus.proofs.Held.{held_lent, keeps_same_or_dropped}
+use Rattle.mt_bus.proofs.Skipped.{all_taken, lacked, passed, taken_pass, turned}
 use Rattle.mt_bus.proofs.bus.Bus.take_from_each.Goals as goal
 
-pub drop_unless-requires : goal.drop_unless-requires
-drop_unless-requires c =
-    lacks_at c.loop-i.self-inside.cpus.items c.loop-i.self-inside.holders c.loop-i.i c.args.number c.index_mut.result.now c.may_hold-may.result
-    c.loop-i.invariant.held (search rules) c.index_mut.ensures.value c.may_hold-may.ensures
+pub invariant_of-self : goal.invariant_of-self
+invariant_of-self c =
+    held_lent c.self-in-holders.inside.cpus.items c.self-in-holders.inside.holders c.holders.i c.index_mut.result.now c.drop_unless.new.cpu (search rules) c.index_mut.ensures.value
+    (keeps_same_or_dropped c.args.number _ c.index_mut.result.now c.drop_unless.new.cpu c.drop_unless.ensures.cpu) c.self-in-holders.invariant
 
-pub loop-i-preserved : goal.loop-i-preserved
-loop-i-preserved c = record {
-  cpus = grind (arith, common_steps);
-  ram = grind (arith, common_steps);
-  count = grind (arith, common_steps);
-  held =
-      held_lent c.loop-i.self-inside.cpus.items c.loop-i.self-inside.holders c.loop-i.i c.index_mut.result.now c.drop_unless.new.cpu (search rules) c.index_mut.ensures.value
-      (keeps_same_or_dropped c.args.number _ c.index_mut.result.now c.drop_unless.new.cpu c.drop_unless.ensures.cpu) c.loop-i.invariant.held;
-}
+pub holders-init : goal.holders-init
+holders-init c =
+    lacked (taken_pass c.args.k c.args.number) 0 c.next-i.result c.args.self.now _ c.self.inside.cpus.items c.self.inside.ram c.self.inside.holders c.self.view_is c.self.invariant c.next-i.ensures.from
+    c.next-i.ensures.skipped (all_taken c.args.k c.args.number c.args.self.now c.requires)
+
+pub holders-preserved : goal.holders-preserved
+holders-preserved c =
+    turned (taken_pass c.args.k c.args.number) c.holders.i c.next-i-in-holders.result c.holders.self c.look_at.new.self _
+    c.self-in-holders.inside.cpus.items c.self-in-holders-2.inside.cpus.items c.self-in-holders.inside.ram c.self-in-holders-2.inside.ram c.index_mut.result.now c.drop_unless.new.cpu c.drop_unless.new.ram c.self-in-holders-2.inside.holders
+    c.holders.invariant c.self-in-holders.view_is (search rules) c.index_mut.ensures.value c.drop_unless.ensures.cpu c.drop_unless.ensures.ram c.look_at.ensures
+    c.self-in-holders-2.view_is c.self-in-holders-2.invariant c.next-i-in-holders.ensures.from c.next-i-in-holders.ensures.skipped
 
 pub returns : goal.returns
 returns c =
-    ap (λ (m : Memory). system c.loop-i.self-inside.cpus.items m)
-    (passed_back c.loop-i.i c.args.k c.args.number c.loop-i.self-inside.ram c.args.self.now.memory c.loop-i.self-inside.cpus.items c.args.self.now.processors (omega arith) c.requires c.loop-i.invariant.ram)
-    ∙ ap (λ ps. system ps (written_back c.args.number c.args.self.now.memory (remove c.args.self.now.processors c.args.k)))
-    (passed (with_lines (without_line c.args.number)) c.loop-i.i c.args.k c.loop-i.self-inside.cpus.items _ (omega arith) c.loop-i.invariant.cpus)
+    passed (taken_pass c.args.k c.args.number) c.holders.i c.holders.self _ c.self-in-holders.inside.cpus.items c.self-in-holders.inside.ram c.self-in-holders.view_is (omega (arith, c.len.ensures, c.holders-test.false)) c.holders.invariant

@@ -1,0 +1,11 @@
+use Rattle.std.proofs.Common.{◌≡◌, ◌-◌, length}
+use Rattle.mt_machine.specs.Bus.{bus_read}
+use Rattle.mt_bus.specs.Parts.{system}
+use Rattle.mt_bus.proofs.Skipped.{pass_from}
+use Rattle.mt_bus.proofs.bus.Bus.bus_read.Given as goal
+
+abbrev pub invariant-holders : goal.invariant-holders
+invariant-holders l = pass_from (λ i m ps. bus_read l.number (system ps m)) l.i l.self ≡ bus_read l.number l.fn.self
+
+abbrev pub decreases-holders : goal.decreases-holders
+decreases-holders l = length l.self.processors - l.i
