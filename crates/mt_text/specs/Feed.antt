@@ -36,7 +36,7 @@ pub record Feeding : Type 0 where
 abbrev pub taken : Feeding → ℕ
 taken feed = feed.offset + length feed.pending
 
--- the fault that a feed has returned is TooLong exactly where it has taken more bytes than the limit
+-- a feed has returned TooLong if and only if it has taken more bytes than the limit
 abbrev pub IsLong : Feeding → Type 0
 IsLong feed = (feed.fault ≡ Some TooLong) ↔ (longest_input < taken feed)
 

@@ -1,4 +1,4 @@
-ghost use Rattle.std.specs.Prelude.{◌≡◌, ◌≤◌, ◌<◌, ◌+◌, ◌-◌, [], ◌∷◌, length, drop, take, MatchOption, IfSome, position, Some, None, slice_get};
+ghost use Rattle.std.specs.Prelude.{◌≡◌, ◌≤◌, ◌<◌, ◌+◌, ◌-◌, [], ◌∷◌, length, drop, take, MatchOption, IfSome, Some, None, slice_get};
 ghost use Rattle.std.specs.List.{position_or_len};
 ghost use Rattle.mt_text.specs.Text.{is_blank, is_word_byte, ends_word, before_comment, without_ending, without_return, words_at, words_from, words_of};
 
@@ -24,32 +24,30 @@ fn ends_word(byte: u8) -> bool
     is_blank(byte) || byte == b'#'
 }
 
-fn word_start(text: &[u8]) -> Option<usize>
-    ensures { result ≡ position is_word_byte text.now }
+// The offset of the first byte from `from` on that isn't a blank, or the length.
+fn past_blanks(text: &[u8], from: usize) -> usize
+    requires { from ≤ length text.now }
+    ensures within { result ≤ length text.now }
+    ensures offset { result ≡ from + position_or_len is_word_byte (drop from text.now) }
 {
-    text.iter().position(|b| !is_blank(*b))
+    let mut at = from;
+    'blanks: while at < text.len() && is_blank(text[at]) {
+        at += 1;
+    }
+    at
 }
 
-fn word_end(text: &[u8]) -> Option<usize>
-    ensures { result ≡ position ends_word text.now }
+// The offset of the first blank or `#` from `from` on, or the length.
+fn past_word(text: &[u8], from: usize) -> usize
+    requires { from ≤ length text.now }
+    ensures within { result ≤ length text.now }
+    ensures offset { result ≡ from + position_or_len ends_word (drop from text.now) }
 {
-    text.iter().position(|b| ends_word(*b))
-}
-
-// How many blanks stand at the front.
-#[tactic(auto, using(crate::proofs::Places::position_within))]
-fn blanks_length(text: &[u8]) -> usize
-    ensures { result ≡ position_or_len is_word_byte text.now }
-{
-    word_start(text).unwrap_or(text.len())
-}
-
-// How many bytes stand at the front before a blank or a comment.
-#[tactic(auto, using(crate::proofs::Places::position_within))]
-fn word_length(text: &[u8]) -> usize
-    ensures { result ≡ position_or_len ends_word text.now }
-{
-    word_end(text).unwrap_or(text.len())
+    let mut at = from;
+    'word: while at < text.len() && !ends_word(text[at]) {
+        at += 1;
+    }
+    at
 }
 
 /// A text without one such byte at its end.
@@ -64,7 +62,6 @@ pub fn without_ending(text: &[u8], ending: u8) -> &[u8]
 }
 
 // Where the first word from an offset on begins and ends, in a line without CR.
-#[tactic(auto, using(crate::proofs::Places::position_within))]
 pub(crate) fn next_word(text: &[u8], from: usize) -> Option<(usize, usize)>
     requires { from ≤ length text.now }
     ensures bounds { IfSome result (λ x. (from ≤ x.0) × (x.0 < x.1) × (x.1 ≤ length text.now)) }
@@ -72,10 +69,8 @@ pub(crate) fn next_word(text: &[u8], from: usize) -> Option<(usize, usize)>
         (words_from from (before_comment (drop from text.now)) ≡ [])
         (λ x. words_from from (before_comment (drop from text.now)) ≡ (x.0, take (x.1 - x.0) (drop x.0 text.now)) ∷ words_from x.1 (before_comment (drop x.1 text.now))) }
 {
-    let (_, rest) = text.split_at(from);
-    let start = from + blanks_length(rest);
-    let (_, rest) = text.split_at(start);
-    let end = start + word_length(rest);
+    let start = past_blanks(text, from);
+    let end = past_word(text, start);
     if end == start {
         None
     } else {
