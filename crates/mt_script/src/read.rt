@@ -3,7 +3,7 @@ ghost use Rattle.std.specs.Set.{is_member};
 ghost use Rattle.std.specs.Result.{IfOk};
 ghost use Rattle.mt_script.specs.Accept.{Fits};
 ghost use Rattle.mt_text.specs.Text.{is_too_long, past_limit, words_of};
-ghost use Rattle.mt_script.specs.Commands.{ask_in, command_of, outside, in_section, ends_dump, verb_answer, register_line, is_end, end_fault};
+ghost use Rattle.mt_script.specs.Commands.{ask_in, command_of, outside, in_section, row_line, ends_dump, verb_answer, register_line, is_end, end_fault};
 ghost use Rattle.mt_script.specs.Numbers.{fault_at};
 ghost use Rattle.mt_script.specs.Words.{text_of};
 ghost use Rattle.mt_dump.specs.Line.{is_word};
@@ -14,8 +14,10 @@ use crate::number::{
     virtual_at, writable,
 };
 use crate::room::has_room;
-use crate::row::{AskVerb, Verb};
-use crate::row_table::{is_word, row_of, stands, takes_commands};
+use crate::row::{AskVerb, Row, Verb};
+use crate::row_table::{
+    ask_row, is_load, is_step, is_store, is_word, other_row, stands, takes_commands,
+};
 use crate::shape::shape_fault;
 use crate::{Ask, Command, Mapped, ScriptFault, ScriptReason, Section, Setup, Stage};
 use mt_kinds::{MOST_LINES, PAGE_BYTES, WORD_BYTES};
@@ -57,6 +59,7 @@ fn is_on(words: &Words<'_>) -> bool
 }
 
 // What is asked of a processor, by the words behind its number.
+#[inline(always)] // so that the verb may be a constant
 fn read_ask(words: &Words<'_>, setup: &Setup, verb: AskVerb) -> Result<Ask, ScriptFault>
     ensures { result ≡ ask_in setup.now words.now.number words.now.words verb }
 {
@@ -78,6 +81,7 @@ fn read_ask(words: &Words<'_>, setup: &Setup, verb: AskVerb) -> Result<Ask, Scri
 }
 
 // The processor, and what is asked of it.
+#[inline(always)] // so that the verb may be a constant
 fn read_asked(words: &Words<'_>, setup: &Setup, verb: AskVerb) -> Result<Command, ScriptFault>
     ensures { result ≡ verb_answer setup.now words.now.number words.now.words (Verb.Ask verb) }
 {
@@ -87,6 +91,7 @@ fn read_asked(words: &Words<'_>, setup: &Setup, verb: AskVerb) -> Result<Command
 }
 
 // The numbers of a line with this verb, and the command that it asks for.
+#[inline(always)] // so that the verb may be a constant
 fn read_verb(words: &Words<'_>, setup: &Setup, verb: Verb) -> Result<Command, ScriptFault>
     ensures { result ≡ verb_answer setup.now words.now.number words.now.words verb }
 {
@@ -107,15 +112,12 @@ fn read_verb(words: &Words<'_>, setup: &Setup, verb: Verb) -> Result<Command, Sc
     }
 }
 
-fn read_outside(words: &Words<'_>, setup: &Setup) -> Result<Command, ScriptFault>
-    ensures { result ≡ outside setup.now words.now.number words.now.words }
+// What a line of this row asks for.
+#[inline(always)] // so that the row may be a constant
+fn read_row(words: &Words<'_>, setup: &Setup, row: Row) -> Result<Command, ScriptFault>
+    requires { 1 ≤ length words.now.words }
+    ensures { result ≡ row_line setup.now words.now.number words.now.words (Some row) }
 {
-    if words.count() == 0 {
-        return Ok(Command::Blank);
-    }
-    let Some(row) = row_of(words.text(0)) else {
-        return Err(fault(ScriptReason::BadLine, words.place(0)));
-    };
     if let Some(fault) = shape_fault(words, row) {
         return Err(fault);
     }
@@ -123,6 +125,38 @@ fn read_outside(words: &Words<'_>, setup: &Setup) -> Result<Command, ScriptFault
         return Err(fault(ScriptReason::NotNow, words.place(0)));
     }
     read_verb(words, setup, row.verb)
+}
+
+// The same of a row that most lines don't have.
+#[inline(never)]
+fn read_other(words: &Words<'_>, setup: &Setup, row: Row) -> Result<Command, ScriptFault>
+    requires { 1 ≤ length words.now.words }
+    ensures { result ≡ row_line setup.now words.now.number words.now.words (Some row) }
+{
+    read_row(words, setup, row)
+}
+
+// The rows that most lines have are tried first.
+fn read_outside(words: &Words<'_>, setup: &Setup) -> Result<Command, ScriptFault>
+    ensures { result ≡ outside setup.now words.now.number words.now.words }
+{
+    if words.count() == 0 {
+        return Ok(Command::Blank);
+    }
+    let word = words.text(0);
+    if is_load(word) {
+        return read_row(words, setup, ask_row(AskVerb::Load, 3));
+    }
+    if is_store(word) {
+        return read_row(words, setup, ask_row(AskVerb::Store, 4));
+    }
+    if is_step(word) {
+        return read_row(words, setup, ask_row(AskVerb::Step, 2));
+    }
+    match other_row(word) {
+        Some(row) => read_other(words, setup, row),
+        None => Err(fault(ScriptReason::BadLine, words.place(0))),
+    }
 }
 
 fn was_seen(seen: &[u32], msr: u32) -> bool
@@ -211,7 +245,9 @@ fn read_section_line(line: &Line<'_>, st: &Setup) -> Result<Command, ScriptFault
 fn read_outside_line(line: &Line<'_>, st: &Setup) -> Result<Command, ScriptFault>
     ensures { result ≡ outside st.now line.now.number (words_of line.now.bytes.now) }
 {
-    read_outside(&line.first_words(), st)
+    let mut words = Words::new();
+    line.find_words(&mut words);
+    read_outside(&words, st)
 }
 
 fn read_line(line: &Line<'_>, st: &Setup) -> Result<Command, ScriptFault>

@@ -1,4 +1,4 @@
-ghost use Rattle.std.specs.Prelude.{◌≡◌, codes};
+ghost use Rattle.std.specs.Prelude.{◌≡◌, codes, false};
 ghost use Rattle.mt_dump.specs.Line.{is_word};
 ghost use Rattle.mt_script.specs.Rows.{row_of, plain};
 ghost use Rattle.mt_script.specs.Stages.{is_in_dump, stands, takes_commands};
@@ -13,26 +13,28 @@ pub fn is_word(word: &[u8], name: &[u8]) -> bool
     word == name
 }
 
-// The same of the names of which scripts have the most.
-fn is_load(word: &[u8]) -> bool
+/// Whether a word is `load`.
+pub fn is_load(word: &[u8]) -> bool
     ensures { result ≡ is_word (codes "load") word.now }
 {
     matches!(word, b"load")
 }
 
-fn is_store(word: &[u8]) -> bool
+/// Whether a word is `store`.
+pub fn is_store(word: &[u8]) -> bool
     ensures { result ≡ is_word (codes "store") word.now }
 {
     matches!(word, b"store")
 }
 
-fn is_step(word: &[u8]) -> bool
+/// Whether a word is `step`.
+pub fn is_step(word: &[u8]) -> bool
     ensures { result ≡ is_word (codes "step") word.now }
 {
     matches!(word, b"step")
 }
 
-// Lines of so many words.
+// The row of lines of so many words.
 fn plain(verb: Verb, count: usize, turn: Turn) -> Row
     ensures { result ≡ plain verb count turn }
 {
@@ -45,24 +47,19 @@ fn plain(verb: Verb, count: usize, turn: Turn) -> Row
     }
 }
 
-/// The row whose first word this is. Those of which scripts have the most are tried first.
-pub fn row_of(word: &[u8]) -> Option<Row>
-    ensures { result ≡ row_of word.now }
+/// The row of lines of so many words that ask something of a processor.
+pub fn ask_row(verb: AskVerb, count: usize) -> Row
+    ensures { result ≡ plain (Verb.Ask verb) count Turn.Commands }
 {
-    if is_load(word) {
-        Some(plain(Verb::Ask(AskVerb::Load), 3, Turn::Commands))
-    } else if is_store(word) {
-        Some(plain(Verb::Ask(AskVerb::Store), 4, Turn::Commands))
-    } else if is_step(word) {
-        Some(plain(Verb::Ask(AskVerb::Step), 2, Turn::Commands))
-    } else {
-        find_row(word)
-    }
+    plain(Verb::Ask(verb), count, Turn::Commands)
 }
 
-// The row whose first word this is, by a search of the table.
+/// The row whose first word this is, which is neither `load` nor `store` nor `step`.
 #[inline(never)]
-fn find_row(word: &[u8]) -> Option<Row>
+pub fn other_row(word: &[u8]) -> Option<Row>
+    requires load { is_word (codes "load") word.now ≡ false }
+    requires store { is_word (codes "store") word.now ≡ false }
+    requires step { is_word (codes "step") word.now ≡ false }
     ensures { result ≡ row_of word.now }
 {
     if is_word(word, b"cpus") {
@@ -73,31 +70,27 @@ fn find_row(word: &[u8]) -> Option<Row>
         Some(plain(Verb::Ram, 3, Turn::Windows))
     } else if is_word(word, b"selfsnoop") {
         Some(plain(Verb::Selfsnoop, 2, Turn::Windows))
-    } else if is_word(word, b"load") {
-        Some(plain(Verb::Ask(AskVerb::Load), 3, Turn::Commands))
-    } else if is_word(word, b"store") {
-        Some(plain(Verb::Ask(AskVerb::Store), 4, Turn::Commands))
     } else if is_word(word, b"fence") {
-        Some(plain(Verb::Ask(AskVerb::Fence), 2, Turn::Commands))
+        Some(ask_row(AskVerb::Fence, 2))
     } else if is_word(word, b"map") {
         Some(Row {
             least: 5,
             last: Last::Global,
-            ..plain(Verb::Ask(AskVerb::Map), 6, Turn::Commands)
+            ..ask_row(AskVerb::Map, 6)
         })
     } else if is_word(word, b"invlpg") {
-        Some(plain(Verb::Ask(AskVerb::Invlpg), 3, Turn::Commands))
+        Some(ask_row(AskVerb::Invlpg, 3))
     } else if is_word(word, b"cr3") {
-        Some(plain(Verb::Ask(AskVerb::Cr3), 2, Turn::Commands))
+        Some(ask_row(AskVerb::Cr3, 2))
     } else if is_word(word, b"pge") {
         Some(Row {
             last: Last::Switch,
-            ..plain(Verb::Ask(AskVerb::Pge), 3, Turn::Commands)
+            ..ask_row(AskVerb::Pge, 3)
         })
     } else if is_word(word, b"cd") {
         Some(Row {
             last: Last::Switch,
-            ..plain(Verb::Ask(AskVerb::Cd), 3, Turn::Commands)
+            ..ask_row(AskVerb::Cd, 3)
         })
     } else if is_word(word, b"update") {
         Some(plain(Verb::Update, 1, Turn::Commands))
@@ -109,8 +102,6 @@ fn find_row(word: &[u8]) -> Option<Row>
         Some(plain(Verb::Cancel, 1, Turn::Commands))
     } else if is_word(word, b"report") {
         Some(plain(Verb::Report, 1, Turn::Commands))
-    } else if is_word(word, b"step") {
-        Some(plain(Verb::Ask(AskVerb::Step), 2, Turn::Commands))
     } else if is_word(word, b"up") {
         Some(plain(Verb::Newcomer(Newcomer::Up), 1, Turn::Commands))
     } else if is_word(word, b"join") {
@@ -120,7 +111,7 @@ fn find_row(word: &[u8]) -> Option<Row>
     } else if is_word(word, b"word") {
         Some(plain(Verb::Word, 2, Turn::Commands))
     } else if is_word(word, b"msr") {
-        Some(plain(Verb::Ask(AskVerb::Msr), 3, Turn::Commands))
+        Some(ask_row(AskVerb::Msr, 3))
     } else {
         None
     }
