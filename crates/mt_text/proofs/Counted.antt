@@ -4,7 +4,7 @@ use Rattle.std.specs.Prelude.{IfOk, IsErrOf, Result, Ok, Err}
 use Rattle.std.specs.Io.KnownBytes.{Consumes, IsAtEnd}
 use Rattle.std.proofs.KnownBytes.{Consumes-nil, Consumes-trans}
 use Rattle.mt_ports.specs.Causes.{Rose}
-use Rattle.mt_text.specs.Feed.{Draw, Feeding, IsLong, Lines, TakesMore, at_start, draw, taken}
+use Rattle.mt_text.specs.Feed.{Draw, Drops, Feeding, IsLong, Lines, TakesMore, at_start, draw, taken}
 use Rattle.mt_text.specs.declared.line.Line.{Line}
 use Rattle.mt_text.specs.declared.fault.FeedFault.{FeedFault}
 use Rattle.mt_text.proofs.Lent.{counted, moves_on, within_limit}
@@ -47,8 +47,8 @@ module _ {left_first left : Option (List ℕ)} {given_first given : ℕ} {feed :
     fed_on = record { still = still_on; long = lines.3.1; counts = counts_line (Ok (Some line)) lines }
 
     -- a call that drops the rest behind it
-    pub counts_rest : (last : Option (List ℕ)) (given_last total : ℕ) → TakesMore (draw after last given_after given_last) (λ more. total ≡ taken new + length more) → Counts (draw left_first last given_first given_last) total
-    counts_rest last given_last total more = counts_more fed_on last given_last total more
+    pub counts_rest : (last : Option (List ℕ)) (given_last : ℕ) (drained : Feeding) → TakesMore (draw after last given_after given_last) (Drops new drained) → Counts (draw left_first last given_first given_last) (taken drained)
+    counts_rest last given_last drained (more, takes, given, drops) = counts_more fed_on last given_last (taken drained) (more, takes, given, drops.0)
 
     pub comes_nearer : 16777217 - new.offset < 16777217 - feed.offset
     comes_nearer = omega (arith, moves_on feed new left after given given_after line lines, within_limit feed fed.long fed.still)

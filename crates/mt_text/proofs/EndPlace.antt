@@ -1,7 +1,8 @@
 -- The place after the last byte, counted byte by byte.
-use Rattle.std.proofs.Common.{◌≡◌, ◌∙◌, ◌+◌, ℕ, Bool, true, false, List, [], ◌∷◌, length, refl, arith}
+use Rattle.std.proofs.Common.{◌≡◌, ◌∙◌, ◌+◌, ℕ, Bool, true, false, List, [], ◌∷◌, ◌++◌, length, refl, sym, ap, inl, inr, arith}
 use Rattle.std.specs.Prelude.{count_by, if◌then◌else◌}
 use Rattle.std.specs.List.{list_any}
+use Rattle.std.proofs.lemmas.Bool.{cases_Bool}
 use Rattle.std.proofs.lemmas.List.Sums.{sum_by-cons}
 use Rattle.mt_text.specs.Text.{is_line_end, after_line_ends, end_of}
 use Rattle.mt_text.specs.declared.place.Place.{Place}
@@ -50,10 +51,22 @@ end_from-counts line column (byte ∷ bytes) = by (is_line_end byte) refl (list_
         let first : end_from (record { line = line; column = column }) (byte ∷ bytes) ≡ end_from (record { line = line; column = column + 1 }) bytes = rw is refl in
         first ∙ rw none at beside ∙ place_is (omega (arith, count)) (rw (is, none) (omega arith))
 
-pub end_of-counts : (text : List ℕ) → end_from (record { line = 1; column = 1 }) text ≡ end_of text
+end_of-counts : (text : List ℕ) → end_from (record { line = 1; column = 1 }) text ≡ end_of text
 end_of-counts text = end_from-counts 1 1 text ∙ by (list_any is_line_end text) refl
   where
     by : (more : Bool) → list_any is_line_end text ≡ more
         → ◌≡◌ {A = Place} (record { line = 1 + count_by is_line_end text; column = if list_any is_line_end text then length (after_line_ends text) + 1 else 1 + length text }) (end_of text)
     by true more = rw more (place_is (omega arith) refl)
     by false none = rw (none, none_left text none) (place_is (omega arith) (omega arith))
+
+end_from-append : (xs ys : List ℕ) (place : Place) → end_from place (xs ++ ys) ≡ end_from (end_from place xs) ys
+end_from-append [] ys place = refl
+end_from-append (x ∷ xs) ys place = elim (cases_Bool (is_line_end x)) [
+  | inl hit ↦ rw hit (end_from-append xs ys _)
+  | inr miss ↦ rw miss (end_from-append xs ys _)
+]
+
+-- the place after bytes that follow others
+pub place_behind : (gone bytes : List ℕ) (place : Place) → place ≡ end_of gone → end_from place bytes ≡ end_of (gone ++ bytes)
+place_behind gone bytes place at =
+    ap (λ p. end_from p bytes) (at ∙ sym (end_of-counts gone)) ∙ sym (end_from-append gone bytes (record { line = 1; column = 1 })) ∙ end_of-counts (gone ++ bytes)

@@ -2,12 +2,13 @@
 use Rattle.std.proofs.Common.{◌≡◌, ℕ, ◌+◌, ◌<◌, ◌≤◌, nat_lt, Bool, true, false, List, [], ◌∷◌, zero, suc, ◌++◌, length, drop, Option, Some, None, refl, sym, ◌∙◌, ap, arith, inl, inr, append_assoc, length-append}
 use Rattle.std.specs.Prelude.{if◌then◌else◌}
 use Rattle.std.specs.List.{position, position_or_len}
+use Rattle.std.proofs.KnownBytes.{Consumes-trans}
 use Rattle.std.proofs.lemmas.Bool.Decides.{nat_tests}
-use Rattle.std.proofs.lemmas.List.{append-nil, length-drop}
-use Rattle.mt_text.specs.Text.{is_line_end}
+use Rattle.std.proofs.lemmas.List.{append-nil}
+use Rattle.mt_text.specs.Text.{end_of, is_line_end}
 use Rattle.std.specs.Io.KnownBytes.{IsAtEnd}
 use Rattle.mt_text.specs.declared.place.Place.{Place}
-use Rattle.mt_text.specs.Feed.{Feeding, FeedMoves, Stops, known_at, known_front, moved_on, place_after, taken, with_end}
+use Rattle.mt_text.specs.Feed.{Drops, Feeding, FeedMoves, PassesOver, Stops, TakesMore, draw, known_at, known_front, moved_on, place_after, taken, with_end}
 use Rattle.mt_text.specs.declared.fault.FeedFault.{FeedFault}
 use Rattle.mt_text.specs.declared.fault.FeedFault.TheVariants.{ReadFault}
 
@@ -82,7 +83,7 @@ stops old now new more piece fault pending offset place more_pending same_offset
 place_still : (place : Place) (count : ℕ) → count ≡ 0 → place_after place (count, false) ≡ place
 place_still place count none = let same : place.column + count ≡ place.column = omega arith in rw same refl
 
-length-zero : (xs : List ℕ) → length xs ≡ 0 → xs ≡ []
+pub length-zero : (xs : List ℕ) → length xs ≡ 0 → xs ≡ []
 length-zero [] count = refl
 length-zero (x ∷ xs) count = absurd (omega arith)
 
@@ -123,10 +124,23 @@ lends_last old now after new more [] left pending offset place none unknown more
           ap (λ f. f.fault) is ∙ still ∙ sym none,
         )
 
--- a call that drops what is pending and takes more
-pub drains : (start now after new : Feeding) (count : ℕ) (before more : List ℕ) → count ≡ length now.pending → after ≡ moved_on now (count, false) → taken now ≡ taken start + length before
-    → new.pending ≡ after.pending ++ more → new.offset ≡ after.offset → taken new ≡ taken start + length (before ++ more)
-drains start now after new count before more all is so_far pending offset =
-    let none : length after.pending ≡ 0 = omega (arith, ap (λ f. length f.pending) is, length-drop (count + 0) now.pending, all) in
-    let moved : after.offset ≡ now.offset + (count + 0) = ap (λ f. f.offset) is in
-    omega (arith, none, moved, all, so_far, offset, ap length pending, length-append after.pending more, length-append before more)
+-- a call that passes over what is pending, and takes more after it has taken some
+pub drops_more : (start now after new : Feeding) (left between right : Option (List ℕ)) (given_before given_between given_after : ℕ) (Others : List ℕ → Type 0)
+    → TakesMore (draw left between given_before given_between) (Drops start now) → PassesOver now after now.pending → after.pending ≡ [] → taken after ≡ taken now
+    → TakesMore (draw between right given_between given_after) (λ more. (new.pending ≡ after.pending ++ more) × (new.offset ≡ after.offset) × (new.place ≡ after.place) × Others more) → TakesMore (draw left right given_before given_after) (Drops start new)
+drops_more start now after new left between right given_before given_between given_after Others
+    (before, took, given, (so_far, (gone, seen, at))) (passed, all, behind) none same (more, takes, gives, (pending, offset, place, others)) =
+    let whole : now.pending ≡ passed = all ∙ ap (λ l. passed ++ l) none ∙ append-nil passed in
+    let more_is : new.pending ≡ more = pending ∙ ap (λ l. l ++ more) none in (
+      before ++ more,
+      Consumes-trans left between right before more took takes,
+      omega (arith, given, gives, length-append before more),
+      (
+        omega (arith, ap length none, same, so_far, offset, ap length more_is, length-append before more),
+        (
+          gone ++ passed,
+          sym (append_assoc start.pending before more) ∙ ap (λ l. l ++ more) (seen ∙ ap (λ l. gone ++ l) whole) ∙ ap (λ l. (gone ++ passed) ++ l) (sym more_is),
+          λ past begins. place ∙ behind (past ++ gone) (at past begins) ∙ ap end_of (append_assoc past gone passed),
+        ),
+      ),
+    )

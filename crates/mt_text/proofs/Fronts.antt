@@ -8,7 +8,7 @@ use Rattle.std.proofs.lemmas.List.{length-take-le}
 use Rattle.mt_text.specs.Text.{is_line_end, lines_of, end_of}
 use Rattle.mt_text.specs.Feed.{IsFront, known_front, place_after, with_end}
 use Rattle.mt_text.specs.declared.place.Place.{Place}
-use Rattle.mt_text.proofs.EndPlace.{end_from, end_of-counts}
+use Rattle.mt_text.proofs.EndPlace.{end_from, place_behind}
 use Rattle.mt_text.proofs.LineSteps.{ended_line, last_line}
 use Rattle.mt_text.proofs.Places.{position_within}
 
@@ -122,13 +122,6 @@ long_front rest count is = elim (told rest (count, false) is) [
 ]
 
 -- the place after a front
-end_from-append : (xs ys : List ℕ) (place : Place) → end_from place (xs ++ ys) ≡ end_from (end_from place xs) ys
-end_from-append [] ys place = refl
-end_from-append (x ∷ xs) ys place = elim (cases_Bool (is_line_end x)) [
-  | inl hit ↦ rw hit (end_from-append xs ys _)
-  | inr miss ↦ rw miss (end_from-append xs ys _)
-]
-
 after_line : (seen : List ℕ) (place : Place) → reach seen < length seen → end_from place (take (reach seen + 1) seen) ≡ place_after place (reach seen, true)
 after_line [] place some = absurd (omega arith)
 after_line (x ∷ xs) place some = elim (cases_Bool (is_line_end x)) [
@@ -162,7 +155,4 @@ after_front seen left front place (inr last) =
     rw (last.3, count) (after_bytes (length seen) seen place (omega (arith, untold seen last.0)))
 
 pub place_of_front : (before seen : List ℕ) (left : Option (List ℕ)) (front : ℕ × Bool) → IsFront seen left front → place_after (end_of before) front ≡ end_of (before ++ take (with_end front) seen)
-place_of_front before seen left front is =
-    let start : Place = record { line = 1; column = 1 } in
-    sym (after_front seen left front (end_of before) is) ∙ ap (λ p. end_from p (take (with_end front) seen)) (sym (end_of-counts before))
-    ∙ sym (end_from-append before (take (with_end front) seen) start) ∙ end_of-counts (before ++ take (with_end front) seen)
+place_of_front before seen left front is = sym (after_front seen left front (end_of before) is) ∙ place_behind before (take (with_end front) seen) (end_of before) refl

@@ -1,15 +1,15 @@
-ghost use Rattle.std.specs.Prelude.{◌≡◌, ◌+◌, ◌≤◌, ◌<◌, ◌↔◌, ℕ, Bool, [], length, Some, None, Err, IsErrOf, IfErr, IfOk};
+ghost use Rattle.std.specs.Prelude.{◌≡◌, ◌≤◌, ◌<◌, ◌↔◌, ℕ, Bool, [], length, Some, None, Err, IsErrOf, IfErr, IfOk};
 ghost use Rattle.std.specs.Borrow.{sem};
 ghost use Rattle.std.specs.Io.KnownBytes.{IsAtEnd};
 ghost use Rattle.std.specs.Io.BufRead.{Rests};
 ghost use Rattle.mt_ports.specs.Causes.{Rose};
-ghost use Rattle.mt_text.specs.Feed.{Advances, Fills, IsLong, Lines, MovesPending, TakesMore, at_start, drawn, is_last, known_front, moved_on, taken, with_end};
+ghost use Rattle.mt_text.specs.Feed.{Advances, Drops, Fills, IsLong, Lines, MovesPending, PassesOver, TakesMore, at_start, drawn, is_last, known_front, moved_on, taken, with_end};
 ghost use Rattle.mt_text.specs.Text.{longest_input, longest_line};
 ghost use Rattle.mt_text.specs.contracts.feed.Feed.{the_row};
 ghost use Rattle.mt_text.specs.declared.fault.FeedFault.{FeedFault};
 
 use crate::buffer::Buffer;
-use crate::line::{LONGEST, line_end};
+use crate::line::{LONGEST, line_end, place_after};
 use crate::{FeedFault, Line, Place};
 use mt_ports::Source;
 use std::marker::Model;
@@ -82,8 +82,8 @@ impl Feed {
         self.fault
     }
 
-    /// The place of the first pending byte, which is the place after the last byte where the last
-    /// `line` returned that there is none.
+    /// The place of the first pending byte. It is the place after the last byte of the source once `line` has returned
+    /// that there is no line, or `drain` has returned without a fault.
     pub fn end(&self) -> Place
         ensures { result ≡ self.now.place }
     {
@@ -112,6 +112,19 @@ impl Feed {
                 column: self.place.column + count as u64,
             };
         }
+    }
+
+    // Passes over all pending bytes, and the lines in them.
+    fn pass_all(&mut self)
+        ensures passes { PassesOver self.old self.new self.old.pending }
+        ensures pending { self.new.pending ≡ [] }
+        ensures counts { taken self.new ≡ taken self.old }
+        ensures fault { self.new.fault ≡ self.old.fault }
+    {
+        let pending = self.buffer.pending();
+        let (count, place) = (pending.len(), place_after(self.place, pending));
+        self.pass(count, false);
+        self.place = place;
     }
 
     // Takes more bytes, and says whether there were any.
@@ -202,9 +215,9 @@ impl Feed {
         }
     }
 
-    /// Drops the pending bytes and all that the source has left.
+    /// Drops the pending bytes and all that the source has left. `end` then returns the place after them.
     pub fn drain<S: Source>(&mut self, source: &mut S) -> Result<(), FeedFault>
-        ensures bytes { TakesMore (drawn S.left S.given source.old source.new) (λ more. taken self.new ≡ taken self.old + length more) }
+        ensures bytes { TakesMore (drawn S.left S.given source.old source.new) (Drops self.old self.new) }
         ensures end { IfOk result (λ _. IsAtEnd (S.left source.new) × (self.new.pending ≡ []) × (self.new.fault ≡ None)) }
         ensures fault { IfErr result (λ fault. self.new.fault ≡ Some fault) }
         ensures long { IsLong self.new }
@@ -216,8 +229,7 @@ impl Feed {
             return Err(fault);
         }
         'pieces: loop {
-            let dropped = self.buffer.pending().len();
-            self.pass(dropped, false);
+            self.pass_all();
             if !self.fill(source)? {
                 return Ok(());
             }

@@ -1,4 +1,4 @@
-ghost use Rattle.std.specs.Prelude.{◌≡◌, ◌≤◌, ◌<◌, ◌+◌, ◌↔◌, ◌∷◌, length, drop, take, min, IsNone, IfSome, IsTrue, position};
+ghost use Rattle.std.specs.Prelude.{◌≡◌, ◌≤◌, ◌<◌, ◌+◌, ◌^◌, ◌↔◌, ◌∷◌, ◌++◌, ℕ, List, length, drop, take, min, IsNone, IfSome, IsTrue, position};
 ghost use Rattle.std.specs.List.{before_first, position_or_len};
 
 use crate::Place;
@@ -61,12 +61,16 @@ pub fn next_line<'a>(source: &'a [u8], from: usize, number: u64) -> Option<Line<
     }
 }
 
-/// The place after the last byte.
-pub fn end_place(source: &[u8]) -> Place
-    ensures { result ≡ end_of source.now }
+/// The place after bytes that begin at this place.
+pub(crate) fn place_after(start: Place, bytes: &[u8]) -> Place
+    requires lines { start.line + length bytes.now < 2 ^ 64 }
+    requires columns { start.column + length bytes.now < 2 ^ 64 }
+    ensures value { (gone : List ℕ) → start ≡ end_of gone → result ≡ end_of (gone ++ bytes.now) }
+    ensures lines { result.line ≤ start.line + length bytes.now }
+    ensures columns { result.column ≤ start.column + length bytes.now }
 {
-    let mut place = Place { line: 1, column: 1 };
-    for byte in source {
+    let mut place = start;
+    for byte in bytes {
         place = if *byte == b'\n' {
             Place {
                 line: place.line + 1,
@@ -80,6 +84,13 @@ pub fn end_place(source: &[u8]) -> Place
         };
     }
     place
+}
+
+/// The place after the last byte.
+pub fn end_place(source: &[u8]) -> Place
+    ensures { result ≡ end_of source.now }
+{
+    place_after(Place { line: 1, column: 1 }, source)
 }
 
 impl<'a> Line<'a> {

@@ -1,6 +1,5 @@
 use Rattle.std.proofs.Common.{Ok, refl, ◌∙◌, ap}
 use Rattle.std.proofs.lemmas.Result.{err_from_is_err_and}
-use Rattle.mt_text.specs.Feed.{taken}
 use Rattle.mt_text.specs.Text.{end_of}
 use Rattle.mt_text.proofs.Counted.{comes_nearer, counts_line, counts_rest, failed_on, fed_at_first, fed_on, stands_after, stands_on, still_on}
 use Rattle.mt_text.proofs.Courses.{at_first, ends, goes_on, offends}
@@ -29,7 +28,7 @@ returns-in_err-line-clause-stands g c =
 pub returns-in_err-drain-clause-bytes : goal.returns-in_err-drain-clause-bytes
 returns-in_err-drain-clause-bytes g c =
     counts_rest c.lines.invariant.fed c.line.follows.lender-at-none (g.S.Source.left c.line.new.source) (g.S.Source.given c.line.new.source) c.in-Some.line (rw (c.in_ok-line.was ∙ ap Ok c.in-Some.is) at c.line.follows.holds-at-none)
-    (g.S.Source.left c.drain.new.source) (g.S.Source.given c.drain.new.source) (taken c.drain.new.self) c.drain.ensures.bytes
+    (g.S.Source.left c.drain.new.source) (g.S.Source.given c.drain.new.source) c.drain.new.self c.drain.ensures.bytes
 
 pub returns-in_err-drain-clause-failed : goal.returns-in_err-drain-clause-failed
 returns-in_err-drain-clause-failed g c =
@@ -50,7 +49,7 @@ returns-in-Err-clause-answer g c = λ course bytes at is.
 pub returns-in-Err-clause-bytes : goal.returns-in-Err-clause-bytes
 returns-in-Err-clause-bytes g c =
     counts_rest c.lines.invariant.fed c.line.follows.lender-at-none (g.S.Source.left c.line.new.source) (g.S.Source.given c.line.new.source) c.in-Some.line (rw (c.in_ok-line.was ∙ ap Ok c.in-Some.is) at c.line.follows.holds-at-none)
-    (g.S.Source.left c.drain.new.source) (g.S.Source.given c.drain.new.source) (taken c.drain.new.self) c.drain.ensures.bytes
+    (g.S.Source.left c.drain.new.source) (g.S.Source.given c.drain.new.source) c.drain.new.self c.drain.ensures.bytes
 
 pub returns-in-Err-clause-stands : goal.returns-in-Err-clause-stands
 returns-in-Err-clause-stands g c = λ other. stands_after c.in_ok-drain.was (stands_after c.in_ok-line.was c.lines.invariant.stood c.line.ensures.stands) c.drain.ensures.stands

@@ -1,4 +1,4 @@
-use Rattle.mt_text_laws.proofs.Ends.{ends_at, moves_place}
+use Rattle.mt_text_laws.proofs.Ends.{drained_at, ends_at, moves_place}
 use Rattle.mt_text_laws.proofs.text_laws.a_feed_ends_where_its_text_does.Goals as goal
 
 pub returns-clause-moved : goal.returns-clause-moved
@@ -6,3 +6,6 @@ returns-clause-moved c = moves_place
 
 pub returns-clause-end : goal.returns-clause-end
 returns-clause-end c = ends_at
+
+pub returns-clause-drained : goal.returns-clause-drained
+returns-clause-drained c = drained_at
