@@ -18,11 +18,7 @@ use Rattle.mt_regs.specs.declared.fault.Reason.TheVariants.{ReservedBit, Unsuppo
 use Rattle.mt_dump.specs.Canon.{number_text, value_text}
 use Rattle.mt_dump.specs.declared.fault.DumpReason.{DumpReason}
 use Rattle.mt_dump.specs.declared.fault.DumpReason.TheVariants as dump
-use Rattle.mt_script.specs.declared.fault.ScriptReason.{ScriptReason}
-use Rattle.mt_script.specs.declared.fault.ScriptReason.TheVariants as script
-use Rattle.mt_script.specs.declared.fault.Offence.{Offence}
-use Rattle.mt_script.specs.declared.fault.Offence.TheVariants as offence
-use Rattle.mt_output.specs.Lines.{address_text, bad_text, dump_reason_text, dump_refused_line, line, offence_line, reason_text, refused_cpu_line, refused_line, script_reason_text}
+use Rattle.mt_output.specs.Lines.{address_text, bad_text, dump_reason_text, dump_refused_line, line, reason_text, refused_cpu_line, refused_line}
 
 abbrev is_inside : ℕ → Bool
 is_inside byte = not (is_line_end byte)
@@ -125,7 +121,7 @@ reason_inside UnsupportedType = plain _ refl
 reason_inside BrokenMask = plain _ refl
 reason_inside UndefinedOverlap = plain _ refl
 
-dump_reason_inside : (reason : DumpReason) → IsInside (dump_reason_text reason)
+pub dump_reason_inside : (reason : DumpReason) → IsInside (dump_reason_text reason)
 dump_reason_inside dump.BadLine = plain _ refl
 dump_reason_inside dump.BadNumber = plain _ refl
 dump_reason_inside dump.UnknownRegister = plain _ refl
@@ -137,15 +133,6 @@ dump_reason_inside dump.BadVersion = plain _ refl
 dump_reason_inside dump.BadSection = plain _ refl
 dump_reason_inside dump.Differs = plain _ refl
 
-script_reason_inside : (reason : ScriptReason) → IsInside (script_reason_text reason)
-script_reason_inside script.BadLine = plain _ refl
-script_reason_inside script.BadNumber = plain _ refl
-script_reason_inside script.UnknownRegister = plain _ refl
-script_reason_inside script.OutOfRange = plain _ refl
-script_reason_inside script.NoEnd = plain _ refl
-script_reason_inside script.NotNow = plain _ refl
-script_reason_inside script.Repeated = plain _ refl
-
 -- ---- lines about offences and refused files
 
 -- a line with this front
@@ -154,16 +141,12 @@ pub record IsLineOf (front written : List ℕ) : Type 0 where
   pub is : written ≡ line (front ++ rest)
   pub inside : IsInside (front ++ rest)
 
-bad_text_is_line : (place : Place) (reason : List ℕ) → IsInside reason → IsLineOf (codes "bad text ") (bad_text place reason)
+pub bad_text_is_line : (place : Place) (reason : List ℕ) → IsInside reason → IsLineOf (codes "bad text ") (bad_text place reason)
 bad_text_is_line place reason inside = record {
   rest = decimal place.line ++ codes ":" ++ decimal place.column ++ codes " " ++ reason;
   is = refl;
   inside = both (plain (codes "bad text ") refl) (both (both (both (both (decimal_inside place.line) (plain (codes ":") refl)) (decimal_inside place.column)) (plain (codes " ") refl)) inside);
 }
-
-pub offence_is_line : (o : Offence) → IsLineOf (codes "bad text ") (offence_line o)
-offence_is_line (offence.Script fault) = bad_text_is_line fault.place (script_reason_text fault.reason) (script_reason_inside fault.reason)
-offence_is_line (offence.Dump fault) = bad_text_is_line fault.place (dump_reason_text fault.reason) (dump_reason_inside fault.reason)
 
 pub refused_is_line : (version k : ℕ) (fault : Fault) → IsLineOf (codes "refused ") (dump_refused_line version k fault)
 refused_is_line version k fault = by (version == 2)

@@ -8,11 +8,6 @@ use Rattle.mt_dump.specs.Canon.{number_text, value_text}
 use Rattle.mt_dump.specs.declared.fault.DumpFault.{DumpFault}
 use Rattle.mt_dump.specs.declared.fault.DumpReason.{DumpReason}
 use Rattle.mt_dump.specs.declared.fault.DumpReason.TheVariants as dump
-use Rattle.mt_script.specs.declared.fault.ScriptFault.{ScriptFault}
-use Rattle.mt_script.specs.declared.fault.ScriptReason.{ScriptReason}
-use Rattle.mt_script.specs.declared.fault.ScriptReason.TheVariants as script
-use Rattle.mt_script.specs.declared.fault.Offence.{Offence}
-use Rattle.mt_script.specs.declared.fault.Offence.TheVariants.{Script, Dump}
 
 abbrev pub line : List ℕ → List ℕ
 line text = text ++ 10 ∷ []
@@ -50,15 +45,6 @@ dump_reason_text dump.BadVersion = codes "bad version"
 dump_reason_text dump.BadSection = codes "bad section"
 dump_reason_text dump.Differs = codes "differs"
 
-abbrev pub script_reason_text : ScriptReason → List ℕ
-script_reason_text script.BadLine = codes "bad line"
-script_reason_text script.BadNumber = codes "bad number"
-script_reason_text script.UnknownRegister = codes "unknown register"
-script_reason_text script.OutOfRange = codes "out of range"
-script_reason_text script.NoEnd = codes "no end"
-script_reason_text script.NotNow = codes "not now"
-script_reason_text script.Repeated = codes "repeated"
-
 -- line, column and reason of an offence
 abbrev pub bad_text : Place → List ℕ → List ℕ
 bad_text place reason =
@@ -66,13 +52,6 @@ bad_text place reason =
 
 abbrev pub bad_text_line : DumpFault → List ℕ
 bad_text_line fault = bad_text fault.place (dump_reason_text fault.reason)
-
-abbrev pub bad_script_line : ScriptFault → List ℕ
-bad_script_line fault = bad_text fault.place (script_reason_text fault.reason)
-
-abbrev pub offence_line : Offence → List ℕ
-offence_line (Script fault) = bad_script_line fault
-offence_line (Dump fault) = bad_text_line fault
 
 -- an address in thirteen digits, which is 52 bits
 abbrev pub address_text : ℕ → List ℕ

@@ -1,12 +1,11 @@
 ghost use Rattle.std.specs.Prelude.{◌≡◌, ◌≤◌, length};
-ghost use Rattle.mt_output.specs.Lines.{bad_script_line, bad_text, bad_text_line, dump_reason_text, dump_refused_line, offence_line, reason_text, refused_cpu_line, refused_line, script_reason_text};
+ghost use Rattle.mt_output.specs.Lines.{bad_text, bad_text_line, dump_reason_text, dump_refused_line, reason_text, refused_cpu_line, refused_line};
 ghost use Rattle.mt_regs.specs.Registers.{HasThreeDigits};
 
 use crate::line::{LineBuffer, append, append_decimal, append_number};
 use arrayvec::ArrayVec;
 use mt_dump::{DumpFault, DumpReason};
 use mt_regs::{Fault, Reason};
-use mt_script::{Offence, ScriptFault, ScriptReason};
 use mt_text::Place;
 
 /// Why a register file isn't accepted.
@@ -83,22 +82,6 @@ pub fn dump_reason_text(reason: DumpReason) -> &'static [u8]
     }
 }
 
-/// What is wrong with a script.
-pub fn script_reason_text(reason: ScriptReason) -> &'static [u8]
-    ensures text { result.now ≡ script_reason_text reason }
-    ensures short { length result.now ≤ 20 }
-{
-    match reason {
-        ScriptReason::BadLine => b"bad line",
-        ScriptReason::BadNumber => b"bad number",
-        ScriptReason::UnknownRegister => b"unknown register",
-        ScriptReason::OutOfRange => b"out of range",
-        ScriptReason::NoEnd => b"no end",
-        ScriptReason::NotNow => b"not now",
-        ScriptReason::Repeated => b"repeated",
-    }
-}
-
 /// The line about an offence at a place.
 pub fn bad_text(place: Place, reason: &[u8]) -> LineBuffer
     requires { length reason.now ≤ 20 }
@@ -120,21 +103,4 @@ pub fn bad_text_line(fault: &DumpFault) -> LineBuffer
     ensures { result.items ≡ bad_text_line fault.now }
 {
     bad_text(fault.place, dump_reason_text(fault.reason))
-}
-
-/// The line about a fault of a script.
-pub fn bad_script_line(fault: &ScriptFault) -> LineBuffer
-    ensures { result.items ≡ bad_script_line fault.now }
-{
-    bad_text(fault.place, script_reason_text(fault.reason))
-}
-
-/// The line about an offence of a script, or of its dump.
-pub fn offence_line(offence: &Offence) -> LineBuffer
-    ensures { result.items ≡ offence_line offence.now }
-{
-    match offence {
-        Offence::Script(fault) => bad_script_line(fault),
-        Offence::Dump(fault) => bad_text_line(fault),
-    }
 }

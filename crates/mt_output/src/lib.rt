@@ -10,8 +10,7 @@ mod whole;
 mod writer;
 
 pub use faults::{
-    bad_script_line, bad_text, bad_text_line, dump_reason_text, dump_refused_line, offence_line,
-    reason_text, refused_line, script_reason_text,
+    bad_text, bad_text_line, dump_reason_text, dump_refused_line, reason_text, refused_line,
 };
 pub use line::{
     LINE_ROOM, LineBuffer, accepted_line, append, append_address, append_decimal, append_number,

@@ -9,7 +9,7 @@ use Rattle.mt_text.specs.declared.place.Place.{Place}
 use Rattle.mt_dump.specs.Line.{fault_at as dump_fault_at}
 use Rattle.mt_dump.specs.declared.fault.DumpReason.TheVariants as dump_reason
 use Rattle.mt_script.specs.declared.fault.Offence.TheVariants.{Dump}
-use Rattle.mt_output.specs.Lines.{offence_line}
+use Rattle.mt_script.specs.Lines.{offence_line}
 use Rattle.mt_stream.specs.Laws.{AreLaws, IsLongLed}
 use Rattle.mt_stream.specs.Lines.{IfGoesOn, Path}
 use Rattle.mt_stream.proofs.Taking.{long_led}

@@ -15,7 +15,8 @@ use Rattle.mt_script.specs.Numbers.{fault_at}
 use Rattle.mt_script.specs.declared.fault.Offence.{Offence}
 use Rattle.mt_script.specs.declared.fault.Offence.TheVariants.{Script}
 use Rattle.mt_script.specs.declared.fault.ScriptReason.TheVariants.{NoEnd}
-use Rattle.mt_output.specs.Lines.{bad_text, dump_refused_line, offence_line}
+use Rattle.mt_output.specs.Lines.{bad_text, dump_refused_line}
+use Rattle.mt_script.specs.Lines.{offence_line}
 use Rattle.mt_stream.specs.Transcript.{LineStep, Telling, Transcript, transcript_with, telling, transcript}
 use Rattle.mt_proc.specs.declared.request.Request.{Request}
 use Rattle.mt_proc.specs.declared.request.ProcFault.{ProcFault}

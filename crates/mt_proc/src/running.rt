@@ -20,13 +20,11 @@ use crate::listing::line_of;
 use crate::{ProcFault, ProcReason, Processors, read_request};
 use arrayvec::ArrayVec;
 use mt_dump::{Dump, DumpReader};
-use mt_output::{
-    LineBuffer, Writer, append, append_decimal, bad_text, dump_refused_line, offence_line,
-};
+use mt_output::{LineBuffer, Writer, append, append_decimal, bad_text, dump_refused_line};
 use mt_ports::{Failed, Gate, Sink, Source, Status};
 use mt_regs::{RegFile, first_refusal};
 use mt_rendezvous::Caller;
-use mt_script::{Offence, ScriptFault, ScriptReason, take_dump_line};
+use mt_script::{Offence, ScriptFault, ScriptReason, offence_line, take_dump_line};
 use mt_stream::{End, LineRun, Stop, close, run_lines, run_status, tell};
 use mt_text::{Line, Place};
 use std::alloc::Global;

@@ -20,7 +20,8 @@ use Rattle.mt_script.specs.Head.{is_end_command}
 use Rattle.mt_script.specs.Script.{HeadLine, head_line, script_offence}
 use Rattle.mt_script.specs.declared.command.Command.{Command}
 use Rattle.mt_script.specs.declared.fault.Offence.{Offence}
-use Rattle.mt_output.specs.Lines.{accepted_line, dump_refused_line, offence_line}
+use Rattle.mt_output.specs.Lines.{accepted_line, dump_refused_line}
+use Rattle.mt_script.specs.Lines.{offence_line}
 use Rattle.mt_replay.specs.Heads.{HeadEnd, head_of, shows_dump}
 use Rattle.mt_replay.specs.Transcript.{told_offence, transcript}
 use Rattle.mt_stream.specs.Transcript.{transcript_with}

@@ -16,7 +16,8 @@ use Rattle.mt_script.specs.declared.command.Command.{Command}
 use Rattle.mt_script.specs.declared.fault.ScriptFault.{ScriptFault}
 use Rattle.mt_script.specs.declared.fault.Offence.{Offence}
 use Rattle.mt_script.specs.declared.fault.Offence.TheVariants as offence
-use Rattle.mt_output.specs.Lines.{accepted_line, dump_refused_line, offence_line}
+use Rattle.mt_output.specs.Lines.{accepted_line, dump_refused_line}
+use Rattle.mt_script.specs.Lines.{offence_line}
 use Rattle.mt_replay.specs.Heads.{HeadEnd, head_end, has_offence, shows_dump, stays_open}
 use Rattle.mt_replay.specs.ReplayState.{ReplayState, command_text, first_state, state_after}
 

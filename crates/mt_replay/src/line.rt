@@ -2,7 +2,7 @@ ghost use Rattle.std.specs.Prelude.{◌≡◌, ◌≢◌, ◌+◌, ℕ, List, []
 ghost use Rattle.mt_ports.specs.Causes.{HasCause};
 ghost use Rattle.mt_regs.specs.Agreement.{first_refusal};
 ghost use Rattle.mt_machine.specs.Start.{HasEraRoom};
-ghost use Rattle.mt_output.specs.Lines.{offence_line};
+ghost use Rattle.mt_script.specs.Lines.{offence_line};
 ghost use Rattle.mt_output.specs.Writing.{Adds};
 ghost use Rattle.mt_script.specs.Accept.{Fits};
 ghost use Rattle.mt_script.specs.Stages.{is_in_dump};
@@ -18,11 +18,11 @@ ghost use Rattle.mt_replay.specs.Transcript.{ScriptState, in_body};
 
 use crate::replayer::Replayer;
 use mt_dump::Dump;
-use mt_output::{LineBuffer, Writer, accepted_line, dump_refused_line, offence_line};
+use mt_output::{LineBuffer, Writer, accepted_line, dump_refused_line};
 use mt_ports::{Failed, Gate, NoMemory, Sink};
 use mt_regs::first_refusal;
 use mt_rendezvous::Caller;
-use mt_script::{Command, Head, Newcomer, Offence, Setup, read_command};
+use mt_script::{Command, Head, Newcomer, Offence, Setup, offence_line, read_command};
 use mt_stream::{Stop, tell};
 use mt_text::Line;
 use std::alloc::Global;

@@ -3,10 +3,10 @@ ghost use Rattle.mt_replay.specs.Running.{HasEraRoomAt, IsReplay, replay_running
 ghost use Rattle.mt_stream.specs.Handling.{Taken};
 
 use crate::line::{Resources, Run, take_line};
-use mt_output::{Writer, offence_line};
+use mt_output::Writer;
 use mt_ports::{Failed, Gate, Sink, Source, Status};
 use mt_rendezvous::Caller;
-use mt_script::{Head, Offence, read_end};
+use mt_script::{Head, Offence, offence_line, read_end};
 use mt_stream::{End, LineRun, close, run_lines, run_status};
 use mt_text::{Line, Place};
 use std::alloc::Global;

@@ -4,11 +4,11 @@ ghost use Rattle.mt_replay.specs.Summary.{begins_with, is_complete, memory_sum, 
 ghost use Rattle.mt_replay.specs.Summing.{state_in, with_line, with_memory, with_text};
 
 use crate::line::{Resources, Run, take_line};
-use mt_output::{Writer, offence_line};
+use mt_output::Writer;
 use mt_ports::{Failed, Gate, NoMemory, Sink};
 use mt_ram::Ram;
 use mt_rendezvous::Caller;
-use mt_script::{Head, Offence, read_end};
+use mt_script::{Head, Offence, offence_line, read_end};
 use mt_stream::Stop;
 use mt_text::{end_place, hex64, next_line};
 use std::alloc::Global;

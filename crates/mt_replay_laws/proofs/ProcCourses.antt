@@ -6,7 +6,8 @@ use Rattle.std.specs.Option.{option_map_or}
 use Rattle.std.proofs.lemmas.List.{length-map}
 use Rattle.mt_text.specs.Text.{end_of, lines_of, words_of}
 use Rattle.mt_text.specs.declared.place.Place.{Place}
-use Rattle.mt_output.specs.Lines.{dump_refused_line, line, offence_line, refused_line}
+use Rattle.mt_output.specs.Lines.{dump_refused_line, line, refused_line}
+use Rattle.mt_script.specs.Lines.{offence_line}
 use Rattle.mt_regs.specs.declared.fault.Fault.{Fault}
 use Rattle.mt_regs.specs.Agreement.{first_refusal}
 use Rattle.mt_regs.specs.FirstFault.{first_fault}

@@ -1,9 +1,10 @@
-pub mod FirstWords
-pub mod Ends
 pub mod Coming
+pub mod Ends
+pub mod FirstWords
 pub mod Fitting
 pub mod Heads
 pub mod Keeping
+pub mod OffenceLines
 pub mod Registers
 pub mod Sections
 pub mod Table

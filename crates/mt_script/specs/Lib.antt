@@ -2,6 +2,7 @@ pub mod Accept
 pub mod Commands
 pub mod Head
 pub mod Kept
+pub mod Lines
 pub mod Newcomers
 pub mod Numbers
 pub mod Rows

@@ -5,12 +5,11 @@ use mt_dump::{DumpFault, DumpReason};
 use mt_kinds::{MemType, PatType};
 use mt_output::{
     LineBuffer, WRITER_ROOM, Writer, accepted_line, append_address, append_decimal, append_number,
-    append_pat_type, append_type, append_value, bad_text_line, dump_refused_line, offence_line,
-    refused_line,
+    append_pat_type, append_type, append_value, bad_text_line, dump_refused_line, refused_line,
 };
 use mt_ports::MemSink;
 use mt_regs::{Fault, Reason};
-use mt_script::{Offence, ScriptFault, ScriptReason};
+use mt_script::{Offence, ScriptFault, ScriptReason, offence_line};
 use mt_text::Place;
 use std::alloc::Global;
 use std::test::Fail;

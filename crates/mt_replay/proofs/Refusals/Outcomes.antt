@@ -25,7 +25,8 @@ use Rattle.mt_script.specs.declared.fault.Offence.{Offence}
 use Rattle.mt_script.specs.declared.fault.Offence.TheVariants as offence
 use Rattle.mt_script.specs.Numbers.{fault_at}
 use Rattle.mt_script.proofs.Keeping.{not_past_in_dump}
-use Rattle.mt_output.specs.Lines.{accepted_line, dump_refused_line, offence_line, refused_cpu_line, refused_line}
+use Rattle.mt_output.specs.Lines.{accepted_line, dump_refused_line, refused_cpu_line, refused_line}
+use Rattle.mt_script.specs.Lines.{offence_line}
 use Rattle.mt_replay.specs.Heads.{HeadEnd, head_of, has_offence, shows_dump, stays_open}
 use Rattle.mt_replay.specs.Kept.{IsReplayState}
 use Rattle.mt_replay.specs.ReplayState.{ReplayState, command_text, first_state, state_after}

@@ -4,7 +4,7 @@ use Rattle.mt_text.specs.Text.{end_of, lines_of}
 use Rattle.mt_text.specs.declared.place.Place.{Place}
 use Rattle.mt_stream.specs.declared.ending.Stop.{Stop}
 use Rattle.mt_ports.specs.declared.status.Status.TheVariants.{Done}
-use Rattle.mt_output.specs.Lines.{offence_line}
+use Rattle.mt_script.specs.Lines.{offence_line}
 use Rattle.mt_output.specs.Writing.{PassesOn}
 use Rattle.mt_script.specs.Situation.{at_start}
 use Rattle.mt_script.specs.Commands.{end_fault}

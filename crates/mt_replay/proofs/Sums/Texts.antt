@@ -41,8 +41,10 @@ use Rattle.mt_script.specs.declared.fault.Offence.TheVariants as offence
 use Rattle.mt_script.specs.Head.{HeadStep, goes_on, head_step, offends, shows}
 use Rattle.mt_script.specs.Commands.{command_of}
 use Rattle.mt_script.specs.Situation.{Situation}
-use Rattle.mt_output.specs.Lines.{accepted_line, dump_refused_line, line, offence_line}
-use Rattle.mt_output.proofs.Inside.{IsInside, address_inside, both, decimal_inside, number_inside, offence_is_line, one_line, plain, refused_is_line, type_inside, value_inside}
+use Rattle.mt_output.specs.Lines.{accepted_line, dump_refused_line, line}
+use Rattle.mt_script.specs.Lines.{offence_line}
+use Rattle.mt_output.proofs.Inside.{IsInside, address_inside, both, decimal_inside, number_inside, one_line, plain, refused_is_line, type_inside, value_inside}
+use Rattle.mt_script.proofs.OffenceLines.{offence_is_line}
 use Rattle.mt_machine.specs.ComingAndGoing.{last_number}
 use Rattle.mt_replay.specs.Running.{IsAt, from_line}
 use Rattle.mt_replay.specs.ReplayState.{ReplayState, after_update, call_fault, call_line, command_text, file_at, is_undecided, is_update, memory_word, register_value, update_line, is_absent, may_come, may_go, present_text, retire_text, stays_line, accessed_line, asked_of, controlled_line, mapping, newcomer_text}

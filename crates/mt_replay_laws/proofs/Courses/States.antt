@@ -9,7 +9,8 @@ use Rattle.mt_script.specs.Commands.{command_of}
 use Rattle.mt_script.specs.Script.{script_offence}
 use Rattle.mt_script.specs.declared.fault.Offence.{Offence}
 use Rattle.mt_script.specs.declared.fault.Offence.TheVariants as offence
-use Rattle.mt_output.specs.Lines.{accepted_line, dump_refused_line, offence_line, refused_cpu_line, refused_line}
+use Rattle.mt_output.specs.Lines.{accepted_line, dump_refused_line, refused_cpu_line, refused_line}
+use Rattle.mt_script.specs.Lines.{offence_line}
 use Rattle.mt_script.specs.declared.command.Command.{Command}
 use Rattle.mt_script.specs.declared.fault.ScriptFault.{ScriptFault}
 use Rattle.mt_replay_laws.specs.Headline.{StartsAsTheDumpShows, StatesAreOfTheCourse}

@@ -1,6 +1,6 @@
 use Rattle.std.proofs.Common.{◌≡◌, ◌∙◌, ◌+◌, ap, refl, sym, subst, ℕ, List, [], append-nil}
 use Rattle.mt_stream.specs.declared.ending.Stop.TheVariants.{BadText, NoMemory}
-use Rattle.mt_output.specs.Lines.{offence_line}
+use Rattle.mt_script.specs.Lines.{offence_line}
 use Rattle.mt_output.specs.Writing.{Adds}
 use Rattle.mt_output.proofs.Writing.{passes_nothing}
 use Rattle.mt_regs.specs.Agreement.{first_refusal}

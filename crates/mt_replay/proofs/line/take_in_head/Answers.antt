@@ -1,6 +1,6 @@
 use Rattle.std.proofs.Common.{◌≡◌, sym, refl, subst, ◌+◌, ℕ, false, List, [], None, Ok}
 use Rattle.mt_stream.specs.declared.ending.Stop.TheVariants.{BadText, NoMemory}
-use Rattle.mt_output.specs.Lines.{offence_line}
+use Rattle.mt_script.specs.Lines.{offence_line}
 use Rattle.mt_script.specs.Head.{offends}
 use Rattle.mt_script.specs.Situation.{Situation}
 use Rattle.mt_replay.specs.Running.{AsksAt, HasOutput, StandsAt, dump_at, line_at}

@@ -1,7 +1,7 @@
 use Rattle.std.proofs.Common.{◌≡◌, ◌∙◌, ap, sym, refl, inl, inr, arith, [], ◌+◌, ◌^◌, ◌<◌, drop, length, drop_of_length-le, false, true, None, Some}
 use Rattle.mt_text.specs.Text.{end_of, lines_of}
 use Rattle.mt_stream.specs.declared.ending.Stop.TheVariants.{NoMemory}
-use Rattle.mt_output.specs.Lines.{offence_line}
+use Rattle.mt_script.specs.Lines.{offence_line}
 use Rattle.mt_script.specs.Commands.{end_fault}
 use Rattle.mt_script.specs.declared.fault.Offence.TheVariants.{Script}
 use Rattle.mt_replay.specs.Running.{setup_of}

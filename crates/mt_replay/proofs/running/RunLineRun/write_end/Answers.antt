@@ -1,6 +1,6 @@
 use Rattle.std.proofs.Common.{◌≡◌, ◌∙◌, ap, sym, subst, ℕ, List, None, Some}
 use Rattle.mt_ports.specs.declared.status.Status.TheVariants.{BadText}
-use Rattle.mt_output.specs.Lines.{offence_line}
+use Rattle.mt_script.specs.Lines.{offence_line}
 use Rattle.mt_script.specs.Commands.{end_fault}
 use Rattle.mt_script.specs.declared.fault.Offence.TheVariants.{Script}
 use Rattle.mt_stream.specs.Lines.{Closes}
