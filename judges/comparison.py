@@ -1,7 +1,5 @@
 """The whole comparison: the files, the questions, the table."""
 import bisect
-import importlib.machinery
-import importlib.util
 import random
 import re
 import subprocess
@@ -16,6 +14,7 @@ from explanations import explained, faults_explained, faults_wanted, page_explai
 from pairs import MOST, SAME_MAP, USUAL, Least, PairsTally, other_map_name, words_for
 from program import runs_of
 from roster import JUDGES
+from row_files import all_files, rows_of
 
 BATCH = 500
 PARTS = ("texts", "files", "effective", "pairs")
@@ -36,11 +35,8 @@ def answers_of(path, lines):
 def example_texts(top):
     """The dumps of examples/, and the inputs of the rows that read one."""
     yield from (path.read_bytes() for path in sorted(top.glob("examples/*.dump")))
-    loader = importlib.machinery.SourceFileLoader("rows", str(top / "rows"))
-    rows = importlib.util.module_from_spec(importlib.util.spec_from_loader("rows", loader))
-    loader.exec_module(rows)
-    for file in rows.all_files():
-        for row in rows.rows_of(file):
+    for file in all_files():
+        for row in rows_of(file):
             if row.words[:1] and row.words[0] in READ_ONE:
                 yield row.input
 
