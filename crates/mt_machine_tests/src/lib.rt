@@ -1,23 +1,13 @@
-//! Tests of caches, TLBs, processors, memory, the bus and updates by events, over public calls.
+//! Tests of updates by events, and of what no program does to caches, memory and the bus, over public calls.
 #![tactic(auto)]
 
-#[cfg(test)]
-mod admissions;
-#[cfg(test)]
-mod caches;
 #[cfg(test)]
 mod checks;
 #[cfg(test)]
 mod common;
 #[cfg(test)]
+mod holders;
+#[cfg(test)]
 mod interleavings;
 #[cfg(test)]
-mod memory;
-#[cfg(test)]
-mod processors;
-#[cfg(test)]
-mod systems;
-#[cfg(test)]
-mod tlbs;
-#[cfg(test)]
-mod updates;
+mod parts;
