@@ -1,17 +1,11 @@
-//! Tests of type maps, tidied and rounded files and the plain calls, over public calls.
+//! Tests of type maps, least lists of ranges and the plain calls, over public calls.
 #![tactic(auto)]
 
 #[cfg(test)]
 mod checks;
 #[cfg(test)]
-mod files;
-#[cfg(test)]
-mod granules;
+mod least_lists;
 #[cfg(test)]
 mod maps;
 #[cfg(test)]
 mod plain_calls;
-#[cfg(test)]
-mod tidied;
-#[cfg(test)]
-mod wishes;

@@ -1,3 +1,4 @@
+//! The calls that `mt_c` exports, each once where it succeeds, and for each status that one of them returns.
 use crate::checks::holds;
 use mt_plain::{
     PlainFault, PlainLoss, PlainNeed, PlainPair, PlainProcessor, PlainRegisters, PlainRun,
@@ -37,56 +38,26 @@ fn is_pair(r: &PlainRegisters, place: usize, base: u64, mask: u64) -> bool {
 }
 
 #[test]
-fn a_file_without_fault(rt: HostRuntime) {
-    let r = plain();
+fn faults_and_types(rt: HostRuntime) {
+    let mut r = plain();
     let mut fault = NONE;
+    let mut kind = 9;
     holds(&rt, is_file(&r));
     holds(&rt, first_fault(&r, &mut fault) == 0);
-    holds(&rt, fault.number == 0);
-}
-
-#[test]
-fn types_of_pages(rt: HostRuntime) {
-    let r = plain();
-    let mut kind = 9;
     holds(&rt, page_type(&r, 0x1_0000_0000, &mut kind) == 3);
+    holds(&rt, effective_type(&r, 0, 8, &mut kind) == 5);
     holds(&rt, kind == 9);
     holds(&rt, page_type(&r, 0xf_ffff, &mut kind) == 0);
     holds(&rt, kind == 6);
-    holds(&rt, page_type(&r, 0x10_0000, &mut kind) == 0);
-    holds(&rt, kind == 0);
-}
-
-#[test]
-fn types_in_effect(rt: HostRuntime) {
-    let r = plain();
-    let mut kind = 9;
-    holds(&rt, effective_type(&r, 0, 8, &mut kind) == 5);
-    holds(&rt, kind == 9);
     holds(&rt, effective_type(&r, 0, 1, &mut kind) == 0);
     holds(&rt, kind == 4);
-}
-
-#[test]
-fn a_pair_at_fault(rt: HostRuntime) {
-    let mut r = plain();
     r.pairs[0].base = 2;
-    let mut fault = NONE;
     holds(&rt, first_fault(&r, &mut fault) == 1);
     holds(&rt, fault.number == 0x200);
     holds(&rt, fault.reason == 2);
-}
-
-#[test]
-fn no_file(rt: HostRuntime) {
-    let mut r = plain();
     r.pairs[8].mask = 1;
-    let mut fault = NONE;
-    let mut kind = 9;
     holds(&rt, !is_file(&r));
     holds(&rt, first_fault(&r, &mut fault) == 2);
-    holds(&rt, page_type(&r, 0, &mut kind) == 2);
-    holds(&rt, effective_type(&r, 0, 0, &mut kind) == 2);
 }
 
 const BLANK: PlainRun = PlainRun {
@@ -104,129 +75,52 @@ fn a_type_map(rt: HostRuntime) {
     let r = plain();
     let mut runs = [BLANK; 3];
     let mut count = 9;
-    holds(&rt, type_map(&r, &mut runs, &mut count) == 0);
+    holds(&rt, type_map(&r, &mut runs[..1], &mut count) == 6);
     holds(&rt, count == 2);
+    holds(&rt, is_run(runs[1], 9, 9, 9));
+    holds(&rt, type_map(&r, &mut runs, &mut count) == 0);
     holds(&rt, is_run(runs[0], 0, 0x10_0000, 6));
     holds(&rt, is_run(runs[1], 0x10_0000, 0xf0_0000, 0));
     holds(&rt, is_run(runs[2], 9, 9, 9));
 }
 
+// One processor of two registers alone, from the call to the end.
 #[test]
-fn a_type_map_without_room(rt: HostRuntime) {
-    let r = plain();
-    let mut runs = [BLANK; 2];
-    let mut count = 9;
-    holds(&rt, type_map(&r, &mut runs[..1], &mut count) == 6);
-    holds(&rt, count == 2);
-    holds(&rt, is_run(runs[0], 0, 0x10_0000, 6));
-    holds(&rt, is_run(runs[1], 9, 9, 9));
-}
-
-// WC from 3 to 3.25 GB over WB: its pages have no defined type.
-#[test]
-fn pages_of_no_type_in_a_map(rt: HostRuntime) {
-    let mut r = plain();
-    r.pairs[1] = PlainPair {
-        base: 0xc000_0001,
-        mask: 0xf_f000_0800,
+fn the_books_of_an_update(rt: HostRuntime) {
+    let mut u = PlainUpdate {
+        word: 1,
+        processors: 1,
+        arrived: 0,
+        arrived_again: 0,
     };
-    let mut runs = [BLANK; 4];
-    let mut count = 0;
-    holds(&rt, type_map(&r, &mut runs, &mut count) == 0);
-    holds(&rt, count == 4);
-    holds(&rt, is_run(runs[1], 0xc_0000, 0x1_0000, 255));
-    r.pairs[1].base = 2;
-    holds(&rt, type_map(&r, &mut runs, &mut count) == 1);
-    holds(&rt, count == 4);
-}
-
-// Two processors of two registers each.
-fn update_of(word: u32, arrived: u32, arrived_again: u32) -> PlainUpdate {
-    PlainUpdate {
-        word,
-        processors: 2,
-        arrived,
-        arrived_again,
-    }
-}
-
-fn processor_at(phase: u32, place: u32) -> PlainProcessor {
-    PlainProcessor {
-        phase,
-        place,
+    let mut p = PlainProcessor {
+        phase: 0,
+        place: 0,
         registers: 2,
         self_snoop: 0,
         finished: 0,
-    }
-}
-
-const NO_STEP: PlainStep = PlainStep {
-    number: 0,
-    place: 0,
-    next_phase: 0,
-    next_place: 0,
-};
-
-#[test]
-fn the_steps_of_an_update(rt: HostRuntime) {
-    let numbers = [1u32, 2, 4, 5, 6, 7, 8, 9, 10, 6, 7, 11, 12, 13, 14];
-    let u = update_of(1, 2, 2);
-    let mut step = NO_STEP;
-    for number in numbers {
-        let p = processor_at(step.next_phase, step.next_place);
-        holds(&rt, due(&u, &p, &mut step) == 0);
-        holds(&rt, step.number == number);
-    }
-    holds(&rt, step.next_phase == 0);
-}
-
-#[test]
-fn nothing_is_due(rt: HostRuntime) {
-    let mut step = NO_STEP;
-    holds(
-        &rt,
-        due(&update_of(1, 1, 0), &processor_at(2, 0), &mut step) == 7,
-    );
-    holds(
-        &rt,
-        due(&update_of(3, 2, 0), &processor_at(2, 0), &mut step) == 8,
-    );
-    holds(
-        &rt,
-        due(&update_of(1, 2, 0), &processor_at(14, 0), &mut step) == 8,
-    );
-    holds(&rt, step.number == 0);
-}
-
-// One processor alone, from the call to the end.
-#[test]
-fn the_books_of_an_update(rt: HostRuntime) {
-    let mut u = update_of(0, 0, 0);
-    u.processors = 1;
-    let mut p = processor_at(0, 0);
-    let mut step = NO_STEP;
-    for number in [1u32, 2] {
+    };
+    let mut step = PlainStep {
+        number: 0,
+        place: 0,
+        next_phase: 0,
+        next_place: 0,
+    };
+    for number in [1u32, 2, 4, 5, 6, 7, 8, 9, 10, 6, 7, 11, 12, 13, 14] {
         holds(&rt, due(&u, &p, &mut step) == 0);
         holds(&rt, step.number == number);
         holds(&rt, did(&mut u, &mut p, &step) == 0);
-        holds(&rt, did(&mut u, &mut p, &step) == 12);
     }
     holds(&rt, u.arrived == 1);
-    holds(&rt, due(&u, &p, &mut step) == 7);
-    u.word = 1;
-    for _ in 0..13 {
-        holds(&rt, due(&u, &p, &mut step) == 0);
-        holds(&rt, did(&mut u, &mut p, &step) == 0);
-    }
-    holds(&rt, step.number == 14);
     holds(&rt, u.arrived_again == 1);
     holds(&rt, p.finished == 1);
     holds(&rt, due(&u, &p, &mut step) == 7);
+    holds(&rt, did(&mut u, &mut p, &step) == 12);
     p.self_snoop = 2;
-    holds(&rt, did(&mut u, &mut p, &step) == 8);
+    holds(&rt, due(&u, &p, &mut step) == 8);
 }
 
-// WB to 4 GB in two pairs of 2 GB each.
+// Two pairs of 2 GB each, or with other values: WB to 4 GB.
 #[test]
 fn two_pairs_are_one(rt: HostRuntime) {
     let mut r = plain();
@@ -242,7 +136,6 @@ fn two_pairs_are_one(rt: HostRuntime) {
     holds(&rt, tidy(&r, 1, 0, &mut work, &mut tidied, &mut need) == 0);
     holds(&rt, need.needs == 1 && need.has == 7);
     holds(&rt, is_pair(&tidied, 0, 6, 0xf_0000_0800));
-    holds(&rt, is_pair(&tidied, 1, 0, 0));
     holds(&rt, is_pair(&tidied, 3, 0, 0));
     holds(&rt, tidy(&r, 8, 0, &mut work, &mut tidied, &mut need) == 10);
     holds(&rt, need.has == 0);
@@ -256,38 +149,14 @@ struct Rounding {
     loss: PlainLoss,
 }
 
-fn no_rounding() -> Rounding {
-    Rounding {
-        registers: plain(),
-        need: PlainNeed { needs: 9, has: 9 },
-        loss: PlainLoss { pages: 9, parts: 9 },
-    }
-}
-
 // Rounds to granules of so many bytes, where ranges of any size may share pages.
-fn round(
-    r: &PlainRegisters,
-    size: u64,
-    spare: u8,
-    to: &mut Rounding,
-    parts: &mut [PlainRun],
-) -> u32 {
+fn round(r: &PlainRegisters, size: u64, to: &mut Rounding, parts: &mut [PlainRun]) -> u32 {
     let mut work = WorkArea::new();
     let (registers, need, loss) = (&mut to.registers, &mut to.need, &mut to.loss);
-    gran(
-        r,
-        size,
-        spare,
-        1 << 52,
-        &mut work,
-        registers,
-        need,
-        loss,
-        parts,
-    )
+    gran(r, size, 1, 1 << 52, &mut work, registers, need, loss, parts)
 }
 
-// Write-back to 4 GB but for a megabyte of UC from 3.5 GB, in granules of 256 MB.
+// WB to 4 GB but for a megabyte of UC from 3.5 GB, in granules of 256 MB.
 #[test]
 fn granules_of_a_hole(rt: HostRuntime) {
     let mut r = plain();
@@ -295,34 +164,19 @@ fn granules_of_a_hole(rt: HostRuntime) {
         base: 0xe000_0000,
         mask: 0xf_fff0_0800,
     };
-    let mut to = no_rounding();
+    let mut to = Rounding {
+        registers: plain(),
+        need: PlainNeed { needs: 9, has: 9 },
+        loss: PlainLoss { pages: 9, parts: 9 },
+    };
     let mut parts = [BLANK; 2];
-    let size = 0x1000_0000;
-    holds(&rt, round(&r, size, 1, &mut to, &mut parts) == 0);
+    holds(&rt, round(&r, 0x3000, &mut to, &mut parts) == 11);
+    holds(&rt, round(&r, 0x1000_0000, &mut to, &mut parts) == 0);
     holds(&rt, to.need.needs == 2 && to.need.has == 7);
     holds(&rt, to.loss.pages == 65280 && to.loss.parts == 1);
     holds(&rt, is_run(parts[0], 0xe_0100, 0xff00, 6));
     holds(&rt, is_run(parts[1], 9, 9, 9));
     holds(&rt, is_pair(&to.registers, 1, 0xe000_0000, 0xf_f000_0800));
-    parts[0] = BLANK;
-    holds(&rt, round(&r, size, 1, &mut to, &mut parts[..0]) == 6);
-    holds(&rt, to.loss.parts == 1);
-    holds(&rt, is_run(parts[0], 9, 9, 9));
-}
-
-#[test]
-fn nothing_is_rounded(rt: HostRuntime) {
-    let mut r = plain();
-    let mut to = no_rounding();
-    let mut parts = [BLANK; 1];
-    holds(&rt, round(&r, 0x3000, 1, &mut to, &mut parts) == 11);
-    holds(&rt, round(&r, 0x1000, 8, &mut to, &mut parts) == 10);
-    holds(&rt, to.need.needs == 1 && to.need.has == 0);
     r.default_type = 0;
-    holds(&rt, round(&r, 0x1000, 1, &mut to, &mut parts) == 9);
-    r.pairs[0].base = 2;
-    holds(&rt, round(&r, 0x1000, 1, &mut to, &mut parts) == 1);
-    r.pairs[8].mask = 1;
-    holds(&rt, round(&r, 0x3000, 1, &mut to, &mut parts) == 2);
-    holds(&rt, to.loss.parts == 9);
+    holds(&rt, round(&r, 0x1000, &mut to, &mut parts) == 9);
 }
