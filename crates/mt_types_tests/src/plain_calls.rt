@@ -51,6 +51,11 @@ fn faults_and_types(rt: HostRuntime) {
     holds(&rt, kind == 6);
     holds(&rt, effective_type(&r, 0, 1, &mut kind) == 0);
     holds(&rt, kind == 4);
+    r.pairs[1] = PlainPair {
+        base: 0xc000_0001,
+        mask: 0xf_f000_0800,
+    };
+    holds(&rt, page_type(&r, 0xc_0000, &mut kind) == 4);
     r.pairs[0].base = 2;
     holds(&rt, first_fault(&r, &mut fault) == 1);
     holds(&rt, fault.number == 0x200);
