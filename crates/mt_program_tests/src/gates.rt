@@ -1,16 +1,41 @@
 //! Updates on threads under gates that refuse a start, count what they are asked and told and see on which threads, or see
 //! that threads meet.
-use crate::runs::{Call, Ports, repeated, run_under};
-use crate::texts::{FOUR_GIGABYTES, JOINED, PAIR, TRIO, UNLIKE, UPDATE, UPDATED};
+use crate::runs::{Call, Run, repeated, run_under};
 use mt_gates::{AllBut, InOrder, Meets};
 use mt_ports::{Gate, Status};
 use std::process::Abort;
-use std::rt::Files;
 use std::sync::Wait;
 use std::test::Fail;
 use std::thread::Threads;
-use std::time::Clock;
 
+// One, two and three processors whose memory below 4 GB has type WB, and a page of it that two of them map.
+const SOLO: &[u8] = b"cpus 1\ndump\n0fe 508\n200 6\n201 f00000800\n2ff 800\nend\n";
+
+const PAIR: &[u8] =
+    b"cpus 2\ndump\n0fe 508\n200 6\n201 f00000800\n2ff 800\nend\nram 100000 64\nmap 0 1000 100000 0\nmap 1 1000 100000 0\n";
+
+const TRIO: &[u8] =
+    b"cpus 3\ndump\n0fe 508\n200 6\n201 f00000800\n2ff 800\nend\nram 100000 64\nmap 0 1000 100000 0\nmap 1 1000 100000 0\n";
+
+// The pair, a dirty line, an update, and what became of the line.
+const DIRTY: &[u8] =
+    b"cpus 2\ndump\n0fe 508\n200 6\n201 f00000800\n2ff 800\nend\nram 100000 64\nmap 0 1000 100000 0\nmap 1 1000 100000 0\nstore 0 1000 2a\nupdate\n200 0\nend\nword 100000\nload 1 1000\n";
+
+const UPDATED: &[u8] =
+    b"accepted\nok\nok\nstored WB\ncomplete 1\nmemory 000000000000002a\nvalue 000000000000002a UC\n";
+
+// A self-snooping processor, one that joins it, and an update of both.
+const JOINED: &[u8] =
+    b"cpus 1\ndump\n0fe 508\n200 6\n201 f00000800\n2ff 800\nend\nselfsnoop 0\njoin\nupdate\n200 0\nend\n";
+
+// Two processors whose files differ, of which one is self-snooping, and an update.
+const UNLIKE: &[u8] =
+    b"cpus 2\ndump\nversion 2\ncpu 0\n0fe 508\n200 6\n201 f00000800\n2ff 800\ncpu 1\n2ff 800\nend\nselfsnoop 1\nupdate\nend\n";
+
+// WB below 4 GB, for requests.
+const FOUR_GIGABYTES: &[u8] = b"0fe 508\n200 6\n201 f00000800\n2ff 800\nend\n";
+
+// Such requests, of which three are carried out and three refused.
 const REQUESTS: &[u8] = b"0fe 508\n200 6\n201 f00000800\n2ff 800\nend\n\
     base=0xf8000000 size=0x400000 type=write-combining\n\
     base=0x80000000 size=0x80000000 type=uncachable\n\
@@ -27,197 +52,178 @@ const TOLD: &[u8] =
     base=0x100000000 size=0x1000 type=write-through # 3\n\
     era 3\n";
 
-/// A run over an input, and the text that it has to write.
-#[derive(Clone, Copy)]
-struct Run<'a> {
-    call: Call<'a>,
-    input: &'a [u8],
-    text: &'a [u8],
-}
+// An update.
+const UPDATE: &[u8] = b"update\n200 0\nend\n";
 
-impl<'a> Run<'a> {
-    fn of(call: Call<'a>, input: &'a [u8], text: &'a [u8]) -> Run<'a> {
-        Run { call, input, text }
-    }
+// A request.
+const CLEAR: &[u8] = b"disable=0\n";
 
-    // The run ends with status 0, and writes its text.
-    fn expect<R: AllocGlobal + Threads + Wait + Abort + Sync, G: Gate>(
-        &self,
-        rt: &R,
-        gate: &G,
-    ) -> Result<(), Fail> {
-        let ran = run_under(rt, self.call, &Ports::new(self.input, 4096), gate)?;
-        assert_eq!(rt; ran.status, Status::Done);
-        assert!(rt; ran.sink.bytes() == self.text);
-        Ok(())
+const fn run<'a>(call: Call<'a>, input: &'a [u8], cpus: u32, updates: u64) -> Run<'a> {
+    Run {
+        call,
+        input,
+        end: b"",
+        cpus,
+        updates,
     }
 }
 
-// One script and one list of requests, each by the top call and by its own, and two more scripts; and how many updates they make on
-// threads. A processor joins by the core's own calls.
-fn updates() -> [(Run<'static>, u64); 6] {
-    let replay = Call::Tool(&["replay"]);
-    [
-        (
-            Run::of(replay, JOINED, b"accepted\njoined 1\ncomplete 2\n"),
-            1,
-        ),
-        (Run::of(replay, UNLIKE, b"accepted\ncomplete 1\n"), 1),
-        (Run::of(replay, UPDATE, UPDATED), 1),
-        (Run::of(Call::Replay, UPDATE, UPDATED), 1),
-        (Run::of(Call::Tool(&["proc", "2"]), REQUESTS, TOLD), 3),
-        (Run::of(Call::Proc(2), REQUESTS, TOLD), 3),
-    ]
+// Whether processors were asked of from the refused one on, or else all, and told of once each. Each that the gate lets start comes on
+// a thread of its own.
+fn is_in_order<R>(gate: &InOrder<R>, run: &Run<'_>, refused: u32) -> bool {
+    let first = if refused < run.cpus { refused } else { 0 };
+    gate.is_kept() && run.is_counted(gate.starts(), first)
 }
 
 // The last processor is started first, so those before the refused one aren't asked of. 2 refuses none.
 #[test]
-fn a_refused_start_changes_nothing_that_is_told(rt: HostRuntime) -> Result<(), Fail> {
-    for (refused, first_asked) in [(0, 0), (1, 1), (2, 0)] {
-        for (run, times) in updates() {
+fn one_start_may_be_refused(rt: HostRuntime) -> Result<(), Fail> {
+    for refused in 0..3 {
+        for (run, end) in [
+            (
+                run(Call::Tool(&["replay"]), JOINED, 2, 1),
+                b"accepted\njoined 1\ncomplete 2\n".as_slice(),
+            ),
+            (
+                run(Call::Tool(&["replay"]), UNLIKE, 2, 1),
+                b"accepted\ncomplete 1\n",
+            ),
+            (run(Call::Tool(&["replay"]), DIRTY, 2, 1), UPDATED),
+            (run(Call::Replay, DIRTY, 2, 1), UPDATED),
+            (run(Call::Tool(&["proc", "2"]), REQUESTS, 2, 3), TOLD),
+            (run(Call::Proc(2), REQUESTS, 2, 3), TOLD),
+        ] {
+            let run = Run { end, ..run };
             let gate = InOrder::new(&rt, refused);
             run.expect(&rt, &gate)?;
-            assert!(rt; gate.is_kept());
-            assert!(rt; gate.starts().asked_each(first_asked..2, times));
-            assert!(rt; gate.starts().told_each(0..2, times));
+            assert!(rt; is_in_order(&gate, &run, refused));
         }
+    }
+    Ok(())
+}
+
+// Requests, and how many of them are carried out. Any other neither asks nor tells the gate.
+const DONE: [(&[u8], u64); 3] = [
+    (b"disable=7\nbase=1 size=1 type=write-back\n", 0),
+    (
+        b"base=0x80000000 size=0x80000000 type=uncachable\ndisable=1\nbase=0x80000000 size=0x80000000 type=uncachable\n\
+        disable=1\ndisable=0\n",
+        5,
+    ),
+    (
+        b"base=0xf8000000 size=0x400000 type=write-combining\n# none\ndisable=0\n",
+        1,
+    ),
+];
+
+#[test]
+fn each_request_asks_and_tells_once(rt: HostRuntime) -> Result<(), Fail> {
+    for (requests, times) in DONE {
+        let input = repeated(rt.alloc(), FOUR_GIGABYTES, requests, 1)?;
+        for n in 0..19 {
+            let (call, cpus) = match n {
+                16 => (Call::Tool(&["proc", "1"]), 1),
+                17 => (Call::Tool(&["proc", "3"]), 3),
+                18 => (Call::Tool(&["proc", "16"]), 16),
+                _ => (Call::Proc(n + 1), n + 1),
+            };
+            let run = run(call, &input, cpus, times);
+            let gate = InOrder::new(&rt, 16);
+            run.expect(&rt, &gate)?;
+            assert!(rt; is_in_order(&gate, &run, 16), "{cpus} processors");
+        }
+    }
+    Ok(())
+}
+
+// Two updates of each number of processors, over a memory of one line; several of a script; and that of jobs with accesses.
+#[test]
+fn each_update_asks_and_tells_once(rt: HostRuntime) -> Result<(), Fail> {
+    for cpus in 1..=16 {
+        let script = format!(in rt.alloc();
+            "cpus {cpus}\ndump\n0fe 508\n200 6\n201 f00000800\n2ff 800\nend\nram 100000 1\nupdate\n200 0\nend\nupdate\n200 6\nend\n"
+        )?;
+        let run = run(Call::Replay, script.as_str().as_bytes(), cpus, 2);
+        let gate = InOrder::new(&rt, 16);
+        run.expect(&rt, &gate)?;
+        assert!(rt; is_in_order(&gate, &run, 16), "{cpus} processors");
+    }
+    let round = b"store 0 1000 2a\nupdate\n200 4\nend\nstore 1 1040 2b\nupdate\n200 6\nend\n";
+    let script = repeated(rt.alloc(), TRIO, round, 3)?;
+    for (call, cpus, updates) in [
+        (Call::Tool(&["replay"]), 3, 6),
+        (Call::Replay, 3, 6),
+        (Call::Tool(&["big", "7"]), 16, 8),
+        (Call::Tool(&["private", "3", "7", "4"]), 3, 1),
+    ] {
+        let run = run(call, &script, cpus, updates);
+        let gate = InOrder::new(&rt, 16);
+        run.expect(&rt, &gate)?;
+        assert!(rt; is_in_order(&gate, &run, 16), "{cpus} processors");
+    }
+    Ok(())
+}
+
+// A first text, and then a round so many times, without the pauses of the gate above.
+fn expect_many<R: AllocGlobal + Threads + Wait + Abort + Sync>(
+    rt: &R,
+    (first, round, times): (&[u8], &[u8], usize),
+    (call, cpus, updates): (Call<'_>, u32, u64),
+) -> Result<(), Fail> {
+    let input = repeated(rt.alloc(), first, round, times)?;
+    let run = run(call, &input, cpus, updates);
+    let gate = AllBut::new(16);
+    run.expect(rt, &gate)?;
+    assert!(rt; run.is_counted(&gate, 0), "{cpus} processors");
+    Ok(())
+}
+
+// Of each two requests one clears the range, and one sets it again.
+#[test]
+fn a_thousand_updates_and_requests(rt: HostRuntime) -> Result<(), Fail> {
+    let replay = Call::Tool(&["replay"]);
+    let pair = b"disable=0\nbase=0 size=0x100000000 type=write-back\n".as_slice();
+    for (text, run) in [
+        ((SOLO, UPDATE, 100), (replay, 1, 100)),
+        ((PAIR, UPDATE, 1000), (replay, 2, 1000)),
+        ((TRIO, UPDATE, 100), (replay, 3, 100)),
+        ((PAIR, UPDATE, 100), (Call::Replay, 2, 100)),
+        (
+            (FOUR_GIGABYTES, pair, 50),
+            (Call::Tool(&["proc", "1"]), 1, 100),
+        ),
+        (
+            (FOUR_GIGABYTES, pair, 500),
+            (Call::Tool(&["proc", "2"]), 2, 1000),
+        ),
+        (
+            (FOUR_GIGABYTES, pair, 10),
+            (Call::Tool(&["proc", "16"]), 16, 20),
+        ),
+        ((FOUR_GIGABYTES, pair, 50), (Call::Proc(2), 2, 100)),
+    ] {
+        expect_many(&rt, text, run)?;
     }
     Ok(())
 }
 
 // So many processors see each other, so as many threads run at once; and the gate is told once of each.
-fn expect_meeting<R: AllocGlobal + Threads + Wait + Abort + Files + Clock + Sync>(
-    rt: &R,
-    run: Run<'_>,
-    cpus: u32,
-) -> Result<(), Fail> {
-    let gate = Meets::of(rt, cpus);
-    run.expect(rt, &gate)?;
-    assert_eq!(rt; gate.seen(), cpus as u64);
-    assert!(rt; gate.told_each(0..cpus, 1));
-    Ok(())
-}
-
-// Those of a script, with the first lines of it.
-fn expect_replay_to_meet<R: AllocGlobal + Threads + Wait + Abort + Files + Clock + Sync>(
-    rt: &R,
-    first: &[u8],
-    cpus: u32,
-) -> Result<(), Fail> {
-    let input = repeated(rt.alloc(), first, b"update\n200 0\nend\n", 1)?;
-    for call in [Call::Tool(&["replay"]), Call::Replay] {
-        let run = Run::of(call, &input, b"accepted\nok\nok\ncomplete 1\n");
-        expect_meeting(rt, run, cpus)?;
-    }
-    Ok(())
-}
-
 #[test]
 fn processors_meet(rt: HostRuntime) -> Result<(), Fail> {
-    expect_replay_to_meet(&rt, PAIR, 2)?;
-    expect_replay_to_meet(&rt, TRIO, 3)?;
-    let input = repeated(rt.alloc(), FOUR_GIGABYTES, b"disable=0\n", 1)?;
-    for (call, cpus) in [
-        (Call::Tool(&["proc", "2"]), 2),
-        (Call::Proc(2), 2),
-        (Call::Tool(&["proc", "16"]), 16),
+    for (first, round, call, cpus) in [
+        (PAIR, UPDATE, Call::Tool(&["replay"]), 2),
+        (PAIR, UPDATE, Call::Replay, 2),
+        (TRIO, UPDATE, Call::Tool(&["replay"]), 3),
+        (TRIO, UPDATE, Call::Replay, 3),
+        (FOUR_GIGABYTES, CLEAR, Call::Tool(&["proc", "2"]), 2),
+        (FOUR_GIGABYTES, CLEAR, Call::Proc(2), 2),
+        (FOUR_GIGABYTES, CLEAR, Call::Tool(&["proc", "16"]), 16),
+        (SOLO, b"", Call::Tool(&["private", "2", "7", "0"]), 2),
     ] {
-        let run = Run::of(call, &input, b"cleared 0\nera 1\n");
-        expect_meeting(&rt, run, cpus)?;
-    }
-    let text = b"values 0000000000000000\nmemory 0000000000000000\n";
-    let jobs = Run::of(Call::Tool(&["private", "2", "7", "0"]), b"", text);
-    expect_meeting(&rt, jobs, 2)
-}
-
-// Whether the gate was asked and told so often of each of so many processors, each of which started as it allows.
-fn is_each<R>(gate: &InOrder<R>, cpus: u32, times: u64) -> bool {
-    gate.is_kept()
-        && gate.starts().asked_each(0..cpus, times)
-        && gate.starts().told_each(0..cpus, times)
-}
-
-// The run ends with status 0.
-fn expect_done<R: AllocGlobal + Threads + Wait + Abort + Sync, G: Gate>(
-    rt: &R,
-    call: Call<'_>,
-    input: &[u8],
-    gate: &G,
-) -> Result<(), Fail> {
-    let ran = run_under(rt, call, &Ports::new(input, 4096), gate)?;
-    assert_eq!(rt; ran.status, Status::Done);
-    Ok(())
-}
-
-// Requests, and how many of them are carried out.
-fn requests() -> [(&'static [u8], u64); 3] {
-    [
-        (b"disable=7\nbase=1 size=1 type=write-back\n", 0),
-        (
-            b"base=0x80000000 size=0x80000000 type=uncachable\ndisable=1\nbase=0x80000000 size=0x80000000 type=uncachable\n\
-            disable=1\ndisable=0\n",
-            5,
-        ),
-        (
-            b"base=0xf8000000 size=0x400000 type=write-combining\n# none\ndisable=0\n",
-            1,
-        ),
-    ]
-}
-
-// A request that is carried out asks once before each start, and tells of each arrival once. One that
-// isn't does neither.
-#[test]
-fn each_processor_starts_and_arrives_once(rt: HostRuntime) -> Result<(), Fail> {
-    for (requests, times) in requests() {
-        let text = repeated(rt.alloc(), FOUR_GIGABYTES, requests, 1)?;
-        for cpus in 1..=16 {
-            let gate = InOrder::new(&rt, 16);
-            expect_done(&rt, Call::Proc(cpus), &text, &gate)?;
-            assert!(rt; is_each(&gate, cpus, times), "{cpus} processors");
-        }
-        for (words, cpus) in [(["proc", "1"], 1), (["proc", "3"], 3), (["proc", "16"], 16)] {
-            let gate = InOrder::new(&rt, 16);
-            expect_done(&rt, Call::Tool(&words), &text, &gate)?;
-            assert!(rt; is_each(&gate, cpus, times), "{cpus} processors");
-        }
-    }
-    Ok(())
-}
-
-// So does each update of a script, and the one of jobs with accesses.
-#[test]
-fn each_update_starts_and_arrives_once(rt: HostRuntime) -> Result<(), Fail> {
-    let round = b"store 0 1000 2a\nupdate\n200 4\nend\nstore 1 1040 2b\nupdate\n200 6\nend\n";
-    let script = repeated(rt.alloc(), TRIO, round, 3)?;
-    for (call, input, cpus, times) in [
-        (Call::Tool(&["replay"]), script.as_slice(), 3, 6),
-        (Call::Replay, script.as_slice(), 3, 6),
-        (Call::Tool(&["big", "7"]), b"".as_slice(), 16, 8),
-        (
-            Call::Tool(&["private", "3", "7", "4"]),
-            b"".as_slice(),
-            3,
-            1,
-        ),
-    ] {
-        let gate = InOrder::new(&rt, 16);
-        expect_done(&rt, call, input, &gate)?;
-        assert!(rt; is_each(&gate, cpus, times), "{cpus} processors");
-    }
-    Ok(())
-}
-
-// So do two updates of a script of each number of processors, over a memory of one line.
-#[test]
-fn each_processor_of_a_script_starts_and_arrives_once(rt: HostRuntime) -> Result<(), Fail> {
-    for cpus in 1..=16u32 {
-        let script = format!(in rt.alloc();
-            "cpus {cpus}\ndump\n0fe 508\n200 6\n201 f00000800\n2ff 800\nend\nram 100000 1\nupdate\n200 0\nend\nupdate\n200 6\nend\n"
-        )?;
-        let gate = InOrder::new(&rt, 16);
-        expect_done(&rt, Call::Replay, script.as_str().as_bytes(), &gate)?;
-        assert!(rt; is_each(&gate, cpus, 2), "{cpus} processors");
+        let input = repeated(rt.alloc(), first, round, 1)?;
+        let gate = Meets::of(&rt, cpus);
+        run(call, &input, cpus, 1).expect(&rt, &gate)?;
+        assert!(rt; gate.seen() == cpus as u64 && gate.told_each(0..cpus, 1));
     }
     Ok(())
 }
@@ -241,8 +247,7 @@ fn other_commands_ask_and_tell_nothing(rt: HostRuntime) -> Result<(), Fail> {
         (&["private", "17", "7", "1"], Status::Usage),
     ] {
         let gate = AllBut::new(16);
-        let ports = Ports::new(b"0fe 508\n2ff c06\n", 4096);
-        let ran = run_under(&rt, Call::Tool(words), &ports, &gate)?;
+        let ran = run_under(&rt, Call::Tool(words), b"0fe 508\n2ff c06\n", &gate)?;
         assert_eq!(rt; ran.status, status);
         assert!(rt; gate.asked_each(0..0, 0) && gate.told_each(0..0, 0));
     }

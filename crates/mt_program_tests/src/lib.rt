@@ -1,17 +1,9 @@
-//! Tests of the top call and of summaries: what rows can't say, as ports that fail, gates, and texts that are long.
+//! Tests of the top call, of `replay` and of `proc` under gates, and of summaries: what rows can't say.
 #![tactic(auto)]
 
 #[cfg(test)]
-mod failing_ports;
-#[cfg(test)]
 mod gates;
-#[cfg(test)]
-mod jobs;
-#[cfg(test)]
-mod long_texts;
 #[cfg(test)]
 mod runs;
 #[cfg(test)]
 mod summaries;
-#[cfg(test)]
-mod texts;

@@ -1,6 +1,7 @@
-//! Runs of the top call, of `replay` and of `proc` over memory.
+//! Runs of the top call, of `replay` and of `proc` over memory, under a gate.
 use mt_cli::tool;
-use mt_ports::{Gate, MemSink, MemSource, OpenGate, Status};
+use mt_gates::AllBut;
+use mt_ports::{Gate, MemSink, MemSource, Status};
 use mt_proc::proc;
 use mt_replay::replay;
 use std::alloc::Global;
@@ -8,8 +9,6 @@ use std::process::Abort;
 use std::sync::Wait;
 use std::test::Fail;
 use std::thread::Threads;
-
-const ROOM: usize = 262_144;
 
 /// What is called.
 #[derive(Clone, Copy)]
@@ -21,43 +20,22 @@ pub(crate) enum Call<'a> {
     Proc(u32),
 }
 
-// What a run ended with, and what the sink took.
+/// A run over an input that ends with status 0, how its text ends, and how many updates it makes on the threads of how many
+/// processors.
+#[derive(Clone, Copy)]
+pub(crate) struct Run<'a> {
+    pub(crate) call: Call<'a>,
+    pub(crate) input: &'a [u8],
+    pub(crate) end: &'a [u8],
+    pub(crate) cpus: u32,
+    pub(crate) updates: u64,
+}
+
+/// What a call ended with, and what it wrote to.
 #[derive(Drop)]
 pub(crate) struct Ran {
     pub(crate) status: Status,
-    pub(crate) sink: MemSink,
-}
-
-// The ports of a run over memory: the input in pieces, the room of the sink, and the call at which each of the two
-// fails, if one does.
-#[derive(Clone, Copy)]
-pub(crate) struct Ports<'a> {
-    pub(crate) input: &'a [u8],
-    pub(crate) piece: usize,
-    pub(crate) room: usize,
-    pub(crate) failing_read: Option<u64>,
-    pub(crate) failing_write: Option<u64>,
-}
-
-impl<'a> Ports<'a> {
-    // Ports that don't fail, with the input in pieces of so many bytes.
-    pub(crate) fn new(input: &'a [u8], piece: usize) -> Ports<'a> {
-        Ports {
-            input,
-            piece,
-            room: ROOM,
-            failing_read: None,
-            failing_write: None,
-        }
-    }
-}
-
-fn calls(alloc: Global, call: Option<u64>) -> Result<Vec<u64>, Fail> {
-    let mut calls = Vec::new(alloc);
-    if let Some(call) = call {
-        calls.push(call)?;
-    }
-    Ok(calls)
+    sink: MemSink,
 }
 
 fn words_of(alloc: Global, words: &[&str]) -> Result<Vec<String>, Fail> {
@@ -71,15 +49,12 @@ fn words_of(alloc: Global, words: &[&str]) -> Result<Vec<String>, Fail> {
 pub(crate) fn run_under<R: AllocGlobal + Threads + Wait + Abort + Sync, G: Gate>(
     rt: &R,
     call: Call<'_>,
-    ports: &Ports<'_>,
+    input: &[u8],
     gate: &G,
 ) -> Result<Ran, Fail> {
     let alloc = rt.alloc();
-    assert!(rt; ports.piece > 0);
-    let failing_reads = calls(alloc, ports.failing_read)?;
-    let mut source = MemSource::new(ports.input.to_vec(alloc)?, ports.piece, failing_reads);
-    let failing_writes = calls(alloc, ports.failing_write)?;
-    let Ok(mut sink) = MemSink::new(alloc, ports.room, failing_writes) else {
+    let mut source = MemSource::new(input.to_vec(alloc)?, 4096, Vec::new(alloc));
+    let Ok(mut sink) = MemSink::new(alloc, 262_144, Vec::new(alloc)) else {
         return Err(Fail::from("no memory"));
     };
     let status = match call {
@@ -93,15 +68,27 @@ pub(crate) fn run_under<R: AllocGlobal + Threads + Wait + Abort + Sync, G: Gate>
     Ok(Ran { status, sink })
 }
 
-pub(crate) fn run<R: AllocGlobal + Threads + Wait + Abort + Sync>(
-    rt: &R,
-    words: &[&str],
-    ports: &Ports<'_>,
-) -> Result<Ran, Fail> {
-    run_under(rt, Call::Tool(words), ports, &OpenGate)
+impl Run<'_> {
+    /// Fails the test unless the run ends so.
+    pub(crate) fn expect<R: AllocGlobal + Threads + Wait + Abort + Sync, G: Gate>(
+        &self,
+        rt: &R,
+        gate: &G,
+    ) -> Result<(), Fail> {
+        let ran = run_under(rt, self.call, self.input, gate)?;
+        assert_eq!(rt; ran.status, Status::Done);
+        assert!(rt; ran.sink.bytes().ends_with(self.end));
+        Ok(())
+    }
+
+    /// Whether each update asked once of each processor from this one on, and told once of each.
+    pub(crate) fn is_counted(&self, gate: &AllBut, first: u32) -> bool {
+        gate.asked_each(first..self.cpus, self.updates)
+            && gate.told_each(0..self.cpus, self.updates)
+    }
 }
 
-// The first text, and then the other so many times.
+/// The first text, and then the other so many times.
 pub(crate) fn repeated(
     alloc: Global,
     first: &[u8],

@@ -1,20 +1,11 @@
 //! Numbers of the transcripts of scripts.
 use mt_gates::AllBut;
-use mt_ports::{Gate, OpenGate};
+use mt_ports::Gate;
 use mt_replay::{Totals, summary};
 use std::test::Fail;
 
 const EACH_KIND: &[u8] =
     b"cpus 2\ndump\n0fe 508\n200 6\n201 f00000800\n2ff 800\nend\nram 100000 64\nmap 0 1000 100000 0\nmap 1 1000 100000 0\nstore 0 1000 2a\nload 0 1000\nfence 0\ninvlpg 0 1000\ncr3 0\npge 0 on\ncd 0 off\nword 100000\nmsr 0 200\nreport\nupdate\n200 0\nend\nbegin\n200 6\nend\nstep 0\ngo\ncancel\nload 1 1000\nload 1 2000\n";
-
-// The line `accepted`, one for each of eleven commands, three of the report, one for each section's
-// end, and five more.
-const EACH_TOTALS: Totals = Totals {
-    lines: 22,
-    updates: 1,
-    values: 0x54,
-    memory: 0x2a,
-};
 
 // Lets no thread start.
 #[derive(Drop)]
@@ -28,20 +19,10 @@ impl Gate for Shut {
     fn arrived(&self, _k: u32) {}
 }
 
-// The one whole update asks and tells the gate that is handed in.
-#[test]
-fn each_kind_of_line(rt: HostRuntime) -> Result<(), Fail> {
-    let gate = AllBut::new(16);
-    assert_eq!(rt; summary(&rt, EACH_KIND, &gate)?, EACH_TOTALS);
-    assert!(rt; gate.asked_each(0..2, 1) && gate.told_each(0..2, 1));
-    assert_eq!(rt; summary(&rt, EACH_KIND, &Shut)?, EACH_TOTALS);
-    Ok(())
-}
-
-const fn totals(lines: u64, values: u64, memory: u64) -> Totals {
+const fn totals(lines: u64, updates: u64, values: u64, memory: u64) -> Totals {
     Totals {
         lines,
-        updates: 0,
+        updates,
         values,
         memory,
     }
@@ -49,30 +30,37 @@ const fn totals(lines: u64, values: u64, memory: u64) -> Totals {
 
 // Values are added modulo 2^64, and a store of WB memory isn't in memory before it is written back. A text without
 // a state has the one line that ends it. The line of an offence is counted, and what stands behind it isn't run.
+// The first text has the line `accepted`, one for each of eleven commands, three of the report, one for each section's
+// end, and five more. Its one whole update asks and tells the gate that is handed in.
 #[test]
-fn sums_and_texts_that_end_early(rt: HostRuntime) -> Result<(), Fail> {
+fn sums_of_transcripts(rt: HostRuntime) -> Result<(), Fail> {
     for (script, wanted) in [
+        (EACH_KIND, totals(22, 1, 0x54, 0x2a)),
         (
-            b"cpus 1\ndump\n0fe 400\n2ff 806\nend\nram 100000 1\nmap 0 1000 100000 0\nstore 0 1000 ffffffffffffffff\nload 0 1000\nload 0 1000\nload 0 1000".as_slice(),
-            totals(6, 0xffff_ffff_ffff_fffd, 0),
+            b"cpus 1\ndump\n0fe 400\n2ff 806\nend\nram 100000 1\nmap 0 1000 100000 0\nstore 0 1000 ffffffffffffffff\nload 0 1000\nload 0 1000\nload 0 1000",
+            totals(6, 0, 0xffff_ffff_ffff_fffd, 0),
         ),
-        (b"", totals(1, 0, 0)),
+        (b"", totals(1, 0, 0, 0)),
         (
             b"cpus 1\ndump\n0fe 400\n2ff 803\nend\nram 100000 1\nreport\n",
-            totals(1, 0, 0),
+            totals(1, 0, 0, 0),
         ),
-        (b"cpus 1\ndump\n0fe 400\n2ff 806\n", totals(1, 0, 0)),
-        (b"load 0 1000\n", totals(1, 0, 0)),
+        (b"cpus 1\ndump\n0fe 400\n2ff 806\n", totals(1, 0, 0, 0)),
+        (b"load 0 1000\n", totals(1, 0, 0, 0)),
         (
             b"cpus 1\ndump\n0fe 400\n2ff 800\nend\nram 100000 1\nmap 0 1000 100000 0\nstore 0 1000 7\nload 0 1000\nload 1 1000\nstore 0 1000 9\n",
-            totals(5, 7, 7),
+            totals(5, 0, 7, 7),
         ),
         (
             b"cpus 1\ndump\n0fe 400\n2ff 800\nend\nram 100000 1\nupdate\n2ff 806",
-            totals(2, 0, 0),
+            totals(2, 0, 0, 0),
         ),
     ] {
-        assert_eq!(rt; summary(&rt, script, &OpenGate)?, wanted);
+        let gate = AllBut::new(16);
+        assert_eq!(rt; summary(&rt, script, &gate)?, wanted);
+        let times = wanted.updates;
+        assert!(rt; gate.asked_each(0..2, times) && gate.told_each(0..2, times));
+        assert_eq!(rt; summary(&rt, script, &Shut)?, wanted);
     }
     Ok(())
 }
