@@ -1,4 +1,4 @@
-//! Tests of ports, texts, dumps, script lines and output lines, over public calls.
+//! Tests of dumps beside a plain reader, and of the first offence of a script.
 #![tactic(auto)]
 
 #[cfg(test)]
@@ -6,12 +6,4 @@ mod checks;
 #[cfg(test)]
 mod dump;
 #[cfg(test)]
-mod memory;
-#[cfg(test)]
-mod output;
-#[cfg(test)]
-mod ports;
-#[cfg(test)]
 mod script;
-#[cfg(test)]
-mod text;
