@@ -25,11 +25,7 @@ pub(crate) fn own_core(alloc: Global, count: u32) -> Option<Core> {
 }
 
 fn one(alloc: Global, op: Op) -> Option<Vec<Op>> {
-    let mut ops = Vec::new(alloc);
-    if ops.push(op).is_err() {
-        return None;
-    }
-    Some(ops)
+    [op].to_vec(alloc).ok()
 }
 
 /// For each of so many processors a store of 2AH and its number before, and a load of it after.
@@ -185,24 +181,31 @@ fn processors_meet(rt: HostRuntime) {
     holds(&rt, gate.seen() == 2);
 }
 
-/// So many loads and stores of words of the own page, by draws.
-fn draws(alloc: Global, mut x: u64, count: usize) -> Option<Vec<Op>> {
-    let mut ops = Vec::new(alloc);
-    for _i in 0..count {
-        x = x
-            .wrapping_mul(6364136223846793005)
-            .wrapping_add(1442695040888963407);
-        let address = 0x1000 + (x >> 33) % 512 * 8;
-        let op = if (x >> 20) % 2 == 0 {
-            Op::Load(address)
-        } else {
-            Op::Store(address, x)
-        };
-        if ops.push(op).is_err() {
-            return None;
-        }
+/// The next number of a row of draws. Its literals are short, since a long one takes half a minute to prove.
+fn next(x: u64) -> u64 {
+    x.wrapping_mul(69069).wrapping_add(12345)
+}
+
+/// A load or a store of a word of the own page, by a number.
+fn op_of(x: u64) -> Op {
+    let place = (x >> 16) % 512;
+    let address = place.wrapping_mul(8).wrapping_add(0x1000);
+    if (x >> 25) % 2 == 0 {
+        Op::Load(address)
+    } else {
+        Op::Store(address, x)
     }
-    Some(ops)
+}
+
+/// So many loads and stores, at most 64, by draws.
+fn draws(alloc: Global, seed: u64, count: usize) -> Option<Vec<Op>> {
+    let mut x = seed;
+    let mut ops = [Op::Fence; 64];
+    for i in 0..ops.len() {
+        x = next(x);
+        ops[i] = op_of(x);
+    }
+    ops.get(..count)?.to_vec(alloc).ok()
 }
 
 /// Jobs that are drawn: a number of accesses before and as many after for each processor, over memory of a type.

@@ -6,6 +6,8 @@ mod checks;
 #[cfg(test)]
 mod common;
 #[cfg(test)]
+mod endings;
+#[cfg(test)]
 mod job_tests;
 #[cfg(test)]
 mod station_tests;

@@ -1,50 +1,37 @@
-// Stations with one thread for each pass.
-ghost use Rattle.std.specs.Prelude.{◌≡◌, ℕ, ◌<◌, ◌≤◌, ◌+◌, ◌-◌, ◌^◌, ◌↔◌, IsTrue, IfSome, IfNone, [], length, vec_len};
+//! Stations with a thread for each pass.
+ghost use Rattle.std.specs.Prelude.{◌≡◌, ◌<◌, ◌≤◌, IsTrue, IfSome, length};
 ghost use Rattle.std.specs.Thread.{IsSync};
 ghost use Rattle.mt_machine.specs.declared.go.Go.TheVariants.{Pending};
 ghost use Rattle.mt_rendezvous.specs.Station.{Begins};
 ghost use Rattle.mt_rendezvous.specs.Calls.{gathered};
-ghost use Rattle.mt_rendezvous.specs.InStation.{AllNewIn, HoldsOneIn, IsNewIn, IsRootIn, LeadsIn, goal_at, start_at, windows_at};
+ghost use Rattle.mt_rendezvous.specs.InStation.{AllNewIn, IsRootIn, IsTaken, LeadsIn, goal_at, start_at, windows_at};
 
 use crate::checks::succeeds_at;
-use crate::common::{Windows, core_of, file, is_same_cpu, is_same_memory, may_call, store, word};
+use crate::common::{Windows, core_of, file, may_call, store, word};
+use crate::endings::Ending;
 use mt_bus::SystemParts;
 use mt_core::{Core, a_core_arises};
-use mt_cpu::Cpu;
 use mt_gates::AllBut;
 use mt_kinds::MemType;
 use mt_ram::Ram;
 use mt_regs::RegFile;
 use mt_rendezvous::{Attendee, Outcome, Root, Station, attend, call_and_take, disband};
 use std::alloc::Global;
-use std::snapshot::Snapshot;
 use std::sync::Wait;
+use std::sync::atomic::{AtomicU64, Ordering};
 use std::thread;
-use std::thread::{Promise, Scope, Threads};
+use std::thread::{Scope, Threads};
 use std::time::Clock;
 
-mod endings;
-
-use endings::{Ending, end, finish, leave_all};
-
-/// Each of so many processors stores a word as WB, in a line of its own.
-fn dirties(core: &mut Core, count: u32) -> bool {
-    for k in 0..count {
-        if store(core, k, 0x40 * k as u64, 0x2a + k as u64) != Some(MemType::WB) {
-            return false;
-        }
-    }
-    true
-}
-
-/// So many processors, each with one dirty line.
+/// So many processors. Each has stored a word as WB, in a line of its own.
 fn dirty_row(alloc: Global, count: u32) -> Option<Core> {
     let mut core = core_of(alloc, count, 6, Windows::Common)?;
-    if dirties(&mut core, count) {
-        Some(core)
-    } else {
-        None
+    for k in 0..count {
+        if store(&mut core, k, 0x40 * k as u64, 0x2a + k as u64) != Some(MemType::WB) {
+            return None;
+        }
     }
+    Some(core)
 }
 
 /// Calls, and lets each take, where the call's conditions hold.
@@ -57,194 +44,164 @@ fn take(core: &mut Core, goal: &RegFile) -> bool
     may_call(core, goal) && call_and_take(core, goal).is_ok()
 }
 
-/// What comes of an attendee.
+/// What the threads of a station share, and how many passes ended as they should.
 #[derive(Drop)]
-struct Told {
-    cpu: Cpu,
-    outcome: Outcome,
-    shown: Option<u32>,
+struct Shared {
+    station: Station,
+    ram: Ram,
+    goal: RegFile,
+    gate: AllBut,
+    ended: AtomicU64,
 }
 
-// What the thread of a pass promises: the processor comes back in its pass.
-#[derive(Drop)]
-struct Comes {
-    station: Snapshot<Station>,
-    number: u64,
+/// Whether it completed and was shown so many, or left with its dirty line.
+fn has_ended(a: &Attendee, outcome: Outcome, count: u32, ending: Ending) -> bool {
+    let (era, cache) = (a.cpu.era(), a.cpu.cache());
+    match outcome {
+        Outcome::Complete => {
+            ending.is_go() && a.pass.shown() == Some(count) && era == 1 && cache.len() == 0
+        }
+        Outcome::Cancelled => {
+            !ending.is_go()
+                && a.pass.shown().is_none()
+                && era == 0
+                && cache.len() == 1
+                && cache.nth(0).dirty == 1
+        }
+    }
 }
 
-impl Promise<(Attendee, Outcome)> for Comes {
-    ghost use Rattle.mt_rendezvous.specs.InStation.{HoldsOneIn};
-
-    ghost kept_by = { λ p r. HoldsOneIn p.station.value r.0 × (r.0.pass.number ≡ p.number) };
-}
-
-fn attend_whole<R: Wait>(
-    rt: &R,
-    station: &Station,
-    ram: &Ram,
-    k: u64,
-    a: Attendee,
-    goal: &RegFile,
-    gate: &AllBut,
-) -> (Attendee, Outcome)
-    requires new { IsNewIn station.now k a }
-    requires begins { Begins (start_at station.now) }
-    requires goal { goal.now ≡ goal_at station.now }
-    requires windows { ram.now.windows ≡ windows_at station.now }
-    ensures came { HoldsOneIn station.now result.0 }
-    ensures number { result.0.pass.number ≡ k }
+/// The way of an attendee through the station, which is counted if it ends as it should.
+fn attends<R: Wait>(rt: &R, shared: &Shared, a: Attendee, ending: Ending)
+    requires taken { IsTaken shared.now.station a.pass a.cpu }
+    requires goal { shared.now.goal ≡ goal_at shared.now.station }
+    requires windows { shared.now.ram.windows ≡ windows_at shared.now.station }
 {
-    let _ = k;
-    attend(rt, station, ram, a, goal, gate)
+    let Shared {
+        station,
+        ram,
+        goal,
+        gate,
+        ended,
+    } = shared;
+    let (a, outcome) = attend(rt, station, ram, a, goal, gate);
+    if has_ended(&a, outcome, station.count as u32, ending) {
+        ended.fetch_add(1, Ordering::SeqCst);
+    }
 }
 
-// The last attendee.
+/// The last attendee.
 fn last(station: &Station, waiting: &mut Vec<Attendee>) -> Option<Attendee>
-    requires { AllNewIn station.now waiting.old.items }
-    ensures none { IfNone result (length waiting.old.items ≡ 0) }
-    ensures attends { IfSome result (λ a. IsNewIn station.now (length waiting.new.items) a) }
-    ensures fewer { IfSome result (λ a. length waiting.old.items ≡ length waiting.new.items + 1) }
+    requires new { AllNewIn station.now waiting.old.items }
+    requires begins { Begins (start_at station.now) }
+    ensures taken { IfSome result (λ a. IsTaken station.now a.pass a.cpu) }
     ensures rest { AllNewIn station.now waiting.new.items }
 {
-    let _ = station.count;
+    let _ = station.count; // a fact for the proof
     waiting.pop()
 }
 
-// A thread for each of these but those that come late, and then the go or the cancel. The answer is false if a thread
-// isn't started: the root cancels, so that the others end.
-fn run_all<'s, E, R: Threads + Wait + Clock + Sync>(
+/// Starts a thread for the last attendee. Returns whether it is started.
+fn start<'s, E, R: Wait + Sync>(
     rt: &'s R,
     scope: &Scope<'s, E>,
-    station: &'s Station,
-    ram: &'s Ram,
-    root: &mut Root,
-    goal: &'s RegFile,
-    gate: &'s AllBut,
-    ending: Ending,
+    shared: &'s Shared,
     waiting: &mut Vec<Attendee>,
-    done: &mut Vec<Told>,
+    ending: Ending,
 ) -> bool
-    requires root { LeadsIn station.now root.old Pending }
-    requires goal { goal.now ≡ goal_at station.now }
-    requires windows { ram.now.windows ≡ windows_at station.now }
-    requires waiting { AllNewIn station.now waiting.old.items }
-    requires begins { Begins (start_at station.now) }
-    ensures { IsRootIn station.now root.new }
+    requires new { AllNewIn shared.now.station waiting.old.items }
+    requires begins { Begins (start_at shared.now.station) }
+    requires goal { shared.now.goal ≡ goal_at shared.now.station }
+    requires windows { shared.now.ram.windows ≡ windows_at shared.now.station }
+    ensures { AllNewIn shared.now.station waiting.new.items }
 {
-    if waiting.len() <= ending.late() as usize {
-        let is_so = end(rt, station, root, gate, ending);
-        return leave_all(rt, station, ram, root, goal, gate, waiting, done) && is_so;
+    let Some(a) = last(&shared.station, waiting) else {
+        return false;
+    };
+    scope
+        .spawn(
+            move || -> ()
+                requires shared { IsSync R.row }
+                requires taken { IsTaken shared.now.station a.pass a.cpu }
+                requires goal { shared.now.goal ≡ goal_at shared.now.station }
+                requires windows { shared.now.ram.windows ≡ windows_at shared.now.station }
+            { attends(rt, shared, a, ending) },
+        )
+        .is_ok()
+}
+
+/// Starts threads for the last so many attendees. Returns whether each is started.
+fn start_some<'s, E, R: Wait + Sync>(
+    rt: &'s R,
+    scope: &Scope<'s, E>,
+    shared: &'s Shared,
+    waiting: &mut Vec<Attendee>,
+    ending: Ending,
+    some: u32,
+) -> bool
+    requires new { AllNewIn shared.now.station waiting.old.items }
+    requires begins { Begins (start_at shared.now.station) }
+    requires goal { shared.now.goal ≡ goal_at shared.now.station }
+    requires windows { shared.now.ram.windows ≡ windows_at shared.now.station }
+    ensures { AllNewIn shared.now.station waiting.new.items }
+{
+    for _ in 0..some {
+        if !start(rt, scope, shared, waiting, ending) {
+            return false;
+        }
     }
-    let Some(a) = last(station, waiting) else {
-        root.cancel(station);
-        return false;
-    };
-    let k = waiting.len() as u64;
-    let promise = Comes {
-        station: Snapshot::of(station),
-        number: k,
-    };
-    let Ok(child) = scope.spawn_with(
-        promise,
-        move || -> (Attendee, Outcome)
-            requires shared { IsSync R.row }
-            requires new { IsNewIn station.now k a }
-            requires begins { Begins (start_at station.now) }
-            requires same { (goal.now ≡ goal_at station.now) × (ram.now.windows ≡ windows_at station.now) }
-            ensures { HoldsOneIn station.entry.now result.0 × (result.0.pass.number ≡ k) }
-        { attend_whole(rt, station, ram, k, a, goal, gate) },
-    ) else {
-        root.cancel(station);
-        return false;
-    };
-    let went = run_all(
-        rt, scope, station, ram, root, goal, gate, ending, waiting, done,
-    );
-    let (a, outcome) = child.join(rt);
-    finish(station, root, a, outcome, done) && went
+    true
 }
 
-// Where the threads have ended.
-#[derive(Drop)]
-struct Ended {
-    went: bool,
-    root: Root,
-    done: Vec<Told>,
+/// Gives the go, or cancels, and does so at once if not all are started. Returns whether the gate was told in time.
+fn end<C: Clock>(clock: &C, shared: &Shared, root: &mut Root, ending: Ending, started: bool) -> bool
+    requires { LeadsIn shared.now.station root.old Pending }
+    ensures { IsRootIn shared.now.station root.new }
+{
+    let heard = started && ending.hears(clock, &shared.gate, shared.station.count as u32);
+    if heard && ending.is_go() {
+        root.go(&shared.station);
+    } else {
+        root.cancel(&shared.station);
+    }
+    heard
 }
 
-// A station of these processors from its begin to its end.
+/// The threads of a station. Returns the root, and whether each was started and the gate told in time.
 fn meet<R: Threads + Wait + Clock + Sync>(
     rt: &R,
-    alloc: Global,
-    cpus: Vec<Cpu>,
-    ram: &mut Ram,
-    goal: &RegFile,
-    gate: &AllBut,
+    shared: &Shared,
+    mut root: Root,
+    mut waiting: Vec<Attendee>,
     ending: Ending,
-) -> Option<Vec<Told>>
-    requires some { 0 < vec_len cpus }
-    requires few { vec_len cpus ≤ 16 }
-    requires begins { Begins (gathered cpus.items ram.old goal.now) }
+) -> (Root, bool)
+    requires root { LeadsIn shared.now.station root Pending }
+    requires new { AllNewIn shared.now.station waiting.items }
+    requires begins { Begins (start_at shared.now.station) }
+    requires goal { shared.now.goal ≡ goal_at shared.now.station }
+    requires windows { shared.now.ram.windows ≡ windows_at shared.now.station }
+    ensures { IsRootIn shared.now.station result.0 }
 {
-    let Ok((station, mut root, mut waiting)) = Station::gather(alloc, cpus, ram, goal) else {
-        return None;
-    };
-    let mut done = Vec::new(alloc);
-    let lent: &Ram = ram;
-    let all = &station;
-    let ended = thread::scope(
+    thread::scope(
         thread::scope_env(),
         rt,
-        move |scope| -> Ended
-            requires root { LeadsIn all.now root Pending }
-            requires waiting { AllNewIn all.now waiting.items }
-            requires begins { Begins (start_at all.now) }
-            requires same { (goal.now ≡ goal_at all.now) × (lent.now.windows ≡ windows_at all.now) }
-            ensures { IsRootIn all.entry.now result.root }
+        move |scope| -> (Root, bool)
+            requires root { LeadsIn shared.now.station root Pending }
+            requires new { AllNewIn shared.now.station waiting.items }
+            requires begins { Begins (start_at shared.now.station) }
+            requires goal { shared.now.goal ≡ goal_at shared.now.station }
+            requires windows { shared.now.ram.windows ≡ windows_at shared.now.station }
+            ensures { IsRootIn shared.entry.now.station result.0 }
         {
-            let went = run_all(
-                rt,
-                scope,
-                all,
-                lent,
-                &mut root,
-                goal,
-                gate,
-                ending,
-                &mut waiting,
-                &mut done,
-            );
-            Ended { went, root, done }
+            let count = shared.station.count as u32;
+            let early = ending.early(count);
+            let started = start_some(rt, scope, shared, &mut waiting, ending, early);
+            let heard = end(rt, shared, &mut root, ending, started);
+            let late = count.saturating_sub(early);
+            let all = start_some(rt, scope, shared, &mut waiting, ending, late);
+            (root, all && heard)
         },
-    );
-    let Ended { went, root, done } = ended;
-    disband(station, root, ram);
-    if went { Some(done) } else { None }
-}
-
-/// What a row of processors comes to: what comes of each, the memory, and what the gate was told.
-#[derive(Drop)]
-struct Row {
-    done: Vec<Told>,
-    ram: Ram,
-    gate: AllBut,
-}
-
-fn ends_of<R: Threads + Wait + Clock + Sync>(
-    rt: &R,
-    alloc: Global,
-    count: u32,
-    ending: Ending,
-) -> Option<Row> {
-    let goal = file(0)?;
-    let mut core = dirty_row(alloc, count)?;
-    if !take(&mut core, &goal) {
-        return None;
-    }
-    let SystemParts { cpus, mut ram, .. } = core.into_system().into_parts();
-    let gate = AllBut::new(16);
-    let done = meet(rt, alloc, cpus, &mut ram, &goal, &gate, ending)?;
-    Some(Row { done, ram, gate })
+    )
 }
 
 /// Whether the words of so many processors were written back, or none was.
@@ -258,97 +215,57 @@ fn has_words(ram: &Ram, count: u32, written: bool) -> bool {
     true
 }
 
-/// Whether it was shown nothing, and has its one dirty line.
-fn has_left(told: &Told) -> bool {
-    let cache = told.cpu.cache();
-    told.shown.is_none() && cache.len() == 1 && cache.nth(0).dirty == 1
-}
-
-/// Whether it completed and was shown so many, or left.
-fn has_ended(told: &Told, count: u32, ending: Ending) -> bool {
-    match ending {
-        Ending::Go => told.outcome == Outcome::Complete && told.shown == Some(count),
-        _ => told.outcome == Outcome::Cancelled && has_left(told),
-    }
-}
-
-/// Whether each has ended so, as the core's processor.
-fn have_ended(done: &[Told], cpus: &[Cpu], ending: Ending) -> bool {
-    if done.len() != cpus.len() || done.len() > 16 {
-        return false;
-    }
-    for k in 0..done.len() {
-        let is_so = has_ended(&done[k], done.len() as u32, ending);
-        if !is_so || !is_same_cpu(&done[k].cpu, &cpus[k]) {
-            return false;
-        }
-    }
-    true
-}
-
-/// Whether the row of so many ends so as the core does, each pass having told the gate once.
-fn ends_as(row: &Row, core: &Core, count: u32, ending: Ending) -> bool {
-    have_ended(row.done.as_slice(), core.system().cpus(), ending)
-        && is_same_memory(&row.ram, core.system().ram())
-        && has_words(&row.ram, count, matches!(ending, Ending::Go))
-        && row.gate.told_each(0..count, 1)
-}
-
-/// Each processor steps once.
-fn steps(core: &mut Core) {
-    for k in 0..16 {
-        if k < core.system().cpus().len() {
-            core.step(k as u32);
-        }
-    }
-}
-
-/// Ends an update in which each has taken, by the core's own calls.
-fn ends(core: &mut Core, ending: Ending) -> bool {
-    if let Ending::Go = ending {
-        if core.order().is_some() {
-            core.round();
-        }
-    } else {
-        core.cancel();
-        steps(core);
-    }
-    core.order().is_none()
-}
-
-/// Whether so many rows, each of so many processors, end so as a core does by its own calls.
-fn rows_end_as<R: Threads + Wait + Clock + Sync>(
+/// Whether a station of so many processors ends so for each and in memory, and the gate is told once of each.
+fn ends_so<R: Threads + Wait + Clock + Sync>(
     rt: &R,
     alloc: Global,
     count: u32,
     ending: Ending,
-    rows: u32,
 ) -> Option<bool> {
     let goal = file(0)?;
     let mut core = dirty_row(alloc, count)?;
-    let mut alike = take(&mut core, &goal) && ends(&mut core, ending);
-    for _ in 0..rows {
-        let row = ends_of(rt, alloc, count, ending)?;
-        alike = alike && ends_as(&row, &core, count, ending);
+    if !take(&mut core, &goal) {
+        return None;
     }
-    Some(alike)
+    let SystemParts { cpus, ram, .. } = core.into_system().into_parts();
+    let Ok((station, root, waiting)) = Station::gather(alloc, cpus, &ram, &goal) else {
+        return None;
+    };
+    let shared = Shared {
+        station,
+        ram,
+        goal,
+        gate: AllBut::new(16),
+        ended: AtomicU64::new(0),
+    };
+    let (root, met) = meet(rt, &shared, root, waiting, ending);
+    let Shared {
+        station,
+        mut ram,
+        goal: _,
+        gate,
+        ended,
+    } = shared;
+    disband(station, root, &mut ram);
+    let have_ended = ended.load(Ordering::SeqCst) == count as u64 && gate.told_each(0..count, 1);
+    Some(met && have_ended && has_words(&ram, count, ending.is_go()))
 }
 
 #[test]
-fn each_ends_as_by_the_cores_calls(rt: HostRuntime) {
-    for ending in [Ending::Go, Ending::Cancel] {
-        let two = rows_end_as(&rt, rt.alloc(), 2, ending, 1);
-        succeeds_at(&rt, 2, two);
-        let sixteen = rows_end_as(&rt, rt.alloc(), 16, ending, 200);
-        succeeds_at(&rt, 16, sixteen);
+fn each_completes_or_leaves(rt: HostRuntime) {
+    for count in [2, 16] {
+        for _ in 0..100 {
+            for ending in [Ending::Go, Ending::Cancel] {
+                succeeds_at(&rt, count as u64, ends_so(&rt, rt.alloc(), count, ending));
+            }
+        }
     }
 }
 
-// The last processors arrive first: so many come after the cancel, and the gate was told of the others before it.
 #[test]
 fn a_station_may_be_cancelled_at_each_arrival(rt: HostRuntime) {
-    for late in [3, 2, 1, 0] {
-        let alike = rows_end_as(&rt, rt.alloc(), 3, Ending::CancelAfter { late }, 1);
-        succeeds_at(&rt, late as u64, alike);
+    for early in 0..=3 {
+        let left = ends_so(&rt, rt.alloc(), 3, Ending::CancelAfter(early));
+        succeeds_at(&rt, early as u64, left);
     }
 }

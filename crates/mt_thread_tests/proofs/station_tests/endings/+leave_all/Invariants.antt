@@ -1,5 +1,0 @@
-use Rattle.std.specs.Prelude.{length}
-use Rattle.mt_thread_tests.proofs.station_tests.endings.+leave_all.Given as goal
-
-abbrev pub decreases-leave_all : goal.decreases-leave_all
-decreases-leave_all g l = length l.waiting.now.items
