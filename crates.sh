@@ -1,5 +1,5 @@
-# Functions of ./build and library/rt-lib. Beside these $top is the top of the repository, $name a crate, $crates its closure, and
-# $room an empty folder.
+# Functions of ./build, programs.sh and library/rt-lib. Beside these $top is the top of the repository, $name a crate, $crates its
+# closure, $program the program that is built of it, and $room an empty folder.
 
 # The crates that $name stands on, itself included, by the lines `NAME: DEP DEP ..` of crates.txt.
 closure() {
@@ -28,4 +28,17 @@ copy() {
         done
         grep "^$crate[ :]" "$top/crates.txt" >>"$room/repo/crates.txt" || return 1
     done
+}
+
+# Whether the program is built, and no source is newer than it.
+is_built() {
+    [ -x "$program" ] && [ -z "$(newer)" ]
+}
+
+newer() {
+    set -- "$top/crates.txt"
+    for crate in $crates; do
+        set -- "$@" "$top/crates/$crate"/*
+    done
+    find "$@" \( -name out -o -name must-fail \) -prune -o -newer "$program" -print
 }
