@@ -5,11 +5,12 @@ use Rattle.std.specs.List.{position, position_or_len}
 use Rattle.std.proofs.KnownBytes.{Consumes-trans}
 use Rattle.std.proofs.lemmas.Bool.Decides.{nat_tests}
 use Rattle.std.proofs.lemmas.List.{append-nil}
-use Rattle.mt_text.specs.Text.{end_of, is_line_end}
+use Rattle.mt_text.specs.Text.{is_line_end, place_behind}
 use Rattle.std.specs.Io.KnownBytes.{IsAtEnd}
 use Rattle.mt_text.specs.declared.place.Place.{Place}
 use Rattle.mt_text.specs.Feed.{Drops, Feeding, FeedMoves, PassesOver, Stops, TakesMore, draw, known_at, known_front, moved_on, place_after, taken, with_end}
 use Rattle.mt_text.specs.declared.fault.FeedFault.{FeedFault}
+use Rattle.mt_text.proofs.EndPlace.{place_behind-append}
 use Rattle.mt_text.specs.declared.fault.FeedFault.TheVariants.{ReadFault}
 
 position_below : (bytes : List ℕ) (at : ℕ) → position is_line_end bytes ≡ Some at → at < length bytes
@@ -140,7 +141,7 @@ drops_more start now after new left between right given_before given_between giv
         (
           gone ++ passed,
           sym (append_assoc start.pending before more) ∙ ap (λ l. l ++ more) (seen ∙ ap (λ l. gone ++ l) whole) ∙ ap (λ l. (gone ++ passed) ++ l) (sym more_is),
-          λ past begins. place ∙ behind (past ++ gone) (at past begins) ∙ ap end_of (append_assoc past gone passed),
+          place ∙ behind ∙ ap (λ p. place_behind p passed) at ∙ sym (place_behind-append gone passed start.place),
         ),
       ),
     )

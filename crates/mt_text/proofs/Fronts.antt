@@ -5,10 +5,10 @@ use Rattle.std.specs.List.{before_first, position, position_or_len}
 use Rattle.std.proofs.lemmas.Bool.{cases_Bool}
 use Rattle.std.proofs.lemmas.Bool.Decides.{nat_tests}
 use Rattle.std.proofs.lemmas.List.{length-take-le}
-use Rattle.mt_text.specs.Text.{is_line_end, lines_of, end_of}
+use Rattle.mt_text.specs.Text.{is_line_end, lines_of, end_of, place_behind}
 use Rattle.mt_text.specs.Feed.{IsFront, known_front, place_after, with_end}
 use Rattle.mt_text.specs.declared.place.Place.{Place}
-use Rattle.mt_text.proofs.EndPlace.{end_from, place_behind}
+use Rattle.mt_text.proofs.EndPlace.{place_behind-end}
 use Rattle.mt_text.proofs.LineSteps.{ended_line, last_line}
 use Rattle.mt_text.proofs.Places.{position_within}
 
@@ -122,7 +122,7 @@ long_front rest count is = elim (told rest (count, false) is) [
 ]
 
 -- the place after a front
-after_line : (seen : List ℕ) (place : Place) → reach seen < length seen → end_from place (take (reach seen + 1) seen) ≡ place_after place (reach seen, true)
+after_line : (seen : List ℕ) (place : Place) → reach seen < length seen → place_behind place (take (reach seen + 1) seen) ≡ place_after place (reach seen, true)
 after_line [] place some = absurd (omega arith)
 after_line (x ∷ xs) place some = elim (cases_Bool (is_line_end x)) [
   | inl hit ↦ rw hit (rw hit refl)
@@ -133,7 +133,7 @@ after_line (x ∷ xs) place some = elim (cases_Bool (is_line_end x)) [
       rw count (rw miss later)
 ]
 
-after_bytes : (count : ℕ) (seen : List ℕ) (place : Place) → count ≤ reach seen → end_from place (take count seen) ≡ place_after place (count, false)
+after_bytes : (count : ℕ) (seen : List ℕ) (place : Place) → count ≤ reach seen → place_behind place (take count seen) ≡ place_after place (count, false)
 after_bytes zero seen place few = let same : place.column ≡ place.column + 0 = omega arith in ap (λ n. let p : Place = record { line = place.line; column = n } in p) same
 after_bytes (suc count) [] place few = absurd (omega arith)
 after_bytes (suc count) (x ∷ xs) place few = elim (cases_Bool (is_line_end x)) [
@@ -145,7 +145,7 @@ after_bytes (suc count) (x ∷ xs) place few = elim (cases_Bool (is_line_end x))
       rw miss (later ∙ ap (λ n. let p : Place = record { line = place.line; column = n } in p) sum)
 ]
 
-after_front : (seen : List ℕ) (left : Option (List ℕ)) (front : ℕ × Bool) (place : Place) → IsFront seen left front → end_from place (take (with_end front) seen) ≡ place_after place front
+after_front : (seen : List ℕ) (left : Option (List ℕ)) (front : ℕ × Bool) (place : Place) → IsFront seen left front → place_behind place (take (with_end front) seen) ≡ place_after place front
 after_front seen left front place (inl known) = elim (told seen front known) [
   | inl near_by ↦ rw near_by.0 (after_line seen place near_by.1)
   | inr away ↦ rw away.0 (after_bytes 4097 seen place away.1)
@@ -155,4 +155,4 @@ after_front seen left front place (inr last) =
     rw (last.3, count) (after_bytes (length seen) seen place (omega (arith, untold seen last.0)))
 
 pub place_of_front : (before seen : List ℕ) (left : Option (List ℕ)) (front : ℕ × Bool) → IsFront seen left front → place_after (end_of before) front ≡ end_of (before ++ take (with_end front) seen)
-place_of_front before seen left front is = sym (after_front seen left front (end_of before) is) ∙ place_behind before (take (with_end front) seen) (end_of before) refl
+place_of_front before seen left front is = sym (after_front seen left front (end_of before) is) ∙ place_behind-end before (take (with_end front) seen) (end_of before) refl

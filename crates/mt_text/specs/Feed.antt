@@ -5,7 +5,7 @@
 -- A line of more than 4,096 bytes is lent in its first 4,097; what follows them stays pending.
 use Rattle.std.specs.Prelude.{ℕ, ◌+◌, ◌≡◌, ◌≤◌, ◌<◌, ◌⊎◌, ◌↔◌, ◌++◌, ◌&&◌, ◌==◌, nat_lt, not, Bool, true, false, List, [], ◌∷◌, length, take, drop, position, slice_range, if◌then◌else◌, Option, Some, None, Result, MatchResult, MatchOption}
 use Rattle.std.specs.Io.KnownBytes.{Consumes, IsAtEnd, Keeps}
-use Rattle.mt_text.specs.Text.{end_of, is_line_end, is_too_long, lines_of, longest_input, longest_line}
+use Rattle.mt_text.specs.Text.{is_line_end, is_too_long, lines_of, longest_input, longest_line, place_behind}
 use Rattle.mt_text.specs.declared.line.Line.{Line}
 use Rattle.mt_text.specs.declared.place.Place.{Place}
 use Rattle.mt_text.specs.declared.fault.FeedFault.{FeedFault}
@@ -94,10 +94,9 @@ abbrev pub MovesPending : Feeding → Feeding → Bool → Type 0
 MovesPending old new true = (front : ℕ × Bool) × (known_front old.pending ≡ Some front) × (old.fault ≡ None) × (new ≡ moved_on old front)
 MovesPending old new false = (new ≡ old) × (old.fault ≡ None → known_front old.pending ≡ None)
 
--- A call has passed over the first of these bytes, and the others are pending. The place is the one after those that it has passed over.
+-- A call has passed over the first of these bytes, and the others are pending. Its place is the one behind those that it has passed over.
 abbrev pub PassesOver : Feeding → Feeding → List ℕ → Type 0
-PassesOver old new seen =
-    (passed : List ℕ) × (seen ≡ passed ++ new.pending) × ((gone : List ℕ) → old.place ≡ end_of gone → new.place ≡ end_of (gone ++ passed))
+PassesOver old new seen = (passed : List ℕ) × (seen ≡ passed ++ new.pending) × (new.place ≡ place_behind old.place passed)
 
 -- after a call that took these bytes off its source, and lent none of them
 abbrev pub Drops : Feeding → Feeding → List ℕ → Type 0

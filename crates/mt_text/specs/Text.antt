@@ -100,6 +100,13 @@ abbrev pub after_line_ends : List ℕ → List ℕ
 after_line_ends [] = []
 after_line_ends (byte ∷ bytes) = if list_any is_line_end (byte ∷ bytes) then after_line_ends bytes else byte ∷ bytes
 
+-- the place after bytes that begin at a place
+abbrev pub place_behind : Place → List ℕ → Place
+place_behind place [] = place
+place_behind place (byte ∷ bytes) =
+    if is_line_end byte then place_behind (record { line = place.line + 1; column = 1 }) bytes
+    else place_behind (record { line = place.line; column = place.column + 1 }) bytes
+
 -- the place after the last byte
 abbrev pub end_of : List ℕ → Place
 end_of text = record { line = count_by is_line_end text + 1; column = length (after_line_ends text) + 1 }

@@ -9,7 +9,7 @@ ghost use Rattle.mt_text.specs.contracts.feed.Feed.{the_row};
 ghost use Rattle.mt_text.specs.declared.fault.FeedFault.{FeedFault};
 
 use crate::buffer::Buffer;
-use crate::line::{LONGEST, line_end, place_after};
+use crate::line::{LONGEST, line_end, place_behind};
 use crate::{FeedFault, Line, Place};
 use mt_ports::Source;
 use std::marker::Model;
@@ -122,7 +122,7 @@ impl Feed {
         ensures fault { self.new.fault ≡ self.old.fault }
     {
         let pending = self.buffer.pending();
-        let (count, place) = (pending.len(), place_after(self.place, pending));
+        let (count, place) = (pending.len(), place_behind(self.place, pending));
         self.pass(count, false);
         self.place = place;
     }
@@ -215,7 +215,7 @@ impl Feed {
         }
     }
 
-    /// Drops the pending bytes and all that the source has left. `end` then returns the place after them.
+    /// Drops the pending bytes and all that the source has left. If that succeeds, `end` returns the place after them.
     pub fn drain<S: Source>(&mut self, source: &mut S) -> Result<(), FeedFault>
         ensures bytes { TakesMore (drawn S.left S.given source.old source.new) (Drops self.old self.new) }
         ensures end { IfOk result (λ _. IsAtEnd (S.left source.new) × (self.new.pending ≡ []) × (self.new.fault ≡ None)) }

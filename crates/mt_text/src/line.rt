@@ -1,4 +1,4 @@
-ghost use Rattle.std.specs.Prelude.{◌≡◌, ◌≤◌, ◌<◌, ◌+◌, ◌^◌, ◌↔◌, ◌∷◌, ◌++◌, ℕ, List, length, drop, take, min, IsNone, IfSome, IsTrue, position};
+ghost use Rattle.std.specs.Prelude.{◌≡◌, ◌≤◌, ◌<◌, ◌+◌, ◌^◌, ◌↔◌, ◌∷◌, length, drop, take, min, IsNone, IfSome, IsTrue, position};
 ghost use Rattle.std.specs.List.{before_first, position_or_len};
 
 use crate::Place;
@@ -14,7 +14,7 @@ pub struct Line<'a> {
     pub ghost within: { offset + length bytes.now ≤ next },
 }
 
-ghost use Rattle.mt_text.specs.Text.{is_line_end, lines_of, longest_line, past_limit, end_of, words_at, StandInOrder};
+ghost use Rattle.mt_text.specs.Text.{is_line_end, lines_of, longest_line, past_limit, end_of, place_behind, words_at, StandInOrder};
 
 /// The bytes of the longest line that is read.
 pub const LONGEST: usize = 4096;
@@ -62,10 +62,10 @@ pub fn next_line<'a>(source: &'a [u8], from: usize, number: u64) -> Option<Line<
 }
 
 /// The place after bytes that begin at this place.
-pub(crate) fn place_after(start: Place, bytes: &[u8]) -> Place
+pub(crate) fn place_behind(start: Place, bytes: &[u8]) -> Place
     requires lines { start.line + length bytes.now < 2 ^ 64 }
     requires columns { start.column + length bytes.now < 2 ^ 64 }
-    ensures value { (gone : List ℕ) → start ≡ end_of gone → result ≡ end_of (gone ++ bytes.now) }
+    ensures value { result ≡ place_behind start bytes.now }
     ensures lines { result.line ≤ start.line + length bytes.now }
     ensures columns { result.column ≤ start.column + length bytes.now }
 {
@@ -90,7 +90,7 @@ pub(crate) fn place_after(start: Place, bytes: &[u8]) -> Place
 pub fn end_place(source: &[u8]) -> Place
     ensures { result ≡ end_of source.now }
 {
-    place_after(Place { line: 1, column: 1 }, source)
+    place_behind(Place { line: 1, column: 1 }, source)
 }
 
 impl<'a> Line<'a> {

@@ -5,6 +5,7 @@ use Rattle.mt_text.specs.Feed.{Drops, Feeding, IsLong, Lines, TakesMore, draw}
 use Rattle.mt_text.specs.Text.{end_of}
 use Rattle.mt_text.specs.declared.fault.FeedFault.{FeedFault}
 use Rattle.mt_text.specs.declared.line.Line.{Line}
+use Rattle.mt_text.proofs.EndPlace.{place_behind-end}
 use Rattle.mt_text.proofs.Lent.{lends_lines, moves_on, passes, within_limit}
 
 pub moves_place : (old new : Feeding) (gone before after : List ℕ) (given_before given_after : ℕ) (result : Result (Option Line) FeedFault) → old.place ≡ end_of gone → Lines old new (draw (Some before) (Some after) given_before given_after) result
@@ -20,12 +21,18 @@ ends_at old new gone before after given_before given_after at lines =
     let none : old.pending ++ before ≡ [] = (lends_lines old new before (Some after) given_before given_after (Ok None) lines).2.0 in
     lines.3.0.4 ∙ at ∙ ap end_of (sym (append-nil gone) ∙ ap (λ (l : List ℕ). gone ++ l) (sym none))
 
+-- what a drain has passed over
+pub drops_place : (old new : Feeding) (gone more : List ℕ) → old.place ≡ end_of gone → Drops old new more
+    → (passed : List ℕ) × (old.pending ++ more ≡ passed ++ new.pending) × (new.place ≡ end_of (gone ++ passed))
+drops_place old new gone more at (counted, (passed, seen, behind)) = (passed, seen, behind ∙ place_behind-end gone passed old.place at)
+
 -- all that was left has been dropped
 pub drained_at : (old new : Feeding) (gone before : List ℕ) (given_before given_after : ℕ) → old.place ≡ end_of gone → TakesMore (draw (Some before) (Some []) given_before given_after) (Drops old new) → new.pending ≡ []
     → new.place ≡ end_of (gone ++ (old.pending ++ before))
-drained_at old new gone before given_before given_after at (more, takes, given, (counted, (passed, seen, behind))) none =
+drained_at old new gone before given_before given_after at (more, takes, given, drops) none =
+    let (passed, seen, is) = drops_place old new gone more at drops in
     let all : passed ≡ old.pending ++ before = sym (append-nil passed) ∙ ap (λ l. passed ++ l) (sym none) ∙ sym seen ∙ ap (λ l. old.pending ++ l) (sym (append-nil more) ∙ sym takes) in
-    behind gone at ∙ ap (λ l. end_of (gone ++ l)) all
+    is ∙ ap (λ l. end_of (gone ++ l)) all
 
 pub falls : (old new : Feeding) (before left : Option (List ℕ)) (given_before given_after : ℕ) (line : Line) → old.fault ≡ None → IsLong old → Lines old new (draw before left given_before given_after) (Ok (Some line))
     → 16777217 - new.offset < 16777217 - old.offset

@@ -1,7 +1,7 @@
 use Rattle.std.proofs.Common.{◌≡◌, ◌∙◌, ◌+◌, ◌++◌, [], ap, sym, length, arith, append-nil}
 use Rattle.std.proofs.lemmas.List.{length-drop}
 use Rattle.mt_text.specs.Feed.{pending}
-use Rattle.mt_text.specs.Text.{end_of}
+use Rattle.mt_text.specs.Text.{place_behind}
 use Rattle.mt_text.proofs.Feeding.{length-zero}
 use Rattle.mt_text.proofs.feed.Feed.pass_all.Goals as goal
 
@@ -13,5 +13,5 @@ returns-clause-passes c =
     length-zero _ (omega (arith, length-drop (length c.pending-pending.result.now + 0) c.args.self.now.pending, ap length was, left)) in (
       c.args.self.now.pending,
       sym (append-nil c.args.self.now.pending) ∙ ap (λ l. c.args.self.now.pending ++ l) (sym none),
-      λ gone at. c.place_after-place.ensures.value gone (ap (λ f. f.place) c.self.view_is ∙ at) ∙ ap (λ l. end_of (gone ++ l)) was,
+      c.place_behind-place.ensures.value ∙ ap (λ l. place_behind c.self.inside.place l) was ∙ ap (λ f. place_behind f.place c.args.self.now.pending) c.self.view_is,
     )
