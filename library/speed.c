@@ -1,8 +1,8 @@
-/* Calls mtrr_tidy and EDK2's solver on the registers that a line of standard input has, as judges/judge.c reads it. Prints how many
+/* Calls mtrr_tidy and EDK2's solver on the registers that a line of standard input has, as tools/peers/judge.c reads it. Prints how many
  * pairs each needs and, of so many rounds as are asked for, the least ticks of a call. Built by library/speed. */
 #include <stdio.h>
 #include "mtrr.h"
-#include "../judges/edk2.c"
+#include "../tools/peers/edk2.c"
 
 static struct mtrr_registers file;
 static struct mtrr_need need;

@@ -2,7 +2,7 @@
 import bisect
 import functools
 
-from definitions import UC, WB, WT
+from second_reading import UC, WB, WT
 
 NEVER = 1 << 20
 

@@ -1,6 +1,6 @@
 """Register files, and what docs/MODEL.md says of them, read once more in Python: a second reader beside the program.
 
-A `Reading` may have a plant: one cell that is wrong. `./peers -x NAME` puts such a reading in the program's place."""
+A `Reading` may have a plant: one cell that is wrong. `tools/peers/run -x NAME` puts such a reading in the program's place."""
 from functools import cached_property
 
 UC, WC, WT, WP, WB, UC_MINUS = 0, 1, 4, 5, 6, 7

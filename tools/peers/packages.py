@@ -84,7 +84,7 @@ class Apt:
         version = self.version(package)
         had = self.had(package)
         if version not in had:
-            raise Unavailable(f"{package} {version} can't be had; Debian has {', '.join(had) or 'none'} now. ./peers -u takes its newest, "
+            raise Unavailable(f"{package} {version} can't be had; Debian has {', '.join(had) or 'none'} now. tools/peers/run -u takes its newest, "
                               "for which docs/PEERS.md has no figures")
         print(f"peers: fetching the source of {package} {version}", file=sys.stderr)
         ran = self.run("apt-get", "-qq", "source", "--download-only", "--only-source", f"{package}={version}", cwd=folder)

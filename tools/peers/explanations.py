@@ -1,5 +1,5 @@
 """What `mtrr-explain` says of a file, and what the definitions have, in one form."""
-from definitions import NAMES, UNDEFINED, parts_of
+from second_reading import NAMES, UNDEFINED, parts_of
 
 PROBLEMS = {"reserved bit": "reserved bits are set", "unsupported type": "no type", "broken mask": "the mask has a gap"}
 

@@ -4,7 +4,7 @@ import os
 import re
 import sys
 
-TOP = os.path.dirname(os.path.abspath(__file__))
+TOP = os.path.dirname(os.path.dirname(os.path.abspath(__file__)))
 ROWS = os.path.join(TOP, "examples", "rows")
 ESCAPE = re.compile(rb"\\(?:x([0-9a-f]{2})|(.?))", re.DOTALL)
 PLAIN = {b"\\": b"\\", b"t": b"\t", b"r": b"\r"}

@@ -1,4 +1,4 @@
-"""Reads the contracts of public functions out of crates/*/src. `./clauses` and `./proved` share it."""
+"""Reads the contracts of public functions out of crates/*/src. `clauses` and `proved` share it."""
 import dataclasses
 import itertools
 import pathlib

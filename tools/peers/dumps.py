@@ -1,7 +1,7 @@
 """The text of dumps, by docs/FORMATS.md, "Dump text"; which fault a bad text has isn't looked at."""
 import re
 
-from definitions import CAP, Registers
+from second_reading import CAP, Registers
 
 WIDTH = "maxphyaddr"
 

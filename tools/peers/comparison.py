@@ -6,7 +6,6 @@ import subprocess
 from collections import Counter
 from concurrent.futures import ThreadPoolExecutor
 
-from definitions import BYTES, COLUMNS, E, FE, FIX, MEMORY_TYPES, NAMES, OVERLAP, VALID, Registers
 from differences import Tally, compare_allowed, compare_types, effective_name, shown
 from draw import Draw, hard_maps, pages_of, value_of
 from dumps import dump_of
@@ -15,6 +14,7 @@ from pairs import MOST, SAME_MAP, USUAL, Least, PairsTally, other_map_name, word
 from program import runs_of
 from roster import JUDGES
 from row_files import all_files, rows_of
+from second_reading import BYTES, COLUMNS, E, FE, FIX, MEMORY_TYPES, NAMES, OVERLAP, VALID, Registers
 
 BATCH = 500
 PARTS = ("texts", "files", "effective", "pairs")

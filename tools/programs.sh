@@ -3,7 +3,7 @@
 # `rt try` compiles and runs it without a proof, with the same text and status, and a line on standard error says so. The status is 70
 # if that doesn't work. Every other status is the program's.
 top=$(cd "$(dirname "$0")" && pwd) || exit 70
-. "$top/crates.sh" || exit 70
+. "$top/tools/crates.sh" || exit 70
 
 # Sets the seconds that a run takes without a proof, and the minutes that ./build takes if nothing is kept, on four quiet processors.
 costs() {

@@ -7,7 +7,7 @@ import subprocess
 import tempfile
 import threading
 
-from definitions import BYTES, Reading
+from second_reading import BYTES, Reading
 
 TIMEOUT = 120  # seconds
 

@@ -3,7 +3,7 @@ import threading
 from collections import Counter
 from functools import cached_property
 
-from definitions import (
+from second_reading import (
     BROKEN, CAP_WC, COLUMNS, DEF_TYPE, E, EFFECTIVE, FE, FIX, FIXED, MEMORY_TYPES, NAMES, OVERLAP, PAT, RESERVED, UC, UC_MINUS,
     UNDEFINED, UNSUPPORTED, VALID, WB, WC, WP, WT, Range, parts_of,
 )

@@ -1,7 +1,7 @@
 """Random register files, by kind, and the pages of a file at which judges are asked. A seed determines them."""
 import random
 
-from definitions import (
+from second_reading import (
     CAP_WC, DEF_TYPE, E, FE, FIX, FIXED, MEMORY_TYPES, PAT, PAT_TYPES, POWER_UP_PAT, UC, VALID, WB, WC, WT, Registers, pair_of,
     ranges_of,
 )

@@ -1,4 +1,4 @@
-"""Reads the definitions in crates/*/specs, and follows what they cite. `./proved` uses it."""
+"""Reads the definitions in crates/*/specs, and follows what they cite. `proved` uses it."""
 import dataclasses
 import pathlib
 import re

@@ -1,11 +1,11 @@
-"""Wrong answers, each put in the place of the program's own. `./peers -x all` shows which of them the table names."""
+"""Wrong answers, each put in the place of the program's own. `tools/peers/run -x all` shows which of them the table names."""
 import re
 from collections import namedtuple
 
-from definitions import E, FE, FIX, NAMES, OVERLAP, UC, UNDEFINED, VALID, Reading, largest_overlap
 from dumps import dump_of
 from pairs import MOST, USUAL
 from program import Program
+from second_reading import E, FE, FIX, NAMES, OVERLAP, UC, UNDEFINED, VALID, Reading, largest_overlap
 
 # What the program was asked, and wrote with which status; `ask` asks it of the same file with other words.
 Answer = namedtuple("Answer", "ask words registers text status")

@@ -2,9 +2,9 @@
 import re
 from collections import Counter
 
-from definitions import UC, VALID, WC, largest_overlap
 from differences import Tally
 from dumps import dump_of
+from second_reading import UC, VALID, WC, largest_overlap
 from solver import Solver
 
 MOST, USUAL = 1 << 52, 1 << 28  # chunks: the largest, and the default of `tidy`
