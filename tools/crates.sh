@@ -1,4 +1,4 @@
-# Functions of ./build, programs.sh, wrong/try and library/rt-lib. Beside these $top is the top of the repository, $name a crate, $crates its
+# Functions of ./build, run-program, wrong/try and library/rt-lib. Beside these $top is the top of the repository, $name a crate, $crates its
 # closure, $program the program that is built of it, and $room an empty folder.
 
 # The crates that $name stands on, itself included, by the lines `NAME: DEP DEP ..` of crates.txt.
