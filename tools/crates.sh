@@ -1,5 +1,5 @@
-# Functions of ./build, run-program, wrong/try and library/rt-lib. Beside these $top is the top of the repository, $name a crate, $crates its
-# closure, $program the program that is built of it, and $room an empty folder.
+# Functions of ./build, .ci/run, run-program, wrong/try and library/rt-lib. $top is the top of the repository, $name a crate, $crates
+# its closure, $program the program that is built of it, and $room an empty folder.
 
 # The crates that $name stands on, itself included, by the lines `NAME: DEP DEP ..` of crates.txt.
 closure() {
@@ -37,8 +37,15 @@ is_built() {
 
 newer() {
     set -- "$top/crates.txt"
+    [ ! -e "$top/out/toolchain" ] || set -- "$@" "$top/out/toolchain"
     for crate in $crates; do
         set -- "$@" "$top/crates/$crate"/*
     done
     find "$@" \( -name out -o -name must-fail \) -prune -o -newer "$program" -print
+}
+
+# Writes the toolchain's version to out/toolchain, unless it is there already. So this file is older than what this toolchain built.
+note_toolchain() {
+    version=$(rt version 2>/dev/null) || return 0
+    [ "$version" = "$(cat "$top/out/toolchain" 2>/dev/null)" ] || { mkdir -p "$top/out" && echo "$version" >"$top/out/toolchain"; }
 }
