@@ -28,9 +28,13 @@
 #ifndef MTRR_H
 #define MTRR_H
 
-/* The first rises when a call, a struct or a number changes, the second when one is added. */
-#define MTRR_VERSION_MAJOR 2
+/* The version. */
+#define MTRR_VERSION_MAJOR 1
 #define MTRR_VERSION_MINOR 0
+#define MTRR_VERSION_PATCH 0
+
+/* Rises when a call, a struct or a number changes or goes: then callers are compiled again. */
+#define MTRR_ABI 2
 
 #if defined(__KERNEL__) /* Linux, which has no <stdint.h> */
 #include <linux/stddef.h>
