@@ -33,7 +33,7 @@ def run(words, **options):
 
 
 class Apt:
-    """An apt with folders and source lines of its own, which leaves the system's alone. It has the pinned versions, or the newest."""
+    """An apt with folders and source lines of its own, which leaves the system's alone."""
 
     def __init__(self, is_newest=False):
         self.is_newest, self.used = is_newest, {}
@@ -66,8 +66,11 @@ class Apt:
         return sorted(set(re.findall(r"^Version: (.*)$", self.run("apt-cache", "showsrc", "--only-source", package).stdout, re.M)))
 
     def version(self, package):
+        """The version of docs/PEERS.md if it is in the cache or Debian still has it, and the newest isn't asked for; else Debian's newest."""
         if package not in self.used:
-            self.used[package] = self.newest(package) if self.is_newest else VERSIONS[package]
+            pinned = VERSIONS[package]
+            is_taken = not self.is_newest and (any((CACHE / f"{package}_{pinned}").glob("*.dsc")) or pinned in self.had(package))
+            self.used[package] = pinned if is_taken else self.newest(package)
         return self.used[package]
 
     def newest(self, package):
@@ -75,6 +78,8 @@ class Apt:
         for version in self.had(package):
             if run(["dpkg", "--compare-versions", version, "gt", newest]).returncode == 0:
                 newest = version
+        if newest == "0":
+            raise Unavailable(f"Debian has no source of {package}")
         if newest != VERSIONS[package]:
             print(f"peers: {package} {newest} in place of {VERSIONS[package]}, of which docs/PEERS.md speaks", file=sys.stderr)
         return newest
@@ -82,10 +87,6 @@ class Apt:
     def fetch(self, package, folder):
         """Downloads the files of the version in use into the folder."""
         version = self.version(package)
-        had = self.had(package)
-        if version not in had:
-            raise Unavailable(f"{package} {version} can't be had; Debian has {', '.join(had) or 'none'} now. tools/peers/run -u takes its newest, "
-                              "for which docs/PEERS.md has no figures")
         print(f"peers: fetching the source of {package} {version}", file=sys.stderr)
         ran = self.run("apt-get", "-qq", "source", "--download-only", "--only-source", f"{package}={version}", cwd=folder)
         if ran.returncode != 0:
