@@ -5,6 +5,7 @@ written are rows of mtrr."""
 import glob
 import os
 import re
+import sys
 
 from row_files import TOP, Row, bytes_of
 
@@ -86,6 +87,8 @@ def readings_of(log, registers):
 
 def readings():
     logs = sorted(glob.glob(os.path.join(TOP, "examples", "logs", "*.log")))
+    if not logs:
+        sys.exit("log_rows: examples/logs has no log")
     dumps = {log: os.path.join(TOP, "examples", os.path.basename(log).split(".")[0] + ".dump") for log in logs}
     registers = {dump: registers_of(dump) for dump in dumps.values()}
     shown = [Reading(dump, "mtrr", ["show"], [], text_of(values)) for dump, values in registers.items()]

@@ -9,6 +9,7 @@ import struct
 import subprocess
 import tempfile
 import termios
+import threading
 
 TIMEOUT = 120
 MASK = (1 << 64) - 1
@@ -48,6 +49,7 @@ KNOWN = [
         ],
         3,
     ),
+    ("mtrr", b"check", [(b"x\n0fe 508\n", b""), (b"", b"bad text 1:1 bad line\n")], 3),
     ("mtrr", b"replay", [(b"end\n", b"bad text 1:1 bad line\n"), (b"cpus 2\n", b"")], 3),
     ("mtrr", b"replay", [(b"end", b""), (b"", b"bad text 1:1 bad line\n")], 3),
     (
@@ -81,12 +83,15 @@ def run_of_failing_read(words, data, size):
     theirs.send(b".")
     with subprocess.Popen(words, stdin=theirs, stdout=subprocess.PIPE, stderr=subprocess.DEVNULL) as ran:
         theirs.close()
+        killer = threading.Timer(TIMEOUT, ran.kill)
+        killer.start()
         with ours, contextlib.suppress(ConnectionError):
             for start in range(0, len(data), size):
                 ours.send(data[start : start + size])
                 while unread(ours) and ran.poll() is None:
                     os.sched_yield()
-        output, _ = ran.communicate(timeout=TIMEOUT)
+        output, _ = ran.communicate()
+        killer.cancel()
     return ran.returncode, output
 
 
