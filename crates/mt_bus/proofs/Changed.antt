@@ -6,7 +6,7 @@ use Rattle.mt_machine.specs.Memory.{Memory}
 use Rattle.mt_machine.specs.System.{Processor, System, change, lines_of}
 use Rattle.mt_cache.specs.declared.line.CacheLine.{CacheLine}
 use Rattle.mt_laws.proofs.Words.AccessLaws.{change_at}
-use Rattle.mt_bus.specs.Parts.{system, with_changed, without_memory}
+use Rattle.mt_laws.specs.Parts.{system, with_changed, without_memory}
 
 -- the processor of a place within
 pub processor_of : (ps : List Processor) (k : ℕ) → k < length ps → (p : Processor) × (slice_get ps k ≡ Some p)

@@ -11,7 +11,7 @@ use Rattle.mt_machine.specs.Memory.{Memory, write_back, write_back_of}
 use Rattle.mt_machine.specs.System.{Processor, System, buffers_of, change}
 use Rattle.mt_machine.specs.Bus.{combine, drain_line, empty_buffer, empty_if_whole, make_buffer_room, with_buffers, with_lines}
 use Rattle.mt_laws.proofs.Words.AccessLaws.{change_at}
-use Rattle.mt_bus.specs.Parts.{buffers_in, system, with_changed, written_back}
+use Rattle.mt_laws.specs.Parts.{buffers_in, system, with_changed, written_back}
 use Rattle.mt_bus.proofs.Changed.{changed_is, changed_later, changed_there, processor_of, set_there}
 
 -- ---- emptying a buffer and changing a processor's buffers commute

@@ -1,30 +1,16 @@
--- What the emptying of a buffer leaves alone, and that a processor without buffers stays as it is.
-use Rattle.std.proofs.Common.{◌≡◌, ◌∙◌, ap, sym, refl, ℕ, zero, suc, ◌+◌, ◌<◌, List, [], ◌∷◌, length, map, drop, Option, Some, slice_get, slice_set}
-use Rattle.std.proofs.lemmas.List.{drop_more, nil_from_length, set-get_or}
-use Rattle.std.proofs.lemmas.Option.{get_or_from_slice_get, slice_get_within}
+-- A processor without buffers stays as it is.
+use Rattle.std.proofs.Common.{◌≡◌, ◌∙◌, ap, sym, ℕ, ◌<◌, List, [], length, Option, Some, slice_get, slice_set}
+use Rattle.std.proofs.lemmas.List.{nil_from_length, set-get_or}
+use Rattle.std.proofs.lemmas.Option.{get_or_from_slice_get}
 use Rattle.std.specs.List.{fold}
 use Rattle.std.specs.Option.{option_map_or}
 use Rattle.mt_cache.specs.declared.line.CacheLine.{CacheLine}
-use Rattle.mt_cache.specs.Lines.{change_line, clean_line, without_line}
 use Rattle.mt_machine.specs.Memory.{Memory}
 use Rattle.mt_machine.specs.System.{Processor, System, buffers_of, change}
-use Rattle.mt_machine.specs.Bus.{drain, empty_buffer, with_buffers, with_lines}
+use Rattle.mt_machine.specs.Bus.{drain, empty_buffer, with_buffers}
 use Rattle.mt_laws.proofs.Words.AccessLaws.{change_at}
-use Rattle.mt_bus.specs.Parts.{buffers_in, system}
+use Rattle.mt_laws.specs.Parts.{buffers_in, system}
 use Rattle.mt_bus.proofs.Changed.{processor_of}
-
-pub drop_at : {X : Type 0} (xs : List X) (i : ℕ) (x : X) → slice_get xs i ≡ Some x → drop i xs ≡ x ∷ drop (i + 1) xs
-drop_at xs i x at = drop_more xs i x (slice_get_within xs i x at) ∙ ap (λ y. y ∷ drop (i + 1) xs) (get_or_from_slice_get xs i x x at)
-
-kept_by_map : (f : List CacheLine → List CacheLine) (ps : List Processor) (k : ℕ) → buffers_in k (map (with_lines f) ps) ≡ buffers_in k ps
-kept_by_map f [] k = refl
-kept_by_map f (p ∷ ps) zero = refl
-kept_by_map f (p ∷ ps) (suc k) = kept_by_map f ps k
-
-pub kept_buffers : (s : System) (b : CacheLine) (k : ℕ) → buffers_of (empty_buffer s b) k ≡ buffers_of s k
-kept_buffers s b k =
-    kept_by_map (without_line b.number) (map (with_lines (change_line b.number clean_line)) s.processors) k
-    ∙ kept_by_map (change_line b.number clean_line) s.processors k
 
 pub no_buffers : (ps : List Processor) (m : Memory) (k count : ℕ) → k < length ps → count ≡ length (buffers_in k ps) → count ≡ 0 → system ps m ≡ drain k (system ps m)
 no_buffers ps m k count within counted none =

@@ -17,7 +17,7 @@ use Rattle.mt_machine.specs.Bus.{with_lines}
 use Rattle.mt_laws.proofs.Barrier.Ranks.{and_left, and_right}
 use Rattle.mt_laws.proofs.Clearing.Renewed.{at_change}
 use Rattle.mt_laws.proofs.Words.LineLists.{KeepsNumber, find_miss, passes_append, passes_changed, passes_without}
-use Rattle.mt_bus.specs.Parts.{lines_in, with_changed, without_memory}
+use Rattle.mt_laws.specs.Parts.{lines_in, with_changed, without_memory}
 use Rattle.mt_bus.specs.Holders.{AreHeldBy, Covers, CoversBut, CoversOthers, IsNowhereElse, all_may, may_hold}
 use Rattle.mt_bus.proofs.Changed.{lent_at}
 use Rattle.mt_bus.proofs.Newcomers.{get_front}

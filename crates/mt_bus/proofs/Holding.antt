@@ -10,7 +10,7 @@ use Rattle.mt_machine.specs.Memory.{word_of}
 use Rattle.mt_machine.specs.System.{Processor}
 use Rattle.mt_machine.specs.Machine.{flush_tlb, own_step}
 use Rattle.mt_machine.specs.Control.{reload_cr3}
-use Rattle.mt_bus.specs.Parts.{with_changed}
+use Rattle.mt_laws.specs.Parts.{with_changed}
 use Rattle.mt_bus.specs.Holders.{AreHeldBy, CoversOthers, all_may}
 use Rattle.mt_bus.proofs.Held.{held_changed, held_emptied, less_changed}
 

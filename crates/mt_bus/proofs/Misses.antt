@@ -9,7 +9,7 @@ use Rattle.mt_machine.specs.Memory.{word_at, word_of}
 use Rattle.mt_machine.specs.System.{Processor, System, lines_of}
 use Rattle.mt_machine.specs.Bus.{bus_read, fill_line, invalidate_others, others_from, with_lines}
 use Rattle.mt_machine.specs.Access.{cache_disabled_of, hit_of, is_cached, load_after}
-use Rattle.mt_bus.specs.Parts.{lines_in}
+use Rattle.mt_laws.specs.Parts.{lines_in}
 use Rattle.mt_bus.proofs.Lines.{change_absent}
 
 mapped_lines : (n : ℕ) (f : CacheLine → CacheLine) (ps : List Processor) (k : ℕ) → lines_in k (map (with_lines (change_line n f)) ps) ≡ change_line n f (lines_in k ps)

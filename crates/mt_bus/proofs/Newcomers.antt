@@ -7,7 +7,7 @@ use Rattle.mt_machine.specs.Bus.{drain}
 use Rattle.mt_machine.specs.ComingAndGoing.{gone, last_number, newcomer_beside, reset}
 use Rattle.mt_laws.proofs.Invariant.Coming.{reset_stays_sound}
 use Rattle.mt_laws.proofs.Invariant.Going.{gone_stays_sound}
-use Rattle.mt_bus.specs.Parts.{system}
+use Rattle.mt_laws.specs.Parts.{system}
 use Rattle.mt_bus.specs.Tables.{AreTablesOf}
 use Rattle.mt_bus.proofs.Tables.{tables_drained}
 

@@ -4,7 +4,7 @@ use Rattle.std.proofs.lemmas.Bool.{eq-eqb}
 use Rattle.std.specs.List.{remove}
 use Rattle.mt_machine.specs.Memory.{Memory, write_back_of}
 use Rattle.mt_machine.specs.System.{Processor}
-use Rattle.mt_bus.specs.Parts.{written_back}
+use Rattle.mt_laws.specs.Parts.{written_back}
 
 -- where the list begins with number i
 abbrev pub others_back : ℕ → ℕ → ℕ → Memory → List Processor → Memory

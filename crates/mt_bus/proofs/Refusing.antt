@@ -15,7 +15,7 @@ use Rattle.mt_machine.specs.declared.done.Done.TheVariants.{Busy, NoRam, Stored,
 use Rattle.mt_machine.specs.Memory.{place}
 use Rattle.mt_machine.specs.System.{IsProcessor, IsSound, Processor, System, change}
 use Rattle.mt_machine.specs.Access.{Answered, access, access_at, address_of, entry_of, is_running, keep_entry, load, new_entry, physical, store, translated, value_answer}
-use Rattle.mt_bus.specs.Parts.{answered}
+use Rattle.mt_laws.specs.Parts.{answered}
 use Rattle.mt_bus.specs.Refusals.{RefusesInOrder, has_address}
 
 memory_kept : (f : Processor → Processor) (k : ℕ) (s : System) → (change f k s).memory ≡ s.memory

@@ -9,7 +9,7 @@ use Rattle.mt_machine.specs.Memory.{Memory, fresh_line, line_words, write_back}
 use Rattle.mt_machine.specs.System.{Processor, System, change}
 use Rattle.mt_machine.specs.Bus.{fill_line, with_lines}
 use Rattle.mt_laws.proofs.Words.AccessLaws.{change_at}
-use Rattle.mt_bus.specs.Parts.{lines_in, system, with_changed}
+use Rattle.mt_laws.specs.Parts.{lines_in, system, with_changed}
 use Rattle.mt_bus.proofs.Changed.{changed_is, changed_there, processor_of, set_there}
 
 -- the clean line is added, and a full cache hands its oldest back

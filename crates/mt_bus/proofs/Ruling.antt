@@ -9,7 +9,7 @@ use Rattle.mt_machine.specs.declared.ruled.Ruled.TheVariants.{Okay, Full, Busy}
 use Rattle.mt_machine.specs.System.{Processor, System, change}
 use Rattle.mt_machine.specs.Control.{control, control_at}
 use Rattle.mt_machine.specs.Access.{is_running}
-use Rattle.mt_bus.specs.Parts.{ruled}
+use Rattle.mt_laws.specs.Parts.{ruled}
 use Rattle.mt_bus.specs.Refusals.{RulesInOrder}
 
 okay : (s t : System) (k : ℕ) (p : Processor) (c : Control) → is_running p.phase ≡ true → ((m : Mapping) → c ≡ Map m → is_full_for m p.mappings ≡ true → ⊥) → RulesInOrder s k p c (ruled Okay t)

@@ -9,7 +9,7 @@ use Rattle.mt_cache.specs.Lines.{change_line, clean_line, find_line, has_number,
 use Rattle.mt_machine.specs.Memory.{Memory, write_back, write_back_of}
 use Rattle.mt_machine.specs.System.{Processor, System}
 use Rattle.mt_machine.specs.Bus.{bus_read, invalidate, invalidate_others, others_from, with_lines, write_back_others}
-use Rattle.mt_bus.specs.Parts.{system, written_back}
+use Rattle.mt_laws.specs.Parts.{system, written_back}
 use Rattle.mt_bus.specs.Holders.{AreHeldBy, IsNowhereElse, may_hold}
 use Rattle.mt_bus.proofs.Changed.{lent_at}
 use Rattle.mt_bus.proofs.Held.{absent}

@@ -19,7 +19,7 @@ use Rattle.mt_laws.proofs.Barrier.Claims.{all_get}
 use Rattle.mt_laws.proofs.Registers.UnderWay.{lines_are_low}
 use Rattle.mt_laws.proofs.Barrier.Stages.{drain_stages}
 use Rattle.mt_laws.proofs.Clearing.Renewed.{is_take, no_take}
-use Rattle.mt_bus.specs.Parts.{system, with_changed}
+use Rattle.mt_laws.specs.Parts.{system, with_changed}
 use Rattle.mt_bus.specs.Steps.{IsDueAlone, tables_after, with_word_of}
 use Rattle.mt_bus.proofs.Changed.{changed_is}
 use Rattle.mt_bus.proofs.Tables.{same_length}

@@ -10,14 +10,10 @@ use Rattle.mt_machine.specs.System.{Processor, System, change}
 use Rattle.mt_machine.specs.Access.{entry_of, keep_entry, physical}
 use Rattle.mt_cpu.specs.Kinds.{AgreesWith, entry_by}
 use Rattle.mt_cpu.proofs.Translations.{entry_same}
-use Rattle.mt_bus.specs.Parts.{entry_in, system, with_changed}
+use Rattle.mt_laws.proofs.Items.{set_same}
+use Rattle.mt_laws.specs.Parts.{entry_in, system, with_changed}
 use Rattle.mt_bus.specs.Tables.{IsTranslatedBy}
 use Rattle.mt_bus.proofs.Changed.{changed_is, changed_there}
-
-set_same : (ps : List Processor) (k : ℕ) (p : Processor) → slice_get ps k ≡ Some p → slice_set ps k p ≡ ps
-set_same [] k p at = absurd (cc)
-set_same (x ∷ ps) zero p at = let e : p ≡ x = cc in ap (λ q. q ∷ ps) e
-set_same (x ∷ ps) (suc k) p at = ap (λ qs. x ∷ qs) (set_same ps k p at)
 
 entered : (ps : List Processor) (k va : ℕ) (p q : Processor) → slice_get ps k ≡ Some p → q ≡ option_map_or (λ e. keep_entry e p) (entry_of p (va / 4096)) p
     → slice_set ps k q ≡ option_map_or (λ e. with_changed (keep_entry e) k ps) (entry_in k va ps) ps

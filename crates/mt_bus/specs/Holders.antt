@@ -7,7 +7,7 @@ use Rattle.mt_cache.specs.declared.line.CacheLine.{CacheLine}
 use Rattle.mt_cache.specs.Counts.{modulus}
 use Rattle.mt_cache.specs.Lines.{find_line}
 use Rattle.mt_machine.specs.System.{Processor}
-use Rattle.mt_bus.specs.Parts.{lines_in}
+use Rattle.mt_laws.specs.Parts.{lines_in}
 
 -- the mask of a line; where there is none any cache may have it
 abbrev pub mask_of : List ℕ → ℕ → ℕ

@@ -1,7 +1,7 @@
 -- When the parts of a system fit each other (own).
 use Rattle.mt_machine.specs.System.{IsSound}
 use Rattle.mt_bus.specs.declared.system_parts.SystemParts.{SystemParts}
-use Rattle.mt_bus.specs.Parts.{system}
+use Rattle.mt_laws.specs.Parts.{system}
 use Rattle.mt_bus.specs.Holders.{AreHeldBy}
 use Rattle.mt_bus.specs.Tables.{AreTablesOf}
 

@@ -2,7 +2,7 @@ ghost use Rattle.std.specs.Prelude.{◌≡◌, ◌<◌, length, slice_get, None,
 ghost use Rattle.std.specs.Option.{option_map, option_map_or};
 ghost use Rattle.mt_machine.specs.Access.{access, is_running, keep_entry, physical};
 ghost use Rattle.mt_machine.specs.System.{Processor, change};
-ghost use Rattle.mt_bus.specs.Parts.{answered, entry_in, is_running_in};
+ghost use Rattle.mt_laws.specs.Parts.{answered, entry_in, is_running_in};
 ghost use Rattle.mt_bus.specs.Tables.{IsTranslatedBy};
 
 use crate::bus::Bus;

@@ -8,7 +8,7 @@ ghost use Rattle.mt_machine.specs.Access.{is_running};
 ghost use Rattle.mt_machine.specs.Bus.{drain};
 ghost use Rattle.mt_machine.specs.Machine.{FitsGoal, common_era};
 ghost use Rattle.mt_machine.specs.ComingAndGoing.{gone, last_number, newcomer_beside, reset, taken_away};
-ghost use Rattle.mt_bus.specs.Parts.{system};
+ghost use Rattle.mt_laws.specs.Parts.{system};
 
 use crate::bus::Bus;
 use crate::system::System;

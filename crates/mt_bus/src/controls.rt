@@ -4,7 +4,7 @@ ghost use Rattle.mt_tlb.specs.Entries.{is_full_for, set_mapping};
 ghost use Rattle.mt_machine.specs.Machine.{FitsControl};
 ghost use Rattle.mt_machine.specs.System.{Processor, change, with_self_snoop};
 ghost use Rattle.mt_machine.specs.Control.{control, drop_page, reload_cr3, set_page_global};
-ghost use Rattle.mt_bus.specs.Parts.{is_running_in, mappings_in, ruled};
+ghost use Rattle.mt_laws.specs.Parts.{is_running_in, mappings_in, ruled};
 
 use crate::bus::Bus;
 use mt_kinds::PAGE_BYTES;

@@ -11,7 +11,7 @@ ghost use Rattle.mt_machine.specs.Machine.{FitsControl};
 ghost use Rattle.mt_machine.specs.Control.{control};
 ghost use Rattle.mt_machine.specs.Bus.{drain};
 ghost use Rattle.mt_machine.specs.Access.{access};
-ghost use Rattle.mt_bus.specs.Parts.{system};
+ghost use Rattle.mt_laws.specs.Parts.{system};
 ghost use Rattle.mt_bus.specs.Tables.{AreTablesOf};
 ghost use Rattle.mt_bus.specs.Whole.{IsWhole};
 

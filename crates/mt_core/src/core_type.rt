@@ -13,7 +13,7 @@ ghost use Rattle.mt_machine.specs.Machine.{BarrierCount, Calls, Cancels, FitsCon
 ghost use Rattle.mt_machine.specs.Update.{IsSettled};
 ghost use Rattle.mt_machine.specs.declared.event.Event.TheVariants.{Release};
 ghost use Rattle.mt_core.specs.declared.stepped.Stepped.TheVariants.{Did, NoUpdate, Waits};
-ghost use Rattle.mt_bus.specs.Parts.{system};
+ghost use Rattle.mt_laws.specs.Parts.{system};
 ghost use Rattle.mt_core.specs.Arises.{IsCore, grown, snooped};
 ghost use Rattle.mt_core.specs.Headline.{WaitsIn};
 ghost use Rattle.mt_core.specs.Rounds.{IsWholeUpdate, Rounds, each_steps, with_go_given};

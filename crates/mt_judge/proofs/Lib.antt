@@ -2,7 +2,6 @@ mod Alike
 mod Buckets
 mod Courses
 mod Depths
-mod Emptying
 mod Firsts
 mod Fits
 mod Gathered

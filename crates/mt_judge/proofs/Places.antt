@@ -1,44 +1,13 @@
--- No word lies at or above the end of the physical addresses; the words of a line in turn; the items that a search finds.
-use Rattle.std.proofs.Common.{◌≡◌, ◌∙◌, ap, sym, refl, arith, ℕ, zero, suc, ◌<◌, ◌≤◌, ◌+◌, ◌-◌, ◌*◌, ◌/◌, ◌%◌, ◌^◌, ◌==◌, ◌&&◌, nat_le, nat_lt, Bool, true, false, if◌then◌else◌, List, [], ◌∷◌, ◌++◌, map, drop, Option, Some, None}
-use Rattle.std.specs.Prelude.{slice_index, slice_get, slice_set}
+-- A line above the end of the physical addresses has no word; lines in turn; the items that a search finds.
+use Rattle.std.proofs.Common.{◌≡◌, ◌∙◌, ap, sym, refl, ℕ, ◌<◌, ◌≤◌, ◌+◌, ◌^◌, ◌&&◌, Bool, true, false, if◌then◌else◌, List, [], ◌∷◌, ◌++◌, map, drop, Option, Some}
+use Rattle.std.specs.Prelude.{slice_index, slice_get}
 use Rattle.std.specs.Option.{option_map_or}
-use Rattle.std.specs.List.{All, filter, fold, find, list_all, position}
-use Rattle.std.proofs.lemmas.Bool.{ltb-true}
-use Rattle.std.proofs.lemmas.List.Elements.{All-head, All-tail}
+use Rattle.std.specs.List.{filter, fold, find, list_all, position}
 use Rattle.mt_lists.proofs.Keys.{at_position}
 use Rattle.mt_cache.specs.declared.line.CacheLine.{CacheLine}
-use Rattle.mt_cache.specs.Lines.{eight, has_number, is_dirty}
-use Rattle.mt_machine.specs.Memory.{IsMemory, Memory, Window, place, place_in, put_word, window_end, word_address, word_at, write_back, write_back_word}
-
-none_above : (ws : List Window) (before a : ℕ) → All (λ w. window_end w ≤ 2 ^ 52) ws → 2 ^ 52 ≤ a → place_in ws before a ≡ None
-none_above [] before a bounded high = refl
-none_above (w ∷ ws) before a bounded high =
-    one (nat_le w.base a) (nat_lt a (window_end w)) refl (none_above ws (before + 8 * w.lines) a (All-tail (λ v. window_end v ≤ 2 ^ 52) w ws bounded) high)
-  where
-    one : (x y : Bool) → nat_lt a (window_end w) ≡ y → place_in ws (before + 8 * w.lines) a ≡ None
-        → (if x && y then Some (before + (a - w.base) / 8) else place_in ws (before + 8 * w.lines) a) ≡ None
-    one true true high' later = let l = All-head (λ v. window_end v ≤ 2 ^ 52) w ws bounded in let h = ltb-true _ _ high' in absurd (omega arith)
-    one true false high' later = later
-    one false y high' later = later
-
-pub no_place : (m : Memory) (number word : ℕ) → IsMemory m → 2 ^ 46 ≤ number → place m (word_address number word) ≡ None
-no_place m number word h high = one (word_address number word % 8 == 0)
-  where
-    one : (b : Bool) → (if b then place_in m.windows 0 (word_address number word) else None) ≡ None
-    one true = none_above m.windows 0 (word_address number word) h.bounded (omega arith)
-    one false = refl
-
--- the words of a line from one on are that and those after it
-pub eight_more : (i : ℕ) → i < 8 → drop i eight ≡ i ∷ drop (i + 1) eight
-eight_more zero l = refl
-eight_more (suc zero) l = refl
-eight_more (suc (suc zero)) l = refl
-eight_more (suc (suc (suc zero))) l = refl
-eight_more (suc (suc (suc (suc zero)))) l = refl
-eight_more (suc (suc (suc (suc (suc zero))))) l = refl
-eight_more (suc (suc (suc (suc (suc (suc zero)))))) l = refl
-eight_more (suc (suc (suc (suc (suc (suc (suc zero))))))) l = refl
-eight_more (suc (suc (suc (suc (suc (suc (suc (suc i)))))))) l = absurd (omega arith)
+use Rattle.mt_cache.specs.Lines.{eight, has_number}
+use Rattle.mt_machine.specs.Memory.{IsMemory, Memory, word_address, word_at, write_back}
+use Rattle.mt_laws.proofs.Places.{eight_more, no_place, nowhere_stays}
 
 -- the item at the place that a search finds
 pub item_found : {X : Type 0} (test : X → Bool) (xs : List X) (o : Option ℕ) (i : ℕ) (x : X) → o ≡ position test xs → o ≡ Some i → slice_get xs i ≡ Some x → Some x ≡ find test xs
@@ -56,27 +25,9 @@ missed_first test i l is = ap (find test) (eight_more i l) ∙ ap (λ b. if b th
 pub no_word : (m : Memory) (words : List ℕ) (n word : ℕ) → IsMemory m → 2 ^ 46 ≤ n → 0 ≡ word_at (record { windows = m.windows; words = words }) (word_address n word)
 no_word m words n word h high = sym (ap (λ o. option_map_or (λ i. slice_index words i) o 0) (no_place m n word h high))
 
-stays : (m : Memory) (words : List ℕ) (l : CacheLine) (word : ℕ) → IsMemory m → 2 ^ 46 ≤ l.number
-    → write_back_word l (record { windows = m.windows; words = words }) word ≡ record { windows = m.windows; words = words }
-stays m words l word h high = one (is_dirty l word)
-  where
-    v : Memory
-    v = record { windows = m.windows; words = words }
-
-    put : put_word v (word_address l.number word) (slice_index l.words word) ≡ v
-    put = ap (λ (o : Option ℕ). option_map_or (λ i. record v { words = slice_set v.words i (slice_index l.words word) }) o v) (no_place m l.number word h high)
-
-    one : (b : Bool) → (if b then put_word v (word_address l.number word) (slice_index l.words word) else v) ≡ v
-    one true = put
-    one false = refl
-
-still : (f : Memory → ℕ → Memory) (m : Memory) (xs : List ℕ) → ((x : ℕ) → f m x ≡ m) → fold f m xs ≡ m
-still f m [] each = refl
-still f m (x ∷ xs) each = ap (λ n. fold f n xs) (each x) ∙ still f m xs each
-
-pub nowhere_stays : (m : Memory) (words : List ℕ) (l : CacheLine) → IsMemory m → 2 ^ 46 ≤ l.number
+pub line_stays : (m : Memory) (words : List ℕ) (l : CacheLine) → IsMemory m → 2 ^ 46 ≤ l.number
     → record { windows = m.windows; words = words } ≡ write_back (record { windows = m.windows; words = words }) l
-nowhere_stays m words l h high = sym (still (write_back_word l) (record { windows = m.windows; words = words }) eight (λ word. stays m words l word h high))
+line_stays m words l h high = nowhere_stays (record { windows = m.windows; words = words }) l (λ word within. no_place m l.number word h high)
 
 -- ---- the lines of a number in turn
 
@@ -87,15 +38,6 @@ written_here n m l ls rest is = one (has_number n l) refl ∙ ap (λ xs. fold wr
     one : (b : Bool) → has_number n l ≡ b → fold write_back (if b then write_back m l else m) (filter (has_number n) ls) ≡ fold write_back m (if b then l ∷ filter (has_number n) ls else filter (has_number n) ls)
     one true e = refl
     one false e = refl
-
--- ---- an address above the end of the physical addresses
-
-pub nowhere : (m : Memory) (address : ℕ) → IsMemory m → 2 ^ 52 ≤ address → place m address ≡ None
-nowhere m address h high = one (address % 8 == 0)
-  where
-    one : (b : Bool) → (if b then place_in m.windows 0 address else None) ≡ None
-    one true = none_above m.windows 0 address h.bounded high
-    one false = refl
 
 -- ---- a test of all items
 

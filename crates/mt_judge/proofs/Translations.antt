@@ -9,7 +9,8 @@ use Rattle.mt_tlb.specs.Entries.{add_entry, find_entry, find_mapping, is_full_fo
 use Rattle.mt_machine.specs.Memory.{Memory}
 use Rattle.mt_machine.specs.System.{Processor, System, change}
 use Rattle.mt_machine.specs.Access.{entry_of, keep_entry, new_entry}
-use Rattle.mt_bus.specs.Parts.{entry_in, system}
+use Rattle.mt_laws.proofs.Items.{set_same}
+use Rattle.mt_laws.specs.Parts.{entry_in, system}
 use Rattle.mt_judge.specs.Parts.{with_entry_in}
 use Rattle.mt_judge.specs.Steps.{IsMapped, after_map, with_mapping}
 
@@ -59,11 +60,6 @@ lacks p page none made =
     (sym is, sym (ap (λ (o : Option Entry). option_map_or (λ x. keep_entry x p) o p) is))
 
 -- ---- a processor of a list
-
-set_same : (ps : List Processor) (k : ℕ) (p : Processor) → slice_get ps k ≡ Some p → slice_set ps k p ≡ ps
-set_same [] k p at = absurd (cc)
-set_same (x ∷ ps) zero p at = let e : p ≡ x = cc in ap (λ q. q ∷ ps) e
-set_same (x ∷ ps) (suc k) p at = ap (λ qs. x ∷ qs) (set_same ps k p at)
 
 -- the system whose processor k is q in place of p
 pub changed_to : (ps : List Processor) (m : Memory) (s : System) (k : ℕ) (p q : Processor) (f : Processor → Processor) → system ps m ≡ s → slice_get ps k ≡ Some p → q ≡ f p

@@ -7,7 +7,7 @@ use Rattle.mt_tlb.specs.declared.entry.Entry.{Entry}
 use Rattle.mt_machine.specs.Access.{keep_entry}
 use Rattle.mt_machine.specs.Memory.{Memory, write_back}
 use Rattle.mt_machine.specs.System.{Processor, System, change}
-use Rattle.mt_bus.specs.Parts.{system}
+use Rattle.mt_laws.specs.Parts.{system}
 
 abbrev pub memory : Memory → List ℕ → Memory
 memory layout words = record { windows = layout.windows; words = words }

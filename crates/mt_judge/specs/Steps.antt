@@ -20,7 +20,7 @@ use Rattle.mt_machine.specs.System.{Processor, System, change}
 use Rattle.mt_machine.specs.Access.{Answered, access_at}
 use Rattle.mt_machine.specs.Control.{control_at}
 use Rattle.mt_machine.specs.Machine.{flush_tlb, step, write_back_or_drop}
-use Rattle.mt_bus.specs.Parts.{answered, ruled}
+use Rattle.mt_laws.specs.Parts.{answered, ruled}
 use Rattle.mt_judge.specs.declared.moves.Outcome.{Outcome}
 use Rattle.mt_judge.specs.declared.moves.Outcome.TheVariants.{Accessed, Nothing}
 use Rattle.mt_judge.specs.declared.step.ProcedureStep.{ProcedureStep}

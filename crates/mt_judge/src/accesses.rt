@@ -10,7 +10,7 @@ ghost use Rattle.mt_machine.specs.Memory.{place, word_of};
 ghost use Rattle.mt_machine.specs.System.{Processor, change};
 ghost use Rattle.mt_machine.specs.Bus.{store_in_memory, with_lines};
 ghost use Rattle.mt_machine.specs.Access.{Answered, access_at, cache_disabled_of, entry_of, first_of_load, first_of_store, hit_of, is_cached, keep_entry, load, physical, store, store_filling, store_hit, store_past, store_uncached, store_after};
-ghost use Rattle.mt_bus.specs.Parts.{answered, entry_in};
+ghost use Rattle.mt_laws.specs.Parts.{answered, entry_in};
 ghost use Rattle.mt_judge.specs.Parts.{with_entry_in};
 ghost use Rattle.mt_judge.specs.Steps.{IsAccess};
 

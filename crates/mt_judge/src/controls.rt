@@ -4,7 +4,7 @@ ghost use Rattle.mt_tlb.specs.declared.mapping.Mapping.{Mapping};
 ghost use Rattle.mt_tlb.specs.Entries.{global_entries, is_full_for, is_mapped, maps_page, set_mapping, without_page};
 ghost use Rattle.mt_machine.specs.System.{Processor, change};
 ghost use Rattle.mt_machine.specs.Control.{control_at, drop_page, reload_cr3, set_page_global};
-ghost use Rattle.mt_bus.specs.Parts.{ruled};
+ghost use Rattle.mt_laws.specs.Parts.{ruled};
 ghost use Rattle.mt_judge.specs.Steps.{HasIndex, IsControl, IsMapped, after_map, answer_to_map};
 
 use crate::bus::Bus;

@@ -2,7 +2,7 @@ ghost use Rattle.std.specs.Prelude.{◌≡◌, ◌<◌, length, map, if◌then�
 ghost use Rattle.mt_cache.specs.Lines.{change_line, clean_line, without_line};
 ghost use Rattle.mt_machine.specs.Memory.{write_back};
 ghost use Rattle.mt_machine.specs.Bus.{bus_read, empty_buffer, invalidate, invalidate_others, others_from, with_lines, write_back_others};
-ghost use Rattle.mt_bus.specs.Parts.{written_back};
+ghost use Rattle.mt_laws.specs.Parts.{written_back};
 ghost use Rattle.mt_judge.specs.Parts.{memory};
 
 use crate::bus::Bus;

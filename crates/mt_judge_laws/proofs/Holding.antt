@@ -30,7 +30,7 @@ use Rattle.mt_laws.proofs.Clearing.Renewed.{AllClear, steps_clear, clear_next}
 use Rattle.mt_laws.proofs.Invariant.Kept.{start_aligned}
 use Rattle.mt_laws.proofs.Invariant.Standing.{reached_standing, start_standing}
 use Rattle.mt_laws.proofs.Registers.Filed.{AllFiled, filed_steps, filed_next}
-use Rattle.mt_bus.specs.Parts.{answered}
+use Rattle.mt_laws.specs.Parts.{answered}
 use Rattle.mt_judge.specs.declared.moves.Outcome.{Outcome}
 use Rattle.mt_judge.specs.declared.wrong.Fault.TheVariants.{LostWord}
 use Rattle.mt_judge.specs.declared.step.ProcedureStep.{ProcedureStep}

@@ -6,3 +6,6 @@ pub mod Translations
 pub mod Invariant
 pub mod Steps
 pub mod Updates
+pub mod Emptying
+pub mod Items
+pub mod Places

@@ -3,6 +3,7 @@ pub mod Starts
 pub mod Barriers
 pub mod Sound
 pub mod Kept
+pub mod Parts
 pub mod Settled
 pub mod Counts
 pub mod Updates

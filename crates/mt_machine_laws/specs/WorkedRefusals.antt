@@ -8,7 +8,7 @@ use Rattle.mt_machine.specs.declared.op.Op.{Op}
 use Rattle.mt_machine.specs.declared.ruled.Ruled.{Ruled}
 use Rattle.mt_machine.specs.System.{Processor}
 use Rattle.mt_machine_laws.specs.MachineWorkedRuns.{alone, entry, idle, mapping, mappings_from}
-use Rattle.mt_bus.specs.Parts.{answered, ruled}
+use Rattle.mt_laws.specs.Parts.{answered, ruled}
 use Rattle.mt_bus.specs.Refusals.{RefusesInOrder, RulesInOrder}
 
 -- its page 1 is mapped to where there is no memory; and it has the translation

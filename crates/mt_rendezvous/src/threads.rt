@@ -9,7 +9,7 @@ ghost use Rattle.mt_machine.specs.Update.{updated};
 ghost use Rattle.mt_rendezvous.specs.Station.{Begins};
 ghost use Rattle.mt_rendezvous.specs.Calls.{gathered};
 ghost use Rattle.mt_types.specs.Tables.{IsTableOf};
-ghost use Rattle.mt_bus.specs.Parts.{system};
+ghost use Rattle.mt_laws.specs.Parts.{system};
 ghost use Rattle.mt_bus.specs.Holders.{AreHeldBy};
 ghost use Rattle.mt_bus.specs.Tables.{AreTablesOf};
 ghost use Rattle.mt_rendezvous.specs.Update.{CanUpdate, FitsUpdate, IsUpdate, has_empty_cache, left_by, running, tables_left};

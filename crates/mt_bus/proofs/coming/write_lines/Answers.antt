@@ -1,7 +1,7 @@
 use Rattle.std.proofs.Common.{◌∙◌, ◌+◌, ap, drop, sym}
 use Rattle.std.specs.List.{fold}
 use Rattle.mt_machine.specs.Memory.{write_back}
-use Rattle.mt_bus.proofs.Emptying.{drop_at}
+use Rattle.mt_laws.proofs.Items.{drop_at}
 use Rattle.mt_bus.proofs.coming.write_lines.Goals as goal
 
 pub loop-i-preserved : goal.loop-i-preserved

@@ -2,7 +2,8 @@ use Rattle.std.proofs.Common.{◌≡◌, ◌∙◌, ◌+◌, ◌*◌, ◌<◌, �
 use Rattle.std.specs.Prelude.{IfSome}
 use Rattle.std.specs.Option.{option_map}
 use Rattle.mt_machine.specs.Memory.{place}
-use Rattle.mt_bus.proofs.Places.{line_place, line_within, no_place}
+use Rattle.mt_laws.proofs.Places.{no_place}
+use Rattle.mt_bus.proofs.Places.{line_place, line_within}
 use Rattle.mt_bus.proofs.words.line_place.Goals as goal
 
 pub returns-then-number-lt-PHYSICAL_LINES-clause-places : goal.returns-then-number-lt-PHYSICAL_LINES-clause-places

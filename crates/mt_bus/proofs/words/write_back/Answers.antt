@@ -1,4 +1,5 @@
-use Rattle.mt_bus.proofs.Places.{clean_stays, nowhere_stays}
+use Rattle.mt_laws.proofs.Places.{nowhere_stays}
+use Rattle.mt_bus.proofs.Places.{clean_stays}
 use Rattle.mt_bus.proofs.words.write_back.Goals as goal
 
 pub returns-then-line-eq0 : goal.returns-then-line-eq0

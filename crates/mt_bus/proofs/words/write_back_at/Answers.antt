@@ -1,7 +1,7 @@
 use Rattle.std.proofs.Common.{◌∙◌, ap, sym}
 use Rattle.std.specs.List.{fold}
 use Rattle.mt_machine.specs.Memory.{write_back_word}
-use Rattle.mt_bus.proofs.Places.{eight_more}
+use Rattle.mt_laws.proofs.Places.{eight_more}
 use Rattle.mt_bus.proofs.words.write_back_at.Goals as goal
 
 pub loop-word-preserved : goal.loop-word-preserved

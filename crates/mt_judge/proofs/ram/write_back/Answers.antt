@@ -3,11 +3,12 @@ use Rattle.std.specs.List.{fold}
 use Rattle.mt_cache.specs.Lines.{eight}
 use Rattle.mt_machine.specs.Memory.{Memory, write_back_word}
 use Rattle.mt_judge.specs.Parts.{memory}
-use Rattle.mt_judge.proofs.Places.{eight_more, nowhere_stays}
+use Rattle.mt_laws.proofs.Places.{eight_more}
+use Rattle.mt_judge.proofs.Places.{line_stays}
 use Rattle.mt_judge.proofs.ram.write_back.Goals as goal
 
 pub returns-then-line-ge-PHYSICAL_LINES : goal.returns-then-line-ge-PHYSICAL_LINES
-returns-then-line-ge-PHYSICAL_LINES c = nowhere_stays c.args.layout.now c.args.words.now c.args.line.now c.words.ensures.memory c.if-line-ge-PHYSICAL_LINES.true
+returns-then-line-ge-PHYSICAL_LINES c = line_stays c.args.layout.now c.args.words.now c.args.line.now c.words.ensures.memory c.if-line-ge-PHYSICAL_LINES.true
 
 pub loop-word-preserved : goal.loop-word-preserved
 loop-word-preserved c =

@@ -1,5 +1,5 @@
 use Rattle.std.proofs.Common.{◌≡◌, drop}
-use Rattle.mt_bus.specs.Parts.{written_back}
+use Rattle.mt_laws.specs.Parts.{written_back}
 use Rattle.mt_judge.specs.Parts.{memory}
 use Rattle.mt_judge.proofs.snoops.write_back_all.Given as goal
 

@@ -1,7 +1,7 @@
 use Rattle.std.proofs.Common.{◌≡◌, rules, subst, true}
 use Rattle.std.specs.Prelude.{is_ok}
 use Rattle.std.specs.List.{list_all}
-use Rattle.mt_bus.specs.Parts.{system}
+use Rattle.mt_laws.specs.Parts.{system}
 use Rattle.mt_machine.specs.Memory.{Memory}
 use Rattle.mt_rendezvous.specs.Update.{has_empty_cache, left_by}
 use Rattle.mt_rendezvous.proofs.Unshared.{left_alone}

@@ -1,6 +1,6 @@
 use Rattle.std.proofs.Common.{◌≡◌, ◌∙◌, ap, sym, subst, length}
 use Rattle.std.specs.Prelude.{is_ok}
-use Rattle.mt_bus.specs.Parts.{system}
+use Rattle.mt_laws.specs.Parts.{system}
 use Rattle.mt_rendezvous.specs.declared.view.Start.{Start}
 use Rattle.mt_rendezvous.specs.Station.{Begins, broadcast}
 use Rattle.mt_rendezvous.specs.Update.{left_by}

@@ -3,7 +3,9 @@ use Rattle.std.specs.List.{fold}
 use Rattle.mt_machine.specs.System.{System, buffers_of}
 use Rattle.mt_machine.specs.Bus.{empty_buffer}
 use Rattle.mt_bus.proofs.Counts.{among, empty_count}
-use Rattle.mt_bus.proofs.Emptying.{drop_at, kept_buffers, no_buffers}
+use Rattle.mt_laws.proofs.Emptying.{kept_buffers}
+use Rattle.mt_laws.proofs.Items.{drop_at}
+use Rattle.mt_bus.proofs.Emptying.{no_buffers}
 use Rattle.mt_bus.proofs.bus.Bus.drain.Goals as goal
 
 pub returns-then-count-eq0 : goal.returns-then-count-eq0

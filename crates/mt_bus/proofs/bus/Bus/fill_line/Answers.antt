@@ -2,7 +2,7 @@ use Rattle.std.proofs.Common.{◌∙◌, ap, refl, rules}
 use Rattle.mt_cache.specs.Lines.{find_line}
 use Rattle.mt_machine.specs.System.{System, lines_of}
 use Rattle.mt_machine.specs.Bus.{fill_line}
-use Rattle.mt_bus.specs.Parts.{system}
+use Rattle.mt_laws.specs.Parts.{system}
 use Rattle.mt_bus.proofs.Changed.{lines_lent}
 use Rattle.mt_bus.proofs.Rooms.{filled}
 use Rattle.mt_bus.proofs.bus.Bus.fill_line.Goals as goal

@@ -1,6 +1,6 @@
 use Rattle.std.proofs.Common.{◌≡◌, ◌-◌, length}
 use Rattle.mt_machine.specs.Bus.{bus_read, invalidate}
-use Rattle.mt_bus.specs.Parts.{system}
+use Rattle.mt_laws.specs.Parts.{system}
 use Rattle.mt_bus.proofs.Skipped.{pass_from}
 use Rattle.mt_bus.proofs.bus.Bus.read_and_drop.Given as goal
 

@@ -7,7 +7,7 @@ use Rattle.mt_machine.specs.Bus.{drain}
 use Rattle.mt_machine.specs.ComingAndGoing.{taken_away}
 use Rattle.mt_laws.proofs.Barrier.Stages.{drain_stages}
 use Rattle.mt_bus.specs.Holders.{AreHeldBy}
-use Rattle.mt_bus.specs.Parts.{system}
+use Rattle.mt_laws.specs.Parts.{system}
 use Rattle.mt_bus.proofs.Changed.{lines_lent}
 use Rattle.mt_bus.proofs.Counts.{among}
 use Rattle.mt_bus.proofs.Held.{held_front}

@@ -2,7 +2,7 @@ use Rattle.std.proofs.Common.{◌∙◌, ap, rules, slice_get, sym}
 use Rattle.std.specs.Option.{option_map_or}
 use Rattle.mt_machine.specs.Access.{keep_entry}
 use Rattle.mt_machine.specs.System.{System, change}
-use Rattle.mt_bus.specs.Parts.{entry_in, system}
+use Rattle.mt_laws.specs.Parts.{entry_in, system}
 use Rattle.mt_bus.proofs.Changed.{lent_at, seen_at}
 use Rattle.mt_bus.proofs.Translated.{answered_by, entered_in}
 use Rattle.mt_bus.proofs.bus.Bus.translate.Goals as goal

@@ -2,7 +2,7 @@ use Rattle.std.proofs.Common.{◌≡◌, sym, subst, rules}
 use Rattle.mt_machine.specs.Memory.{IsMemory}
 use Rattle.mt_machine.specs.System.{IsSound, System}
 use Rattle.mt_ram.specs.Windows.{window, with_window}
-use Rattle.mt_bus.specs.Parts.{system}
+use Rattle.mt_laws.specs.Parts.{system}
 use Rattle.mt_bus.specs.Tables.{AreTablesOf}
 use Rattle.mt_bus.proofs.Grown.{sound_grown}
 use Rattle.mt_bus.proofs.system.System.add_ram.Goals as goal

@@ -2,7 +2,8 @@ use Rattle.std.proofs.Common.{◌∙◌, ap, drop, sym, ◌+◌, slice_get}
 use Rattle.std.specs.List.{fold}
 use Rattle.mt_machine.specs.System.{System, buffers_of}
 use Rattle.mt_machine.specs.Bus.{empty_buffer}
-use Rattle.mt_judge.proofs.Emptying.{drop_at, kept_buffers}
+use Rattle.mt_laws.proofs.Emptying.{kept_buffers}
+use Rattle.mt_laws.proofs.Items.{drop_at}
 use Rattle.mt_judge.proofs.bus.Bus.drain.Goals as goal
 
 pub loop-i-preserved : goal.loop-i-preserved

@@ -1,7 +1,7 @@
 use Rattle.std.proofs.Common.{ap, arith, sym, ℕ, if◌then◌else◌, Option, None, Some}
 use Rattle.std.specs.Prelude.{is_some}
 use Rattle.mt_machine.specs.Access.{physical}
-use Rattle.mt_judge.proofs.Places.{nowhere}
+use Rattle.mt_laws.proofs.Places.{nowhere}
 use Rattle.mt_judge.proofs.bus.Bus.physical.Goals as goal
 
 pub returns-then-entry-ge-PHYSICAL_PAGES : goal.returns-then-entry-ge-PHYSICAL_PAGES

@@ -2,7 +2,7 @@ use Rattle.std.proofs.Common.{◌∙◌, ap, drop, length, rules, ℕ, List}
 use Rattle.std.proofs.lemmas.List.{take_at}
 use Rattle.mt_machine.specs.Memory.{Memory, write_back}
 use Rattle.mt_machine.specs.System.{System}
-use Rattle.mt_bus.specs.Parts.{system}
+use Rattle.mt_laws.specs.Parts.{system}
 use Rattle.mt_judge.specs.Parts.{bus, memory}
 use Rattle.mt_judge.proofs.bus.Bus.write_back.Goals as goal
 
