@@ -1,9 +1,10 @@
--- What the lines of a feed lead to that had taken nothing, between two lines and at the end.
-use Rattle.std.proofs.Common.{◌≡◌, ◌+◌, ℕ, List, [], ◌∷◌, ◌++◌, Option, Some, None, refl, sym, subst, ◌∙◌, ap, append_assoc, inl, inr}
+-- What the lines of a feed that had taken nothing, or those of a slice, lead to: between two lines and at the end.
+use Rattle.std.proofs.Common.{◌≡◌, ◌+◌, ℕ, List, [], ◌∷◌, ◌++◌, take, Option, Some, None, refl, sym, subst, ◌∙◌, ap, append_assoc, inl, inr}
 use Rattle.std.specs.Prelude.{◌⊎◌, ⊤, Result, Ok, Err}
 use Rattle.std.proofs.lemmas.List.{append-nil}
 use Rattle.mt_text.specs.Text.{end_of, lines_of}
 use Rattle.mt_text.specs.Feed.{Feeding, LendsFirst, Lines, at_start, draw}
+use Rattle.mt_text.specs.Lines.{LinesLeft, TakesFirst, all_lines}
 use Rattle.mt_text.specs.Reader.{Course, TakesLine}
 use Rattle.mt_text.specs.declared.line.Line.{Line}
 use Rattle.mt_text.specs.declared.place.Place.{Place}
@@ -77,3 +78,33 @@ module _ {R A F : Type 0} (At : R → ℕ → Course (Result A F) → Type 0) (c
         let whole : bytes ≡ told.past = told.parts ∙ ap (λ l. told.past ++ l) next.2.0 ∙ append-nil told.past in
         let place : new.place ≡ end_of bytes = lines.3.0.4 ∙ told.place ∙ ap end_of (sym whole) in
         value told.number told.rest told.at ∙ ap (told.rest []) place ∙ ap (λ l. told.rest (lines_of l) (end_of bytes)) (sym next.2.0) ∙ told.leads (end_of bytes)
+
+  -- The lines of a slice that are left lead to what all lines of these bytes lead to.
+  pub record IsAmong (left : LinesLeft) (reader : R) : Type 0 where
+    pub rest : Course (Result A F)
+    pub at : At reader left.number rest
+    pub leads : rest (lines_of left.bytes) (end_of bytes) ≡ course (lines_of bytes) (end_of bytes)
+
+  pub at_all : (reader : R) → At reader 1 course → IsAmong (all_lines bytes) reader
+  at_all reader at = record { rest = course; at = at; leads = refl }
+
+  module _ {old new : LinesLeft} {reader : R} (told : IsAmong old reader) (line front : Line) (first : TakesFirst old new line) (cut : front.bytes.now ≡ take 4097 line.bytes.now) (same : front.number ≡ line.number) (reader_new : R) where
+    at_front : At reader front.number told.rest
+    at_front = subst (λ n. At reader n told.rest) (sym (same ∙ first.number)) told.at
+
+    leads_behind : told.rest (line.bytes.now ∷ lines_of new.bytes) (end_of bytes) ≡ course (lines_of bytes) (end_of bytes)
+    leads_behind = ap (λ ls. told.rest ls (end_of bytes)) (sym first.lines) ∙ told.leads
+
+    pub offends_among : (fault : F) → TakesLine {U = ⊤} At reader reader_new front (Err fault) → Err fault ≡ course (lines_of bytes) (end_of bytes)
+    offends_among fault takes = sym (takes told.rest line.bytes.now at_front cut (lines_of new.bytes) (end_of bytes)) ∙ leads_behind
+
+    pub goes_on_among : TakesLine {U = ⊤} At reader reader_new front (Ok tt) → IsAmong new reader_new
+    goes_on_among takes = record {
+      rest = λ lines. told.rest (line.bytes.now ∷ lines);
+      at = subst (λ n. At reader_new n (λ lines. told.rest (line.bytes.now ∷ lines))) (ap (λ n. n + 1) (same ∙ first.number) ∙ sym first.next_number) (takes told.rest line.bytes.now at_front cut).1;
+      leads = leads_behind;
+    }
+
+  pub ends_among : {left : LinesLeft} {reader : R} → IsAmong left reader → left.bytes ≡ [] → (answer : Result A F)
+      → ((number : ℕ) (rest : Course (Result A F)) → At reader number rest → answer ≡ rest [] (end_of bytes)) → answer ≡ course (lines_of bytes) (end_of bytes)
+  ends_among {left = left} told none answer value = value left.number told.rest told.at ∙ ap (λ l. told.rest (lines_of l) (end_of bytes)) (sym none) ∙ told.leads

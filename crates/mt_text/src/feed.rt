@@ -14,7 +14,8 @@ use crate::{FeedFault, Line, Place};
 use mt_ports::Source;
 use std::marker::Model;
 
-const LIMIT: usize = 16_777_216;
+/// The bytes of the longest input that is read.
+pub const LONGEST_INPUT: usize = 16_777_216;
 
 /// The lines of a source, out of one buffer.
 #[derive(Drop)]
@@ -139,7 +140,7 @@ impl Feed {
     {
         match self.buffer.take_from(source) {
             Ok(count) => {
-                if self.offset + self.buffer.pending().len() > LIMIT {
+                if self.offset + self.buffer.pending().len() > LONGEST_INPUT {
                     self.fault = Some(FeedFault::TooLong);
                     return Err(FeedFault::TooLong);
                 }

@@ -110,4 +110,21 @@ impl<'a> Line<'a> {
             column: LONGEST as u64 + 1,
         }
     }
+
+    /// The line, or if it is too long its first 4,097 bytes, as a feed lends it.
+    pub(crate) fn front(&self) -> Line<'a>
+        ensures bytes { result.bytes.now ≡ take (longest_line + 1) self.now.bytes.now }
+        ensures number { result.number ≡ self.now.number }
+    {
+        if self.bytes.len() <= LONGEST {
+            return *self;
+        }
+        let (bytes, _) = self.bytes.split_at(LONGEST + 1);
+        Line {
+            bytes,
+            offset: self.offset,
+            number: self.number,
+            next: self.next,
+        }
+    }
 }

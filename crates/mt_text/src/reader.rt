@@ -6,7 +6,7 @@ ghost use Rattle.mt_text.specs.Reader.{Course, TakesLine};
 ghost use Rattle.mt_text.specs.Text.{end_of, lines_of, longest_input};
 ghost use Rattle.mt_text.specs.declared.fault.FeedFault.{FeedFault};
 
-use crate::{Feed, FeedFault, Line, Place};
+use crate::{Feed, FeedFault, Line, Lines, Place, end_place};
 use mt_ports::Source;
 
 /// A reader of the lines of a text, as it is between two of them.
@@ -74,4 +74,18 @@ pub fn read_lines<R: LineReader, S: Source>(
     ensures stands { (IsErrOf result FeedFault.ReadFault → ⊥) → S.faults source.new ≡ S.faults source.old }
 {
     read_from(reader, &mut Feed::new(), source)
+}
+
+/// Reads the lines of a text, one after the other, and returns the reader's result.
+pub fn read_slice<R: LineReader>(mut reader: R, source: &[u8]) -> Result<R::Answer, R::Fault>
+    ensures answer { (course : Course (Result R.Answer R.Fault)) → R.at reader 1 course → result ≡ course (lines_of source.now) (end_of source.now) }
+    ensures fits { R.fits result }
+{
+    let mut lines = Lines::of(source);
+    'lines: while let Some(line) = lines.next_line() {
+        if let Err(fault) = reader.take_line(&line.front()) {
+            return Err(fault);
+        }
+    }
+    reader.finish_at(end_place(source))
 }
