@@ -1,6 +1,6 @@
 -- Where the reading of a text ends.
-use Rattle.std.proofs.Common.{◌≡◌, ◌+◌, ℕ, true, false, List, [], ◌∷◌, Option, Some, None, Result, refl, sym, ◌∙◌, ap, subst, inl, inr}
-use Rattle.std.specs.Prelude.{Ok, Err, is_some, ok_or, slice_index_or, ◌⊎◌, MatchResult, ◌↔◌}
+use Rattle.std.proofs.Common.{◌≡◌, ◌+◌, ℕ, false, List, [], ◌∷◌, Option, Some, None, Result, refl, sym, ◌∙◌, ap, subst, inl, inr}
+use Rattle.std.specs.Prelude.{Ok, Err, ok_or, slice_index_or, ◌⊎◌, MatchResult, ◌↔◌}
 use Rattle.std.specs.List.{AllByRecursion}
 use Rattle.std.specs.Option.{option_map_or}
 use Rattle.std.specs.Result.{result_err}
@@ -14,27 +14,8 @@ use Rattle.mt_dump.specs.declared.fault.DumpFault.{DumpFault}
 use Rattle.mt_dump.specs.declared.fault.DumpReason.TheVariants.{NoCap}
 use Rattle.mt_dump.specs.declared.said.Said.TheVariants.{Nothing, Version, Section, Width, Register}
 use Rattle.mt_dump.proofs.OneLine.{is_sane}
-use Rattle.mt_dump.proofs.Readings.{read_past}
 use Rattle.mt_dump.proofs.Stands.{clean_shown, shown_once, shown_is_dump}
 use Rattle.mt_dump.proofs.Complete.{complete}
-
--- the first line with an offence
-pub ends_at_line : (text : List ℕ) (before rest : List Reading) (line : Reading) (fault : DumpFault) → IsClean before → onto before (line ∷ rest) ≡ said_by text → offence_of before line ≡ Some fault → read_text text ≡ Err fault
-ends_at_line text before rest line fault clean is found =
-    ap (read_from (end_of text) []) (sym is) ∙ read_past (end_of text) before (line ∷ rest) clean
-    ∙ ap (λ o. option_map_or (λ fault. Err fault) o (read_from (end_of text) (line ∷ before) rest)) found
-
--- where 0FEH was given no place matters
-pub same_end : (at place : Place) (before : List Reading) → is_some (dump_in before) ≡ true → read_from at before [] ≡ read_from place before []
-same_end at place before = by (dump_in before)
-  where
-    by : (found : Option Dump) → is_some found ≡ true → ok_or found (fault_at NoCap at) ≡ ok_or found (fault_at NoCap place)
-    by None none = cc none
-    by (Some dump) some = refl
-
--- no line has one
-pub ends_at_end : (text : List ℕ) (before : List Reading) (answer : Result Dump DumpFault) → IsClean before → onto before [] ≡ said_by text → answer ≡ read_from (end_of text) before [] → read_text text ≡ answer
-ends_at_end text before answer clean is last = ap (read_from (end_of text) []) (sym is) ∙ read_past (end_of text) before [] clean ∙ sym last
 
 sane_from : (number : ℕ) (lines : List (List ℕ)) → AllByRecursion IsSane (said_from number lines)
 sane_from number [] = tt

@@ -16,7 +16,7 @@ use Rattle.mt_regs.proofs.ByNumber.{register_of-range}
 use Rattle.mt_dump.specs.Line.{Reading, fault_at}
 use Rattle.mt_dump.specs.Dumps.{IsDump}
 use Rattle.mt_dump.specs.Dump.{given, widths, section_numbers, section_count, times, is_given, value_given, is_writable, width_of, version_of, is_later, is_outside, up_to_section, first_section, first_width, offence_of}
-use Rattle.mt_dump.specs.Reader.{HasRead, State, file_in, files_in, dump_in, with_width, read_from}
+use Rattle.mt_dump.specs.Reader.{HasRead, State, file_in, files_in, with_width, read_from}
 use Rattle.mt_dump.proofs.Readings.{value_given-stands}
 use Rattle.mt_dump.proofs.Sections.{first_early, first_late, early_present, same_widths, section_counts}
 use Rattle.mt_dump.proofs.Present.{StandsNow, Leads, clean_stands, clean_widths, positive}
@@ -25,7 +25,7 @@ use Rattle.mt_dump.proofs.Complete.{section_none}
 use Rattle.mt_dump.specs.declared.fault.DumpReason.TheVariants.{UnknownRegister, Repeated, NoCap, Differs}
 use Rattle.mt_dump.specs.declared.said.Said.TheVariants.{Nothing, Version, Section, Width, Register}
 
-pub holds_new : HasRead (record { version = 1; spoken = false; sections = 0; files = []; file = None; width = 36; has_width = false; has_capabilities = false; marks = replicate 256 false }) []
+pub holds_new : HasRead (record { version = 1; spoken = false; sections = 0; files = []; file = None; width = 36; has_width = false; width_given = false; has_capabilities = false; marks = replicate 256 false }) []
 holds_new = record {
   clean = tt;
   version_is = refl;
@@ -35,6 +35,7 @@ holds_new = record {
   file_is = refl;
   width_is = refl;
   has_width_is = refl;
+  width_given_is = refl;
   has_capabilities_is = refl;
   size = length-replicate 256 false;
   marked = λ number from below. get_or-replicate 256 (number - 0x200) false false (omega arith);
@@ -54,6 +55,7 @@ holds_nothing state before holds = record {
   file_is = holds.file_is;
   width_is = holds.width_is ∙ ap width_of (sym (same_widths (Ok Nothing) before refl (inl refl)));
   has_width_is = holds.has_width_is;
+  width_given_is = holds.width_given_is;
   has_capabilities_is = holds.has_capabilities_is;
   size = holds.size;
   marked = holds.marked;
@@ -72,6 +74,7 @@ holds_version state before version place holds silent least most = record {
   file_is = holds.file_is;
   width_is = holds.width_is ∙ ap width_of (sym (same_widths (Ok (Version version place)) before refl (inl refl)));
   has_width_is = holds.has_width_is;
+  width_given_is = holds.width_given_is;
   has_capabilities_is = holds.has_capabilities_is;
   size = holds.size;
   marked = holds.marked;
@@ -101,6 +104,7 @@ holds_first_section state before number place holds two same zero =
       file_is = holds.file_is ∙ no_file ∙ sym (ap (option_map (λ (f : RegisterFile). blank_file 36 f.capabilities)) no_file);
       width_is = holds.width_is ∙ ap width_of (sym (same_widths (Ok (Section number place)) before refl (section_counts before number place)));
       has_width_is = refl;
+      width_given_is = holds.width_given_is;
       has_capabilities_is = refl;
       size = length-replicate 256 false;
       marked = λ n from below. get_or-replicate 256 (n - 0x200) false false (omega arith);
@@ -132,6 +136,7 @@ holds_next_section state before number place file ended next files holds two sam
       file_is = rw (led, next_is) refl;
       width_is = holds.width_is ∙ ap width_of (sym (same_widths (Ok (Section number place)) before refl (section_counts before number place)));
       has_width_is = refl;
+      width_given_is = holds.width_given_is;
       has_capabilities_is = refl;
       size = length-replicate 256 false;
       marked = λ n from below. get_or-replicate 256 (n - 0x200) false false (omega arith);
@@ -159,7 +164,7 @@ few_files state before file holds is =
 -- ---- the width
 
 pub holds_width : (state : State) (before : List Reading) (width : ℕ) (first second : Place) → HasRead state before → is_outside before ≡ false → (nat_lt 1 state.sections && not (width == state.width)) ≡ false → state.has_width ≡ false → 32 ≤ width → width ≤ 52
-    → HasRead (record state { spoken = true; width = width; has_width = true }) (Ok (Width width first second) ∷ before)
+    → HasRead (record state { spoken = true; width = width; has_width = true; width_given = true }) (Ok (Width width first second) ∷ before)
 holds_width state before width first second holds inside same none wide narrow =
     let passed : (is_later before && not (width == first_width before)) ≡ false = rw (holds.sections_is, holds.width_is) at same in
     let fresh = sym holds.has_width_is ∙ none in
@@ -173,6 +178,7 @@ holds_width state before width first second holds inside same none wide narrow =
       file_is = holds.file_is;
       width_is = told (cases_Bool (is_later before)) passed;
       has_width_is = sym one;
+      width_given_is = sym (positive (length (width ∷ widths before)) (omega arith));
       has_capabilities_is = holds.has_capabilities_is;
       size = holds.size;
       marked = holds.marked;
@@ -218,6 +224,7 @@ holds_first_capabilities state before value first second holds inside is few =
       file_is = rw led refl;
       width_is = holds.width_is ∙ ap width_of (sym (same_widths (Ok (Register 0xfe value first second)) before refl (inl refl)));
       has_width_is = holds.has_width_is;
+      width_given_is = holds.width_given_is;
       has_capabilities_is = rw none refl;
       size = holds.size;
       marked = λ number from below. let apart : (0xfe == number) ≡ false = grind (arith, nat_tests) in rw apart (holds.marked number from below);
@@ -261,6 +268,7 @@ module _ (state : State) (before : List Reading) (value : ℕ) (first second : P
         file_is = is ∙ rw led refl;
         width_is = holds.width_is ∙ ap width_of (sym (same_widths (Ok (Register 0xfe value first second)) before refl (inl refl)));
         has_width_is = holds.has_width_is;
+        width_given_is = holds.width_given_is;
         has_capabilities_is = sym one;
         size = holds.size;
         marked = λ number from below. let apart : (0xfe == number) ≡ false = grind (arith, nat_tests) in rw apart (holds.marked number from below);
@@ -343,6 +351,7 @@ module _ (state : State) (before : List Reading) (number value : ℕ) (first sec
     file_is = rw (found_file, other) (sym write);
     width_is = holds.width_is ∙ ap width_of (sym (same_widths (Ok (Register number value first second)) before refl (inl refl)));
     has_width_is = holds.has_width_is;
+    width_given_is = holds.width_given_is;
     has_capabilities_is = rw other holds.has_capabilities_is;
     size = length-set state.marks (number - 0x200) true ∙ holds.size;
     marked = λ n at_least at_most. by n at_least at_most (number == n) refl;
@@ -377,14 +386,6 @@ dump_at_end state before file holds is =
     let led : file_in before ≡ Some file = sym holds.file_is ∙ is in
     rw (holds.version_is, holds.files_is, holds.width_is)
     (clean_is_dump before (record { version = version_of before; files = files_in before ++ with_width file (first_width before) ∷ [] }) holds.clean (ap (dump_from before) led))
-
--- whether the reader has a file at the end
-pub complete_is : (state : State) (before : List Reading) → HasRead state before → is_some state.file ≡ is_some (dump_in before)
-complete_is state before holds = ap is_some holds.file_is ∙ by (file_in before)
-  where
-    by : (found : Option RegisterFile) → is_some found ≡ is_some (dump_from before found)
-    by None = refl
-    by (Some file) = refl
 
 pub no_file_at_end : (state : State) (before : List Reading) (place : Place) → HasRead state before → state.file ≡ None → Err (fault_at NoCap place) ≡ read_from place before []
 no_file_at_end state before place holds is =

@@ -2,10 +2,11 @@
 --     dump_in before      the dump that the lines lead to
 --     read_text text      the dump that the text shows, or its first offence
 --     dump_offence text      the first offence, with its reason and place
+--     read_given text      the dump with what the text gives of it, or the first offence
 use Rattle.std.specs.Prelude.{ℕ, ◌≡◌, ◌≤◌, ◌<◌, ◌-◌, ◌==◌, nat_lt, Bool, false, List, [], ◌∷◌, ◌++◌, length, ⊤, if◌then◌else◌, map, Option, Some, None, ok_or, option_to_list, unwrap_or, Result, Ok, Err}
 use Rattle.std.specs.List.{slice_index_or}
 use Rattle.std.specs.Option.{option_and_then, option_map, option_map_or}
-use Rattle.std.specs.Result.{result_err}
+use Rattle.std.specs.Result.{result_err, result_map_both}
 use Rattle.mt_text.specs.Reader.{Course}
 use Rattle.mt_text.specs.Text.{end_of}
 use Rattle.mt_text.specs.declared.place.Place.{Place}
@@ -13,7 +14,8 @@ use Rattle.mt_regs.specs.RegisterFile.{RegisterFile, low_byte, blank_file}
 use Rattle.mt_regs.specs.Registers.{written}
 use Rattle.mt_dump.specs.Line.{Reading, fault_at}
 use Rattle.mt_dump.specs.Dumps.{Dump}
-use Rattle.mt_dump.specs.Dump.{given, widths, times, version_of, said_by, is_given, is_spoken, up_to_section, section_count, first_width, offence_of, said_from}
+use Rattle.mt_dump.specs.Dump.{given, widths, gives_width, times, version_of, said_by, is_given, is_spoken, up_to_section, section_count, first_width, offence_of, said_from}
+use Rattle.mt_dump.specs.declared.dumps.GivenDump.{GivenDump}
 use Rattle.mt_dump.specs.declared.fault.DumpFault.{DumpFault}
 use Rattle.mt_dump.specs.declared.fault.DumpReason.TheVariants.{NoCap}
 use Rattle.mt_dump.specs.declared.said.Said.TheVariants.{Nothing, Version, Section, Width, Register}
@@ -70,6 +72,25 @@ read_text text = read_from (end_of text) [] (said_by text)
 abbrev pub dump_offence : List ℕ → Option DumpFault
 dump_offence text = result_err (read_text text)
 
+-- the lines in their order, before others
+abbrev pub onto : {X : Type 0} → List X → List X → List X
+onto [] rest = rest
+onto (line ∷ before) rest = onto before (line ∷ rest)
+
+-- a dump with what these lines give of it
+abbrev pub given_by : List Reading → Dump → GivenDump
+given_by says dump = record { dump = dump; has_width = gives_width says }
+
+abbrev pub given_after : List Reading → Result Dump DumpFault → Result GivenDump DumpFault
+given_after says read = result_map_both (given_by says) (λ fault. fault) read
+
+-- what lines behind others lead to, with what all these lines give of it
+abbrev pub given_from : Place → List Reading → List Reading → Result GivenDump DumpFault
+given_from end before rest = given_after (onto before rest) (read_from end before rest)
+
+abbrev pub read_given : List ℕ → Result GivenDump DumpFault
+read_given text = given_from (end_of text) [] (said_by text)
+
 -- A reader between two lines.
 pub record State : Type 0 where
   pub version : ℕ  -- the version that is told, or else 1
@@ -79,6 +100,7 @@ pub record State : Type 0 where
   pub file : Option RegisterFile  -- the file of the registers that the present section gave
   pub width : ℕ  -- the width that section 0 gives, or else the usual one
   pub has_width : Bool  -- whether the present section gave it
+  pub width_given : Bool  -- whether some line gave it
   pub has_capabilities : Bool  -- whether the present section gave 0FEH
   pub marks : List Bool  -- whether it gave each register from 200H on
 
@@ -92,17 +114,13 @@ pub record HasRead (state : State) (before : List Reading) : Type 0 where
   pub file_is : state.file ≡ file_in before
   pub width_is : state.width ≡ first_width before
   pub has_width_is : state.has_width ≡ nat_lt 0 (length (widths (up_to_section before)))
+  pub width_given_is : state.width_given ≡ gives_width before
   pub has_capabilities_is : state.has_capabilities ≡ is_given 0xfe (up_to_section before)
   pub size : length state.marks ≡ 256
   pub marked : (number : ℕ) → 0x200 ≤ number → number < 0x300 → slice_index_or state.marks (number - 0x200) false ≡ nat_lt 0 (times number (given (up_to_section before)))
 
 -- The lines that follow, of which the first has this number, lead a reader to this.
-pub record LeadsTo (state : State) (number : ℕ) (course : Course (Result Dump DumpFault)) : Type 0 where
+pub record LeadsTo (state : State) (number : ℕ) (course : Course (Result GivenDump DumpFault)) : Type 0 where
   pub before : List Reading
   pub read : HasRead state before
-  pub leads : (lines : List (List ℕ)) (end : Place) → course lines end ≡ read_from end before (said_from number lines)
-
--- the lines in their order, before others
-abbrev pub onto : {X : Type 0} → List X → List X → List X
-onto [] rest = rest
-onto (line ∷ before) rest = onto before (line ∷ rest)
+  pub leads : (lines : List (List ℕ)) (end : Place) → course lines end ≡ given_from end before (said_from number lines)

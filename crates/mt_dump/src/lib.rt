@@ -12,7 +12,7 @@ mod said;
 mod texts;
 
 pub use canon::{number_text, value_text, write_dump};
-pub use dumps::Dump;
+pub use dumps::{Dump, GivenDump};
 pub use fault::{DumpFault, DumpReason};
 pub use laws::{
     a_comment_shows_nothing, a_dump_is_of_version_1_where_no_other_is_told,
@@ -21,5 +21,5 @@ pub use laws::{
     canonical_texts_are_equal_where_dumps_are, the_canonical_text_shows_its_dump,
     what_a_text_shows_is_a_dump, what_is_plainly_shown_is_shown,
 };
-pub use reader::{DumpReader, read_dump, read_dump_from};
+pub use reader::{DumpReader, read_dump, read_dump_from, read_given};
 pub use texts::{TextBuffer, append_canon, append_text, canonical_text};

@@ -1,4 +1,4 @@
-ghost use Rattle.std.specs.Prelude.{◌≡◌, ◌≢◌, ◌≤◌, ◌<◌, ◌+◌, ◌-◌, ◌==◌, ◌&&◌, nat_lt, not, ◌∷◌, ℕ, List, [], length, Some, None, is_some, Ok, Err, ◌↔◌, IfErr, IfOk, IsErrOf, MatchResult, MatchOption};
+ghost use Rattle.std.specs.Prelude.{◌≡◌, ◌≢◌, ◌≤◌, ◌<◌, ◌+◌, ◌-◌, ◌==◌, ◌&&◌, nat_lt, not, ◌∷◌, ℕ, List, [], length, Some, None, Ok, Err, ◌↔◌, IfErr, IfOk, IsErrOf, MatchResult, MatchOption};
 ghost use Rattle.mt_text.specs.Text.{longest_input};
 ghost use Rattle.mt_ports.specs.Causes.{Rose};
 ghost use Rattle.mt_text.specs.Feed.{GaveTooMuch};
@@ -8,16 +8,16 @@ ghost use Rattle.mt_dump.specs.declared.fault.DumpFault.{DumpFault};
 ghost use Rattle.mt_dump.specs.Line.{Reading, fault_at, said_of};
 ghost use Rattle.mt_dump.specs.Dumps.{Dump as DumpValue};
 ghost use Rattle.mt_dump.specs.Dump.{Shown, offence_of, is_outside};
-ghost use Rattle.mt_dump.specs.Reader.{HasRead, dump_in, dump_offence, read_from, with_width};
+ghost use Rattle.mt_dump.specs.Reader.{HasRead, dump_offence, read_from, read_given, with_width};
 
-use crate::dumps::Dump;
+use crate::dumps::{Dump, GivenDump};
 use crate::line::read_line;
 use crate::said::Said;
 use crate::{DumpFault, DumpReason};
 use arrayvec::ArrayVec;
 use mt_ports::Source;
 use mt_regs::{CAPABILITIES, FIRST_PAIR, RegFile};
-use mt_text::{FeedFault, Line, LineReader, Place, end_place, next_line, read_lines};
+use mt_text::{FeedFault, Line, LineReader, Place, read_lines, read_slice};
 use std::marker::Model;
 
 const CAP: u64 = CAPABILITIES as u64;
@@ -27,8 +27,6 @@ const FIRST: u64 = FIRST_PAIR as u64;
 const MARKS: usize = 256;
 
 const USUAL_WIDTH: u8 = 36;
-
-const FIRST_PLACE: Place = Place { line: 1, column: 1 };
 
 /// Reads the lines of a dump one after the other.
 #[derive(Drop)]
@@ -48,6 +46,8 @@ pub struct DumpReader {
     // whether the present section gave the width, and 0FEH
     has_width: bool,
     has_capabilities: bool,
+    // whether some line gave the width
+    width_given: bool,
     // whether it gave each register from 200H on
     given: [bool; 256],
 }
@@ -117,6 +117,7 @@ impl DumpReader {
             width: USUAL_WIDTH,
             has_width: false,
             has_capabilities: false,
+            width_given: false,
             given: [false; 256],
         }
     }
@@ -183,6 +184,7 @@ impl DumpReader {
         self.spoken = true;
         self.width = width;
         self.has_width = true;
+        self.width_given = true;
         Ok(())
     }
 
@@ -275,13 +277,6 @@ impl DumpReader {
         }
     }
 
-    // Whether a line gave 0FEH, so that the end can have no offence.
-    fn is_complete(&self) -> bool
-        ensures { (before : List Reading) → HasRead self.now before → result ≡ is_some (dump_in before) }
-    {
-        self.file.is_some()
-    }
-
     /// The dump of all lines that were read. Where none of them gave 0FEH the fault stands at the place.
     pub fn finish(self, at: Place) -> Result<Dump, DumpFault>
         ensures { (before : List Reading) → HasRead self before → result ≡ read_from at before [] }
@@ -303,7 +298,7 @@ impl DumpReader {
 }
 
 impl LineReader for DumpReader {
-    type Answer = Dump;
+    type Answer = GivenDump;
 
     type Fault = DumpFault;
 
@@ -319,9 +314,20 @@ impl LineReader for DumpReader {
         self.take(line)
     }
 
-    fn finish_at(self, end: Place) -> Result<Dump, DumpFault> {
-        self.finish(end)
+    fn finish_at(self, end: Place) -> Result<GivenDump, DumpFault> {
+        let has_width = self.width_given;
+        match self.finish(end) {
+            Ok(dump) => Ok(GivenDump { dump, has_width }),
+            Err(fault) => Err(fault),
+        }
     }
+}
+
+/// The dump that a text shows and whether it gives the width, or its first offence.
+pub fn read_given(source: &[u8]) -> Result<GivenDump, DumpFault>
+    ensures { result ≡ read_given source.now }
+{
+    read_slice(DumpReader::new(), source)
 }
 
 /// The dump that a text shows, or its first offence.
@@ -330,20 +336,10 @@ pub fn read_dump(source: &[u8]) -> Result<Dump, DumpFault>
     ensures ok { (dump : DumpValue) → (result ≡ Ok dump) ↔ Shown source.now dump }
     ensures err { (fault : DumpFault) → (result ≡ Err fault) ↔ (dump_offence source.now ≡ Some fault) }
 {
-    let mut reader = DumpReader::new();
-    let mut at = 0;
-    let mut number = 1;
-    'lines: while let Some(line) = next_line(source, at, number) {
-        reader.take(&line)?;
-        at = line.next;
-        number += 1;
+    match read_given(source) {
+        Ok(given) => Ok(given.dump),
+        Err(fault) => Err(fault),
     }
-    let end = if reader.is_complete() {
-        FIRST_PLACE
-    } else {
-        end_place(source)
-    };
-    reader.finish(end)
 }
 
 /// The dump that the bytes of a source show, or their first offence, line by line out of one
@@ -357,5 +353,9 @@ pub fn read_dump_from<S: Source>(source: &mut S) -> Result<Result<Dump, DumpFaul
     ensures failed { IsErrOf result FeedFault.ReadFault → Rose (S.faults source.old) (S.faults source.new) }
     ensures stands { (IsErrOf result FeedFault.ReadFault → ⊥) → S.faults source.new ≡ S.faults source.old }
 {
-    read_lines(DumpReader::new(), source)
+    match read_lines(DumpReader::new(), source) {
+        Ok(Ok(given)) => Ok(Ok(given.dump)),
+        Ok(Err(fault)) => Ok(Err(fault)),
+        Err(fault) => Err(fault),
+    }
 }
