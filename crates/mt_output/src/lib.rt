@@ -3,7 +3,6 @@
 #![tactic(auto)]
 
 mod faults;
-mod forming;
 mod line;
 mod program;
 mod whole;
