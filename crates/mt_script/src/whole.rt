@@ -6,7 +6,7 @@ ghost use Rattle.mt_script.specs.Script.{Rest, offence_after, script_offence};
 
 use crate::head::Head;
 use crate::{Offence, read_end};
-use mt_text::{Line, end_place, next_line};
+use mt_text::{Line, Lines, end_place};
 
 // Takes one line of a script, before or behind the dump's end.
 fn take_line(head: &mut Head, line: &Line<'_>) -> Result<(), Offence>
@@ -28,12 +28,9 @@ fn read_lines(source: &[u8]) -> Result<(), Offence>
     ensures { MatchResult result (λ _. script_offence source.now ≡ None) (λ offence. script_offence source.now ≡ Some offence) }
 {
     let mut head = Head::new();
-    let mut at = 0;
-    let mut number = 1;
-    'lines: while let Some(line) = next_line(source, at, number) {
+    let mut lines = Lines::of(source);
+    'lines: while let Some(line) = lines.next_line() {
         take_line(&mut head, &line)?;
-        at = line.next;
-        number += 1;
     }
     match read_end(&head.setup, end_place(source)) {
         Ok(()) => Ok(()),
