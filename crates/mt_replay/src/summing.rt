@@ -10,7 +10,7 @@ use mt_ram::Ram;
 use mt_rendezvous::Caller;
 use mt_script::{Head, Offence, offence_line, read_end};
 use mt_stream::Stop;
-use mt_text::{end_place, hex64, next_line};
+use mt_text::{Lines, end_place, hex64};
 use std::alloc::Global;
 use std::sync::Wait;
 use std::thread::Threads;
@@ -94,10 +94,9 @@ fn with_line(totals: &Totals, line: &[u8]) -> Totals
 fn add_text(totals: &mut Totals, text: &[u8])
     ensures { totals.new ≡ with_text totals.old text.now }
 {
-    let mut at = 0;
-    'lines: while let Some(line) = next_line(text, at, 1) {
+    let mut lines = Lines::of(text);
+    'lines: while let Some(line) = lines.next_line() {
         *totals = with_line(totals, line.bytes);
-        at = line.next;
     }
 }
 
@@ -152,9 +151,8 @@ fn sum_lines<R: Threads + Wait + Sync, G: Gate>(
     let mut totals = NO_TOTALS;
     let mut sink = NoSink { faults: 0 };
     let mut run = Run::Head(Head::new());
-    let mut at = 0;
-    let mut number = 1;
-    'lines: while let Some(line) = next_line(source, at, number) {
+    let mut lines = Lines::of(source);
+    'lines: while let Some(line) = lines.next_line() {
         match take_line(resources, &mut run, &line, writer, &mut sink) {
             Ok(None) => add_waiting(&mut totals, writer),
             Ok(Some(stop)) => {
@@ -167,8 +165,6 @@ fn sum_lines<R: Threads + Wait + Sync, G: Gate>(
             // a line has no room in the writer
             Err(_) => return Err(NoMemory),
         }
-        at = line.next;
-        number += 1;
     }
     if let Err(fault) = read_end(run.setup(), end_place(source)) {
         let line = offence_line(&Offence::Script(fault));
