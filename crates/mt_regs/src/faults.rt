@@ -3,7 +3,7 @@ ghost use Rattle.mt_regs.specs.Faults.{any_byte, has_broken_mask, has_reserved_b
 ghost use Rattle.mt_regs.specs.Registers.{IsWithin};
 
 use crate::{Fault, Reason, RegFile, Register};
-use mt_kinds::{MemType, PatType, bits, byte_at, is_bit_set};
+use mt_kinds::{DEF_TYPE_FE, MemType, PHYSMASK_V, PatType, bits, byte_at, is_bit_set};
 use mt_ranges::block_of;
 
 /// Whether a byte is a memory type of the processor. WC is one only with write combining.
@@ -65,7 +65,7 @@ impl RegFile {
             Register::DefaultType => {
                 bits(value, 8, 2) != 0
                     || value >> 12 != 0
-                    || (is_bit_set(value, 10) && !self.has_fixed())
+                    || (is_bit_set(value, DEF_TYPE_FE) && !self.has_fixed())
             }
         }
     }
@@ -88,7 +88,7 @@ impl RegFile {
         ensures { result ≡ has_broken_mask self.now register value }
     {
         match register {
-            Register::PhysMask(_) => is_bit_set(value, 11)
+            Register::PhysMask(_) => is_bit_set(value, PHYSMASK_V)
                 && block_of(0, value, self.maxphy).is_none(),
             _ => false,
         }
