@@ -11,12 +11,9 @@ ghost use Rattle.mt_cpu.specs.Steps.{HasFirst, HasWritten, is_first_flushing, is
 
 use crate::cpu::Cpu;
 use mt_cache::Cache;
-use mt_kinds::{LINE_BYTES, WORD_BYTES, is_bit_set};
+use mt_kinds::{DEF_TYPE_E, LINE_BYTES, WORD_BYTES, is_bit_set};
 use mt_machine::{Event, Phase};
 use mt_regs::{RegFile, Register};
-
-// The bit E of the default-type register.
-const ENABLE: u8 = 11;
 
 /// Whether a phase is one from Passed to Normal, in each of which a processor's next event looks at nothing
 /// but the processor and the goal.
@@ -33,8 +30,8 @@ pub fn is_local(phase: Phase) -> bool
 fn without_enable(deftype: u64) -> u64
     ensures { result ≡ (if is_bit_set deftype 11 then deftype - 2 ^ 11 else deftype) }
 {
-    if is_bit_set(deftype, ENABLE) {
-        deftype - (1 << ENABLE)
+    if is_bit_set(deftype, DEF_TYPE_E) {
+        deftype - (1 << DEF_TYPE_E)
     } else {
         deftype
     }

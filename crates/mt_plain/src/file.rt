@@ -5,7 +5,7 @@ ghost use Rattle.mt_regs.specs.RegisterFile.{IsRegisterFile, low_byte};
 
 use crate::{PlainPair, PlainRegisters};
 use arrayvec::ArrayVec;
-use mt_kinds::is_bit_set;
+use mt_kinds::{MTRRCAP_FIX, is_bit_set};
 use mt_regs::RegFile;
 
 // VCNT.
@@ -52,7 +52,8 @@ pub fn is_file(r: &PlainRegisters) -> bool
     if count > 32 {
         return false;
     }
-    are_zero_pairs(&r.pairs[count..]) && (is_bit_set(r.capabilities, 8) || are_zero(&r.fixed))
+    are_zero_pairs(&r.pairs[count..])
+        && (is_bit_set(r.capabilities, MTRRCAP_FIX) || are_zero(&r.fixed))
 }
 
 /// The file, where the words are a register file's.

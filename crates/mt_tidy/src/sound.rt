@@ -4,7 +4,7 @@ ghost use Rattle.mt_regs.specs.RegisterFile.{has_write_combining, pair_at};
 ghost use Rattle.mt_regs.specs.declared.registers.Register.TheVariants.{DefaultType, Pat};
 ghost use Rattle.mt_tidy.specs.Sound.{IsPairValue, has_types};
 
-use mt_kinds::{PatType, bits, byte_at, is_bit_set};
+use mt_kinds::{PHYSMASK_V, PatType, bits, byte_at, is_bit_set};
 use mt_ranges::block_of;
 use mt_regs::{RegFile, is_supported};
 
@@ -33,7 +33,7 @@ fn is_pair_sound(f: &RegFile, pair: (u64, u64)) -> bool
     if pair.1 % (1 << 11) != 0 || pair.1 >> f.maxphy != 0 {
         return false;
     }
-    !is_bit_set(pair.1, 11) || block_of(0, pair.1, f.maxphy).is_some()
+    !is_bit_set(pair.1, PHYSMASK_V) || block_of(0, pair.1, f.maxphy).is_some()
 }
 
 fn are_pairs_sound(f: &RegFile) -> bool
