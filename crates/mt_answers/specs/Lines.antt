@@ -15,9 +15,6 @@ use Rattle.mt_dump.specs.Canon.{number_text, value_text}
 use Rattle.mt_dump.specs.Dumps.{Dump}
 use Rattle.mt_output.specs.Lines.{accepted_line, address_text, line}
 
-abbrev pub usage_line : List ℕ
-usage_line = line (codes "usage")
-
 -- all files are equal, or file k is the first that differs from processor 0's, in this register
 abbrev pub agreement_line : Option (ℕ × ℕ) → List ℕ
 agreement_line None = line (codes "same")

@@ -16,7 +16,7 @@ use Rattle.mt_answers.specs.declared.command.ThreadedCommand.{ThreadedCommand}
 use Rattle.mt_answers.specs.declared.command.DumpCommand.{DumpCommand}
 use Rattle.mt_answers.specs.CommandLine.{MayTakeMemory, command_of, reads_input}
 use Rattle.mt_answers.specs.Help.{own_text}
-use Rattle.mt_answers.specs.Lines.{usage_line}
+use Rattle.mt_output.specs.Lines.{usage_line}
 use Rattle.mt_answers.specs.Statuses.{MayEnd}
 use Rattle.mt_answers.specs.Written.{AnswersInput, Makes}
 

@@ -17,6 +17,6 @@ pub use generator::{drawn, make_text, stepped};
 pub use help::{help_text, version_text};
 pub use lines::{disabled_line, lost_line, page_text, run_line, too_few_line, used_line};
 pub use program::{answer_words, serial_status, words_from};
-pub use serial::{run_serial, wrong_usage};
+pub use serial::run_serial;
 pub use texts::{grained_text, tidied_text, types_text};
 pub use words::command_of;

@@ -8,9 +8,9 @@ ghost use Rattle.mt_answers.specs.CommandLine.{command_of, threaded_of};
 ghost use Rattle.mt_answers.specs.Runs.{EndsAlone, IsAnswered, IsUsageEnd};
 
 use crate::command::{Command, ThreadedCommand};
-use crate::serial::{run_serial, wrong_usage};
+use crate::serial::run_serial;
 use crate::words::command_of;
-use mt_output::{exit_code, words_behind_name};
+use mt_output::{NoWords, exit_code, wrong_usage};
 use mt_ports::{NoMemory, Sink, Source, Status};
 use std::alloc::Global;
 use std::env::Args;
@@ -24,13 +24,10 @@ pub fn words_from(alloc: Global, args: io::Result<Args>) -> Result<Vec<String>, 
     ensures no_memory { IfErr args (λ error. error_kind error ≡ ErrorKind.OutOfMemory → IsErr result) }
     ensures no_text { IfErr args (λ error. error_kind error ≢ ErrorKind.OutOfMemory → IsOkAnd result (λ words. words.items ≡ [])) }
 {
-    match args {
-        Ok(args) => match words_behind_name(alloc, args) {
-            Ok(words) => Ok(words),
-            Err(_) => Err(NoMemory),
-        },
-        Err(error) if error.kind() == ErrorKind::OutOfMemory => Err(NoMemory),
-        Err(_) => Ok(Vec::new(alloc)),
+    match mt_output::words_from(alloc, args) {
+        Ok(words) => Ok(words),
+        Err(NoWords::NoText) => Ok(Vec::new(alloc)),
+        Err(NoWords::NoMemory) => Err(NoMemory),
     }
 }
 

@@ -1,9 +1,5 @@
-ghost use Rattle.std.specs.Prelude.{◌≡◌, ◌⊎◌};
-ghost use Rattle.mt_ports.specs.Causes.{StatusHasCause};
 ghost use Rattle.mt_output.specs.Ports.{sink_run, source_run};
-ghost use Rattle.mt_output.specs.Written.{Writes};
 ghost use Rattle.mt_answers.specs.CommandLine.{IsSoundSerial};
-ghost use Rattle.mt_answers.specs.Lines.{usage_line};
 ghost use Rattle.mt_answers.specs.Runs.{IsSerialRun};
 
 use crate::SerialCommand;
@@ -12,15 +8,6 @@ use crate::help::{help_text, version_text};
 use mt_output::written;
 use mt_ports::{Sink, Source, Status};
 use std::alloc::Global;
-
-/// Writes the line for words that are no command line.
-pub fn wrong_usage<K: Sink>(sink: &mut K) -> Status
-    ensures bytes { Writes usage_line Status.Usage (K.taken sink.old) (K.taken sink.new) result }
-    ensures status { (result ≡ Status.Usage) ⊎ (result ≡ Status.WriteFault) }
-    ensures cause { StatusHasCause Status.WriteFault (K.faults sink.old) (K.faults sink.new) result }
-{
-    written(sink, b"usage\n", Status::Usage)
-}
 
 /// Does what a command asks for that starts no thread. A command on a dump reads the source to its
 /// end, unless the source fails or gives more than 16,777,216 bytes. Every other command reads nothing.

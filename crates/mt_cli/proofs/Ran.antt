@@ -19,7 +19,7 @@ use Rattle.mt_answers.specs.declared.command.DumpCommand.{DumpCommand}
 use Rattle.mt_answers.specs.CommandLine.{MayTakeMemory, command_of, left_of, reads_input}
 use Rattle.mt_answers.specs.Generator.{make_text}
 use Rattle.mt_answers.specs.Help.{help_text, version_text}
-use Rattle.mt_answers.specs.Lines.{usage_line}
+use Rattle.mt_output.specs.Lines.{usage_line}
 use Rattle.mt_cli.specs.Output.{Output, printed, usage}
 use Rattle.mt_cli.specs.Runs.{IsRun, IsToolRun}
 use Rattle.mt_answers.specs.Runs.{IsAnswered, IsSerialRun, IsUsage, answered, no_command}

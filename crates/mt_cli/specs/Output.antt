@@ -19,10 +19,9 @@ use Rattle.mt_answers.specs.declared.command.DumpCommand.{DumpCommand}
 use Rattle.mt_answers.specs.CommandLine.{command_of}
 use Rattle.mt_answers.specs.Generator.{make_text}
 use Rattle.mt_cli.specs.Measured.{measured_text}
-use Rattle.mt_output.specs.Lines.{bad_text_line, line}
+use Rattle.mt_output.specs.Lines.{bad_text_line, line, usage_line}
 use Rattle.mt_answers.specs.Answer.{Answer}
 use Rattle.mt_answers.specs.Help.{own_text}
-use Rattle.mt_answers.specs.Lines.{usage_line}
 
 -- the numbers of a transcript
 abbrev pub summary_text : Totals → List ℕ

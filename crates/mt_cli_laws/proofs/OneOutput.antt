@@ -33,8 +33,8 @@ use Rattle.mt_answers.specs.declared.command.DumpCommand.{DumpCommand}
 use Rattle.mt_answers.specs.declared.command.DumpCommand.TheVariants.{Check, Show, Types, Page, Tidy, Gran}
 use Rattle.mt_cli.specs.Measured.{measured_text}
 use Rattle.mt_answers.specs.CommandLine.{command_of}
-use Rattle.mt_output.specs.Lines.{bad_text_line, dump_refused_line}
-use Rattle.mt_answers.specs.Lines.{check_text, disabled_line, page_text, too_few_line, types_text, usage_line, used_line}
+use Rattle.mt_output.specs.Lines.{bad_text_line, dump_refused_line, usage_line}
+use Rattle.mt_answers.specs.Lines.{check_text, disabled_line, page_text, too_few_line, types_text, used_line}
 use Rattle.mt_answers.specs.Generator.{make_text}
 use Rattle.mt_answers.specs.Help.{help_text, own_text, version_text}
 use Rattle.mt_answers.specs.Answer.{Answer, FileAnswer, MayChoose, refused, accepted, shown, about_file, typed, paged, tidied, too_few, disabled, grained, gran_too_few, gran_disabled}

@@ -12,6 +12,9 @@ use Rattle.mt_dump.specs.declared.fault.DumpReason.TheVariants as dump
 abbrev pub line : List ℕ → List ℕ
 line text = text ++ 10 ∷ []
 
+abbrev pub usage_line : List ℕ
+usage_line = line (codes "usage")
+
 abbrev pub accepted_line : List ℕ
 accepted_line = line (codes "accepted")
 

@@ -13,7 +13,7 @@ use Rattle.mt_answers.specs.declared.command.SerialCommand.TheVariants.{Dump, Ma
 use Rattle.mt_answers.specs.declared.command.DumpCommand.{DumpCommand}
 use Rattle.mt_answers.specs.CommandLine.{command_of, threaded_of}
 use Rattle.mt_answers.specs.Help.{own_text}
-use Rattle.mt_answers.specs.Lines.{usage_line}
+use Rattle.mt_output.specs.Lines.{usage_line}
 use Rattle.mt_output.specs.Ports.{change, held}
 use Rattle.mt_answers.specs.Written.{AnswersInput, Makes, bad_input, good_input, no_input, writes, no_memory}
 use Rattle.mt_web.specs.Outcome.{PageOutcome, told_number, told_text}

@@ -8,7 +8,6 @@ use Rattle.mt_dump.specs.Dumps.{Dump as ShownDump}
 use Rattle.mt_dump.specs.Dump.{Shown}
 use Rattle.mt_dump.specs.Reader.{dump_offence}
 use Rattle.mt_dump.specs.declared.fault.DumpFault.{DumpFault}
-use Rattle.mt_output.specs.Lines.{bad_text_line}
 use Rattle.mt_answers.specs.declared.command.Command.TheVariants.{Serial}
 use Rattle.mt_answers.specs.declared.command.ThreadedCommand.{ThreadedCommand}
 use Rattle.mt_answers.specs.declared.command.SerialCommand.{SerialCommand}
@@ -17,7 +16,7 @@ use Rattle.mt_answers.specs.declared.command.DumpCommand.{DumpCommand}
 use Rattle.mt_answers.specs.Answer.{Answer}
 use Rattle.mt_answers.specs.CommandLine.{command_of, threaded_of}
 use Rattle.mt_answers.specs.Help.{own_text}
-use Rattle.mt_answers.specs.Lines.{usage_line}
+use Rattle.mt_output.specs.Lines.{bad_text_line, usage_line}
 use Rattle.mt_web.specs.Outcome.{PageOutcome}
 use Rattle.mt_web.specs.Placed.{on_threads}
 

@@ -5,7 +5,8 @@ ghost use Rattle.mt_web.specs.Words.{words_in};
 use crate::ports::{ByteSource, TextSink};
 use crate::told::{PageText, ended, no_memory, threaded};
 use crate::words::words_in;
-use mt_answers::{Command, command_of, run_serial, wrong_usage};
+use mt_answers::{Command, command_of, run_serial};
+use mt_output::wrong_usage;
 use std::alloc::Global;
 
 // What these words come to.

@@ -4,7 +4,7 @@ use Rattle.mt_ports.specs.declared.status.Status.{Status}
 use Rattle.mt_ports.specs.declared.status.Status.TheVariants as status
 use Rattle.mt_script.specs.Newcomers.{IsWithoutNewcomers}
 use Rattle.mt_replay.specs.Transcript.{transcript}
-use Rattle.mt_answers.specs.Lines.{usage_line}
+use Rattle.mt_output.specs.Lines.{usage_line}
 use Rattle.mt_cli.specs.Output.{Output, usage, bad_text, answered, printed, replayed, summed, measured, requested}
 use Rattle.mt_cli.specs.Tool.{Starved, took}
 use Rattle.mt_cli_laws.proofs.outputs_worked.worked_endings.Goals as goal
