@@ -236,19 +236,6 @@ module _ (now : Situation) (is : IsSituation now) where
   accepted_is command.Report fits goes_on = given fits
   accepted_is (command.Word address) fits goes_on = given fits.0
 
-  pub motion_is : (c : Command) → Fits now c → ((n : Newcomer) × (c ≡ command.Newcomer n)) ⊎ (c ≡ command.Retire) → IsSituation (in_motion now)
-  motion_is c fits (inl comes) = moved (subst (Fits now) comes.1 fits)
-  motion_is c fits (inr retires) = moved (subst (Fits now) retires fits)
-
-  -- these move on among the commands
-  pub given_is : (c : Command) → Fits now c
-      → ((k : ℕ) × (a : Ask) × (c ≡ command.Ask k a)) ⊎ ((c ≡ command.Go) ⊎ ((c ≡ command.Cancel) ⊎ ((c ≡ command.Report) ⊎ ((address : ℕ) × (c ≡ command.Word address))))) → IsSituation (in_commands now)
-  given_is c fits (inl asks) = given (subst (Fits now) asks.2 fits).0.0
-  given_is c fits (inr (inl goes)) = given (subst (Fits now) goes fits)
-  given_is c fits (inr (inr (inl cancels))) = given (subst (Fits now) cancels fits)
-  given_is c fits (inr (inr (inr (inl reports)))) = given (subst (Fits now) reports fits)
-  given_is c fits (inr (inr (inr (inr word)))) = given (subst (Fits now) word.1 fits).0
-
   -- the end of the dump
   pub finished_is : (dump : Dump) → is_in_dump now.stage ≡ true → IsDump dump → has_each now.cpus dump ≡ true → IsSituation (finished now dump)
   unfolding IsDistinct

@@ -3,7 +3,7 @@ ghost use Rattle.mt_dump.specs.ForProcessors.{has_each};
 ghost use Rattle.mt_script.specs.Situation.{at_start, file_of};
 ghost use Rattle.mt_script.specs.Stages.{is_in_dump};
 ghost use Rattle.mt_script.specs.Kept.{IsSituation};
-ghost use Rattle.mt_script.specs.Accept.{Fits, in_motion, in_section_of, accepted, finished};
+ghost use Rattle.mt_script.specs.Accept.{Fits, in_section_of, accepted, finished};
 
 use crate::{Command, Section, Stage};
 use arrayvec::ArrayVec;
@@ -109,35 +109,12 @@ impl Setup {
         let _ = &self.stage;
     }
 
-    fn move_to(&mut self, stage: Stage)
-        requires { IsSituation (record self.old { stage = stage }) }
-        ensures { self.new ≡ record self.old { stage = stage } }
-    {
-        self.stage = stage;
-    }
-
-    fn begin_motion(&mut self)
-        requires { IsSituation (in_motion self.old) }
-        ensures { self.new ≡ in_motion self.old }
-    {
-        self.stage = Stage::Commands;
-        self.moving = true;
-    }
-
     fn begin_section(&mut self, stage: Stage)
         requires { IsSituation (in_section_of stage self.old) }
         ensures { self.new ≡ in_section_of stage self.old }
     {
         self.stage = stage;
         self.seen.clear();
-    }
-
-    fn take_cpus(&mut self, cpus: u32)
-        requires { IsSituation (record self.old { stage = Stage.NeedDump; cpus = cpus }) }
-        ensures { self.new ≡ record self.old { stage = Stage.NeedDump; cpus = cpus } }
-    {
-        self.stage = Stage::NeedDump;
-        self.cpus = cpus;
     }
 
     fn add_window(&mut self, base: u64, lines: u32)
@@ -156,21 +133,6 @@ impl Setup {
         self.seen.push(msr);
     }
 
-    // Moves on by a line of a section.
-    fn take_line(&mut self, line: Section)
-        requires fits { Fits self.old (Command.Section line) }
-        requires is { IsSituation (accepted self.old (Command.Section line)) }
-        ensures { self.new ≡ accepted self.old (Command.Section line) }
-    {
-        self.is_situation(); // a fact for the proof
-        match line {
-            Section::Update => self.begin_section(Stage::InUpdate),
-            Section::Begin => self.begin_section(Stage::InBegin),
-            Section::Register { msr, .. } => self.add_register(msr),
-            Section::End => self.begin_section(Stage::Commands),
-        }
-    }
-
     /// Moves on by a command that a line was read as, unless it ends the dump.
     #[inline(always)]
     pub fn accept(&mut self, c: &Command)
@@ -180,14 +142,25 @@ impl Setup {
     {
         self.is_situation(); // a fact for the proof
         match *c {
-            Command::Cpus(n) => self.take_cpus(n),
-            Command::Dump => self.move_to(Stage::InDump),
+            Command::Cpus(n) => {
+                self.stage = Stage::NeedDump;
+                self.cpus = n;
+            }
+            Command::Dump => self.stage = Stage::InDump,
             Command::Ram(base, lines) => self.add_window(base, lines),
-            Command::Section(line) => self.take_line(line),
-            Command::Newcomer(_) | Command::Retire => self.begin_motion(),
+            Command::Section(line) => match line {
+                Section::Update => self.begin_section(Stage::InUpdate),
+                Section::Begin => self.begin_section(Stage::InBegin),
+                Section::Register { msr, .. } => self.add_register(msr),
+                Section::End => self.begin_section(Stage::Commands),
+            },
+            Command::Newcomer(_) | Command::Retire => {
+                self.stage = Stage::Commands;
+                self.moving = true;
+            }
             Command::Selfsnoop(_) | Command::Blank | Command::DumpLine => {}
             Command::Ask(..) | Command::Go | Command::Cancel | Command::Report | Command::Word(_) =>
-                self.move_to(Stage::Commands),
+                self.stage = Stage::Commands,
         }
     }
 
