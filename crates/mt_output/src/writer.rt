@@ -3,7 +3,6 @@ ghost use Rattle.mt_ports.specs.Causes.{HasCause};
 ghost use Rattle.mt_output.specs.Writing.{Adds};
 ghost use Rattle.mt_output.specs.Ports.{change, port};
 
-use crate::line::LINE_ROOM;
 use mt_ports::{Failed, NoMemory, Sink, put};
 use std::alloc::Global;
 use std::marker::Model;
@@ -64,15 +63,16 @@ impl Writer {
         Ok(())
     }
 
-    /// Sees to it that a line has room behind the bytes that wait: where there isn't, they go to the
+    /// Sees to it that so many bytes have room behind those that wait: where there isn't, they go to the
     /// sink. After a failure nothing waits.
-    pub fn make_room<K: Sink>(&mut self, sink: &mut K) -> Result<(), Failed>
+    pub fn make_room<K: Sink>(&mut self, sink: &mut K, room: usize) -> Result<(), Failed>
+        requires { room ≤ WRITER_ROOM }
         ensures bytes { Adds [] (change self.old self.new) (port K.taken sink.old sink.new) result }
-        ensures room { length self.new + LINE_ROOM ≤ WRITER_ROOM }
+        ensures room { length self.new + room ≤ WRITER_ROOM }
         ensures failed { OnErr result (self.new ≡ []) }
         ensures cause { HasCause (K.faults sink.old) (K.faults sink.new) result }
     {
-        if LINE_ROOM > WRITER_ROOM - self.text.len() {
+        if room > WRITER_ROOM - self.text.len() {
             self.flush(sink)
         } else {
             Ok(())

@@ -1,10 +1,12 @@
 -- What a command asks for, and that it can be done where the command fits.
-use Rattle.std.proofs.Common.{◌≡◌, ◌≢◌, ap, refl, subst, arith, ℕ, ◌<◌, true, false, length, Bool, if◌then◌else◌, Option}
+use Rattle.std.proofs.Common.{◌≡◌, ap, refl, subst, sym, arith, ℕ, ◌<◌, true, false, length, Bool, if◌then◌else◌, List, Option, None}
 use Rattle.mt_regs.specs.RegisterFile.{RegisterFile}
 use Rattle.mt_machine.specs.Machine.{Machine}
+use Rattle.mt_machine.specs.Memory.{Window}
+use Rattle.mt_ram.specs.Windows.{refusal, window}
 use Rattle.mt_script.specs.Accept.{Fits, FitsAsk}
 use Rattle.mt_script.specs.Numbers.{is_register}
-use Rattle.mt_script.specs.Situation.{most_processors}
+use Rattle.mt_script.specs.Situation.{file_of, most_processors}
 use Rattle.mt_script.specs.Stages.{is_past_windows, takes_windows}
 use Rattle.mt_script.specs.declared.command.Stage.{Stage}
 use Rattle.mt_script.specs.declared.command.Stage.TheVariants.{Rams}
@@ -12,20 +14,12 @@ use Rattle.mt_script.specs.declared.command.Command.{Command}
 use Rattle.mt_script.specs.declared.command.Command.TheVariants as command
 use Rattle.mt_script.specs.declared.command.Ask.{Ask}
 use Rattle.mt_script.specs.declared.command.Ask.TheVariants as ask
-use Rattle.mt_script.specs.declared.command.Newcomer.{Newcomer}
 use Rattle.mt_replay.specs.Doing.{CanAsk, CanDo}
 use Rattle.mt_replay.specs.Kept.{IsReplayState}
-use Rattle.mt_replay.specs.Parts.{IsFormed}
 use Rattle.mt_replay.specs.ReplayState.{ReplayState}
-use Rattle.mt_replay.proofs.Asked.{short_number}
+use Rattle.mt_replay.proofs.Asked.{has_place, short_number}
 use Rattle.mt_replay.proofs.Keeping.States.{dump_here, first_here, mapping_fits}
-
--- what isn't one of these has at most one line
-pub is_formed : (c : Command) → c ≢ command.Report → ((base lines : ℕ) → c ≢ command.Ram base lines) → ((n : Newcomer) → c ≢ command.Newcomer n) → IsFormed c
-is_formed command.Report report window newcomer = report refl
-is_formed (command.Ram base lines) report window newcomer = window base lines refl
-is_formed (command.Newcomer n) report window newcomer = newcomer n refl
-is_formed other report window newcomer = tt
+use Rattle.mt_replay.proofs.Keeping.Windows.{file_limit}
 
 before_commands : (stage : Stage) → takes_windows stage ≡ true → is_past_windows stage ≡ false
 before_commands Rams takes = refl
@@ -53,4 +47,10 @@ module _ (s : ReplayState) (h : IsReplayState s) where
   can_do (command.Selfsnoop k) fits =
       let dump = dump_here s.now h.situation h.past in
       (is_there k fits.0 fits.1, ap (λ (m : Machine). m.order) (h.fresh dump.0 dump.1 fits.0).1)
+  can_do (command.Ram base lines) fits =
+      let file = first_here s.now h.situation h.past in
+      let place = has_place s.now base lines fits.1 fits.4 in
+      let limit = file_limit (file_of s.now) file.0 file.1 file.2 in
+      let accepted = subst (λ (ws : List Window). refusal ws (window base lines) ≡ None) (sym h.windows) place.accepted in
+      (omega (arith, fits.2), fits.3, omega (arith, place.end, limit), accepted)
   can_do other fits = tt

@@ -129,8 +129,7 @@ module _ (s new : ReplayState) (c : Command) (number : ℕ) (line : List ℕ) (i
       inr (record {
         refused = does.0;
         early = λ end lines. early_front (came || newcomers_from number (line ∷ lines) (in_body s)) so_far (from_line number line (in_body s) end lines).text (asked_early lines (asks stop refl));
-        waits = does.1;
-        kept = does.2;
+        passed = does.1;
       })
     where
       comes : (lines : List (List ℕ)) → is_newcomer c ≡ true → (came || newcomers_from number (line ∷ lines) (in_body s)) ≡ true

@@ -1,10 +1,12 @@
 -- What is required of what is done (own).
-use Rattle.std.specs.Prelude.{ℕ, ◌≡◌, ◌<◌, ⊤, length, None, Some, slice_get}
+use Rattle.std.specs.Prelude.{ℕ, ◌≡◌, ◌<◌, ◌≤◌, ◌+◌, ◌*◌, ◌^◌, ⊤, length, None, Some, slice_get}
+use Rattle.mt_kinds.specs.Sizes.{most_lines}
 use Rattle.mt_regs.specs.Registers.{HasThreeDigits}
 use Rattle.mt_machine.specs.declared.op.Op.TheVariants as op
 use Rattle.mt_machine.specs.declared.control.Control.TheVariants as control_of
 use Rattle.mt_machine.specs.System.{Processor}
 use Rattle.mt_machine.specs.Machine.{FitsControl, FitsOp, Machine}
+use Rattle.mt_ram.specs.Windows.{refusal, window}
 use Rattle.mt_script.specs.declared.command.Command.{Command}
 use Rattle.mt_script.specs.declared.command.Command.TheVariants as command
 use Rattle.mt_script.specs.declared.command.Ask.{Ask}
@@ -21,4 +23,6 @@ CanAsk m k other = ⊤
 abbrev pub CanDo : Machine → Command → Type 0
 CanDo m (command.Ask k a) = CanAsk m k a
 CanDo m (command.Selfsnoop k) = (k < length m.system.processors) × (m.order ≡ None)
+CanDo m (command.Ram base lines) =
+    (0 < lines) × (lines ≤ most_lines) × (base + 64 * lines ≤ 2 ^ 52) × (refusal m.system.memory.windows (window base lines) ≡ None)
 CanDo m other = ⊤

@@ -19,10 +19,3 @@ abbrev pub AsksForMemory : Machine → Command → Type 0
 AsksForMemory m (command.Ram base lines) = ⊤
 AsksForMemory m (command.Newcomer n) = may_come m ≡ true
 AsksForMemory m other = ⊥
-
--- it asks for no memory, and has at most one line
-abbrev pub IsFormed : Command → Type 0
-IsFormed (command.Ram base lines) = ⊥
-IsFormed (command.Newcomer n) = ⊥
-IsFormed command.Report = ⊥
-IsFormed other = ⊤

@@ -75,13 +75,6 @@ abbrev pub HasOutput : Run → Bool → List ℕ → Type 0
 HasOutput (run.Head h) came text = (text ≡ []) × (came ≡ false)
 HasOutput (run.Body r) came text = takes_windows r.now.stage ≡ true → text ≡ accepted_line
 
--- A text went through the writer, and the run goes on; or a write failed, and a front of it was taken.
-abbrev pub Writes : Waiting → List ℕ → Port → Result (Option Stop) Failed → Type 0
-Writes writer text sink result =
-    MatchResult result
-    (λ ended. (ended ≡ None) × PassesOn writer.old text writer.new sink.old sink.new)
-    (λ _. AppendsFront sink.old sink.new (writer.old ++ text))
-
 -- A command was done: its text went through the writer, and its state stands. For want of memory nothing was done, and
 -- after a failed write a front of the text was taken.
 abbrev pub CarriesOut : Change ReplayState → Command → Waiting → Port → Result (Option Stop) Failed → Type 0
@@ -89,7 +82,7 @@ CarriesOut state c writer sink result =
     MatchResult result
     (λ ended. MatchOption ended
     (PassesOn writer.old (command_text state.old c) writer.new sink.old sink.new × (state.new ≡ state_after state.old c))
-    (λ stop. (stop ≡ NoMemory) × (writer.new ≡ writer.old) × (sink.new ≡ sink.old)))
+    (λ stop. (stop ≡ NoMemory) × PassesOn writer.old [] writer.new sink.old sink.new))
     (λ failed. AppendsFront sink.old sink.new (writer.old ++ command_text state.old c))
 
 -- where lines stand at this point, behind a text, and whether a processor came up before

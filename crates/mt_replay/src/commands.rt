@@ -1,4 +1,4 @@
-ghost use Rattle.std.specs.Prelude.{◌≡◌, IfOk, ◌<◌, ◌≤◌, ◌+◌, ◌*◌, ◌^◌, ◌++◌, length, slice_get, MatchOption, OnOk, OnErr, None, Some, true};
+ghost use Rattle.std.specs.Prelude.{◌≡◌, ◌<◌, ◌≤◌, ◌+◌, ◌*◌, ◌^◌, ◌++◌, length, slice_get, MatchOption, OnOk, OnErr, None, Some, true};
 ghost use Rattle.mt_machine.specs.Machine.{Accesses, Calls, Cancels, Controls, IsEnabled, FitsControl, FitsOp, Goes, common_era, go_of, next};
 ghost use Rattle.mt_machine.specs.System.{Processor};
 ghost use Rattle.mt_machine.specs.Start.{HasEraRoom, IsQuiet};
@@ -21,16 +21,14 @@ ghost use Rattle.mt_kinds.specs.Sizes.{most_lines};
 
 use crate::texts::{
     append_done, append_ruled, append_stepped, call_fault_line, called_line, cancel_line,
-    complete_line, full_line, go_line, joined_line, memory_line, register_line, retired_line,
-    under_way_line, up_line,
+    complete_line, go_line, joined_line, memory_line, register_line, retired_line, up_line,
 };
 use mt_admit::{RetireFault, UpFault};
 use mt_core::{CallFault, Core, a_core_arises};
 use mt_kinds::PAGE_BYTES;
 use mt_machine::{Control, Op};
-use mt_output::{LINE_ROOM, LineBuffer, WRITER_ROOM, Writer};
+use mt_output::{LINE_ROOM, WRITER_ROOM, Writer};
 use mt_ports::{Gate, NoMemory};
-use mt_ram::RamFault;
 use mt_regs::RegFile;
 use mt_rendezvous::{Caller, update_with};
 use mt_script::{Ask, Command, Mapped, Newcomer};
@@ -208,6 +206,7 @@ pub(crate) fn register(writer: &mut Writer, core: &Core, k: u32, msr: u32)
 }
 
 /// Adds a window for which there is room, and writes nothing. Fails only if an allocation fails; nothing then changes.
+#[inline(never)]
 pub fn add_window(core: &mut Core, base: u64, lines: u32) -> Result<(), NoMemory>
     requires some { 0 < lines }
     requires few { lines ≤ most_lines }
@@ -216,11 +215,7 @@ pub fn add_window(core: &mut Core, base: u64, lines: u32) -> Result<(), NoMemory
     ensures added { OnOk result (core.new ≡ grown (window base lines) core.old) }
     ensures kept { OnErr result (core.new ≡ core.old) }
 {
-    match core.add_ram(base, lines) {
-        Ok(()) => Ok(()),
-        Err(RamFault::NoMemory) => Err(NoMemory),
-        Err(_) => unreachable!(),
-    }
+    core.add_ram(base, lines).map_err(|_| NoMemory) // no other fault, since there is room
 }
 
 // Addresses are of bytes, and a mapping is of pages.
@@ -271,16 +266,22 @@ pub(crate) fn ask_one(writer: &mut Writer, core: &mut Core, k: u32, ask: Ask)
     }
 }
 
-/// Brings a processor in if one may come. The line says so, or why none does. Fails only if one may come and an
-/// allocation fails; nothing then changes.
+/// Brings a processor in if one may come, and says so, or why none does. Fails only if one may come and an allocation
+/// fails; nothing then changes.
+#[inline(never)]
 #[tactic(auto, using(crate::proofs::Keeping::Moving::may_come_by))]
-pub(crate) fn bring_in(core: &mut Core, newcomer: Newcomer) -> Result<LineBuffer, NoMemory>
+pub(crate) fn bring_in(
+    writer: &mut Writer,
+    core: &mut Core,
+    newcomer: Newcomer,
+) -> Result<(), NoMemory>
+    requires line { length writer.old + LINE_ROOM ≤ WRITER_ROOM }
     requires some { 0 < length core.old.system.processors }
     requires room { HasEraRoom core.old }
-    ensures text { IfOk result (λ line. line.items ≡ newcomer_text core.old newcomer) }
+    ensures text { OnOk result (writer.new ≡ writer.old ++ newcomer_text core.old newcomer) }
     ensures after { OnOk result (core.new ≡ after_newcomer core.old newcomer) }
     ensures asks { OnErr result (may_come core.old ≡ true) }
-    ensures kept { OnErr result (core.new ≡ core.old) }
+    ensures kept { OnErr result ((core.new ≡ core.old) × (writer.new ≡ writer.old)) }
 {
     a_core_arises(core); // a fact for the proof
     let came = match newcomer {
@@ -289,13 +290,14 @@ pub(crate) fn bring_in(core: &mut Core, newcomer: Newcomer) -> Result<LineBuffer
     };
     match came {
         Ok(k) => match newcomer {
-            Newcomer::Up => Ok(up_line(k)),
-            Newcomer::Join => Ok(joined_line(k)),
+            Newcomer::Up => writer.append(up_line(k).as_slice()),
+            Newcomer::Join => writer.append(joined_line(k).as_slice()),
         },
-        Err(UpFault::UnderWay) => Ok(under_way_line()),
-        Err(UpFault::Full) => Ok(full_line()),
-        Err(UpFault::NoMemory) => Err(NoMemory),
+        Err(UpFault::UnderWay) => writer.append(b"under way\n"),
+        Err(UpFault::Full) => writer.append(b"full\n"),
+        Err(UpFault::NoMemory) => return Err(NoMemory),
     }
+    Ok(())
 }
 
 /// Retires the last processor, where one may go, and says so, or why none does.

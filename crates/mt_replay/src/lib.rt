@@ -11,5 +11,6 @@ mod texts;
 
 pub use commands::add_window;
 pub use replayer::Replayer;
+pub use report::REPORT_ROOM;
 pub use running::{replay, replay_with};
 pub use summing::{Totals, summary, summary_with};

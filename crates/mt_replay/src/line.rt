@@ -1,4 +1,4 @@
-ghost use Rattle.std.specs.Prelude.{◌≡◌, ◌≢◌, ◌+◌, ℕ, List, [], Bool, true, MatchOption, MatchResult, IfOk, OnOk, OnErr, Some, Ok, Err};
+ghost use Rattle.std.specs.Prelude.{◌≡◌, ◌≢◌, ◌+◌, ℕ, List, [], Bool, true, MatchOption, MatchResult, IfOk, Some, Ok, Err};
 ghost use Rattle.mt_ports.specs.Causes.{HasCause};
 ghost use Rattle.mt_regs.specs.Agreement.{first_refusal};
 ghost use Rattle.mt_machine.specs.Start.{HasEraRoom};
@@ -8,21 +8,22 @@ ghost use Rattle.mt_script.specs.Accept.{Fits};
 ghost use Rattle.mt_script.specs.Stages.{is_in_dump};
 ghost use Rattle.mt_dump.specs.ForProcessors.{has_each};
 ghost use Rattle.mt_replay.specs.Kept.{HasEras};
-ghost use Rattle.mt_replay.specs.Parts.{AsksForMemory, IsFormed};
-ghost use Rattle.mt_replay.specs.ReplayState.{ReplayState, command_text, may_come, state_after};
-ghost use Rattle.mt_replay.specs.Running.{AsksAt, CarriesOut, HasEraRoomAt, HasErasAt, IsAt, HasOutput, Writes, StandsAt, dump_at, line_at, setup_of};
+ghost use Rattle.mt_replay.specs.Parts.{AsksForMemory};
+ghost use Rattle.mt_replay.specs.ReplayState.{ReplayState};
+ghost use Rattle.mt_replay.specs.Running.{AsksAt, CarriesOut, HasEraRoomAt, HasErasAt, IsAt, HasOutput, StandsAt, dump_at, line_at, setup_of};
 ghost use Rattle.mt_stream.specs.Lines.{IfGoesOn, Takes};
 ghost use Rattle.mt_output.specs.Ports.{change, port};
 ghost use Rattle.mt_replay.specs.Summing.{Begins, Lasts, state_in};
 ghost use Rattle.mt_replay.specs.Transcript.{ScriptState, in_body};
 
 use crate::replayer::Replayer;
+use crate::report::REPORT_ROOM;
 use mt_dump::Dump;
-use mt_output::{LineBuffer, Writer, accepted_line, dump_refused_line};
-use mt_ports::{Failed, Gate, NoMemory, Sink};
+use mt_output::{Writer, accepted_line, dump_refused_line};
+use mt_ports::{Failed, Gate, Sink};
 use mt_regs::first_refusal;
 use mt_rendezvous::Caller;
-use mt_script::{Command, Head, Newcomer, Offence, Setup, offence_line, read_command};
+use mt_script::{Command, Head, Offence, Setup, offence_line, read_command};
 use mt_stream::{Stop, tell};
 use mt_text::Line;
 use std::alloc::Global;
@@ -122,68 +123,8 @@ fn begin<K: Sink>(
     }
 }
 
-// Does a command that asks for no memory. Its line is formed behind the bytes that wait, once there is room for it.
-fn form<R: Threads + Wait + Sync, K: Sink, G: Gate>(
-    resources: &Resources<'_, R, G>,
-    replayer: &mut Replayer,
-    c: &Command,
-    writer: &mut Writer,
-    sink: &mut K,
-) -> Result<(), Failed>
-    requires fits { Fits replayer.old.now c.now }
-    requires formed { IsFormed c.now }
-    requires room { HasEraRoom replayer.old.machine }
-    ensures bytes { Adds (command_text replayer.old c.now) (change writer.old writer.new) (port K.taken sink.old sink.new) result }
-    ensures after { OnOk result (replayer.new ≡ state_after replayer.old c.now) }
-    ensures cause { HasCause (K.faults sink.old) (K.faults sink.new) result }
-{
-    match writer.make_room(sink) {
-        Ok(()) => {
-            replayer.run(resources.caller, resources.alloc, c, writer);
-            Ok(())
-        }
-        Err(failed) => Err(failed),
-    }
-}
-
-// Writes the line of a newcomer, which came where there is one.
-fn write_newcomer<K: Sink>(
-    line: Result<LineBuffer, NoMemory>,
-    writer: &mut Writer,
-    sink: &mut K,
-) -> Result<Option<Stop>, Failed>
-    ensures told { IfOk line (λ text. Writes (change writer.old writer.new) text.items (port K.taken sink.old sink.new) result) }
-    ensures refused { OnErr line ((result ≡ Ok (Some Stop.NoMemory)) × (writer.new ≡ writer.old) × (K.taken sink.new ≡ K.taken sink.old)) }
-    ensures cause { HasCause (K.faults sink.old) (K.faults sink.new) result }
-{
-    match line {
-        Ok(line) => match writer.write(sink, line.as_slice()) {
-            Ok(()) => Ok(None),
-            Err(failed) => Err(failed),
-        },
-        Err(_) => Ok(Some(Stop::NoMemory)),
-    }
-}
-
-// Brings a processor in and writes the line of it. It returns a stop if memory is refused.
-#[inline(never)]
-fn bring_in<K: Sink>(
-    replayer: &mut Replayer,
-    newcomer: Newcomer,
-    writer: &mut Writer,
-    sink: &mut K,
-) -> Result<Option<Stop>, Failed>
-    requires fits { Fits replayer.old.now (Command.Newcomer newcomer) }
-    requires room { HasEraRoom replayer.old.machine }
-    ensures bytes { CarriesOut (change replayer.old replayer.new) (Command.Newcomer newcomer) (change writer.old writer.new) (port K.taken sink.old sink.new) result }
-    ensures asks { (stop : Stop) → result ≡ Ok (Some stop) → may_come replayer.old.machine ≡ true }
-    ensures refused { (stop : Stop) → result ≡ Ok (Some stop) → stop ≡ Stop.NoMemory }
-    ensures cause { HasCause (K.faults sink.old) (K.faults sink.new) result }
-{
-    write_newcomer(replayer.bring_in(newcomer), writer, sink)
-}
-
-// Does a command and writes what it says. It returns a stop if memory is refused.
+// Does a command and writes what it says. Its lines are formed behind the bytes that wait, once there is room for them. It
+// returns a stop if memory is refused.
 fn do_command<R: Threads + Wait + Sync, K: Sink, G: Gate>(
     resources: &Resources<'_, R, G>,
     replayer: &mut Replayer,
@@ -195,23 +136,14 @@ fn do_command<R: Threads + Wait + Sync, K: Sink, G: Gate>(
     requires room { HasEraRoom replayer.old.machine }
     ensures bytes { CarriesOut (change replayer.old replayer.new) c.now (change writer.old writer.new) (port K.taken sink.old sink.new) result }
     ensures asks { (stop : Stop) → result ≡ Ok (Some stop) → AsksForMemory replayer.old.machine c.now }
-    ensures refused { (stop : Stop) → result ≡ Ok (Some stop) → stop ≡ Stop.NoMemory }
     ensures cause { HasCause (K.faults sink.old) (K.faults sink.new) result }
 {
-    match *c {
-        Command::Report => match replayer.report(writer, sink) {
-            Ok(()) => Ok(None),
-            Err(failed) => Err(failed),
-        },
-        Command::Ram(base, lines) => match replayer.add_window(base, lines) {
+    match writer.make_room(sink, REPORT_ROOM) {
+        Ok(()) => match replayer.run(resources.caller, resources.alloc, c, writer) {
             Ok(()) => Ok(None),
             Err(_) => Ok(Some(Stop::NoMemory)),
         },
-        Command::Newcomer(newcomer) => bring_in(replayer, newcomer, writer, sink),
-        _ => match form(resources, replayer, c, writer, sink) {
-            Ok(()) => Ok(None),
-            Err(failed) => Err(failed),
-        },
+        Err(failed) => Err(failed),
     }
 }
 

@@ -7,24 +7,21 @@ ghost use Rattle.mt_machine.specs.Start.{HasEraRoom};
 ghost use Rattle.mt_rendezvous.specs.Update.{FitsUpdate};
 ghost use Rattle.mt_script.specs.Stages.{is_in_dump};
 ghost use Rattle.mt_script.specs.Accept.{Fits, accepted};
-ghost use Rattle.mt_ports.specs.Causes.{HasCause};
-ghost use Rattle.mt_output.specs.Writing.{Adds};
-ghost use Rattle.mt_output.specs.Ports.{change, port};
 ghost use Rattle.mt_replay.specs.Kept.{IsReplayState};
 ghost use Rattle.mt_replay.specs.Doing.{CanDo};
-ghost use Rattle.mt_replay.specs.Parts.{IsFormed, state_of};
-ghost use Rattle.mt_replay.specs.ReplayState.{command_text, file_at, first_state, goal_after, machine_after, may_come, state_after, with_register};
+ghost use Rattle.mt_replay.specs.Parts.{AsksForMemory, state_of};
+ghost use Rattle.mt_replay.specs.ReplayState.{command_text, file_at, first_state, goal_after, machine_after, state_after, with_register};
 
 use crate::commands::{add_window, ask_one, bring_in, call, cancel, go, retire, update, word};
-use crate::report::write_report;
+use crate::report::{REPORT_ROOM, report};
 use mt_core::Core;
 use mt_dump::Dump;
-use mt_output::{LINE_ROOM, LineBuffer, WRITER_ROOM, Writer};
-use mt_ports::{Failed, Gate, NoMemory, Sink};
+use mt_output::{LINE_ROOM, WRITER_ROOM, Writer};
+use mt_ports::{Gate, NoMemory};
 use mt_ram::Ram;
 use mt_regs::RegFile;
 use mt_rendezvous::Caller;
-use mt_script::{Command, Newcomer, Section, Setup, Stage};
+use mt_script::{Command, Section, Setup, Stage};
 use std::alloc::Global;
 use std::marker::Model;
 use std::sync::Wait;
@@ -124,23 +121,24 @@ impl Parts {
         }
     }
 
-    // Does a command that asks for no memory, and has at most one line.
-    fn do_formed<R: Threads + Wait + Sync, G: Gate>(
+    // Does a command, and adds its lines to the bytes that wait. Fails only if an allocation fails; nothing then changes.
+    fn do_command<R: Threads + Wait + Sync, G: Gate>(
         &mut self,
         caller: &Caller<R, G>,
         alloc: Global,
-        writer: &mut Writer,
         c: &Command,
-    )
-        requires line { length writer.old + LINE_ROOM ≤ WRITER_ROOM }
+        writer: &mut Writer,
+    ) -> Result<(), NoMemory>
+        requires lines { length writer.old + REPORT_ROOM ≤ WRITER_ROOM }
         requires state { IsReplayState (state_of self.old) }
-        requires formed { IsFormed c.now }
         requires can { CanDo self.old.core c.now }
         requires room { HasEraRoom self.old.core }
-        ensures text { writer.new ≡ writer.old ++ command_text (state_of self.old) c.now }
-        ensures machine { self.new.core ≡ machine_after (state_of self.old) c.now }
-        ensures goal { self.new.goal ≡ goal_after (state_of self.old) c.now }
+        ensures text { OnOk result (writer.new ≡ writer.old ++ command_text (state_of self.old) c.now) }
+        ensures machine { OnOk result (self.new.core ≡ machine_after (state_of self.old) c.now) }
+        ensures goal { OnOk result (self.new.goal ≡ goal_after (state_of self.old) c.now) }
         ensures setup { self.new.setup ≡ self.old.setup }
+        ensures asks { OnErr result (AsksForMemory self.old.core c.now) }
+        ensures kept { OnErr result ((self.new ≡ self.old) × (writer.new ≡ writer.old)) }
     {
         let core = &mut self.core;
         match *c {
@@ -151,9 +149,12 @@ impl Parts {
             Command::Go => go(writer, core),
             Command::Cancel => cancel(writer, core),
             Command::Word(address) => word(writer, core, address),
+            Command::Report => report(writer, core.system().cpus()),
+            Command::Ram(base, lines) => add_window(core, base, lines)?,
+            Command::Newcomer(newcomer) => bring_in(writer, core, newcomer)?,
             Command::Blank | Command::Cpus(_) | Command::Dump | Command::DumpLine => {}
-            Command::Ram(..) | Command::Newcomer(_) | Command::Report => unreachable!(),
         }
+        Ok(())
     }
 }
 
@@ -199,63 +200,26 @@ impl Replayer {
         let _ = &self.parts;
     }
 
-    /// Does a command that asks for no memory, and adds its line, if it has one, to the bytes that wait. An update runs
-    /// each processor on a thread of its own, where the gate and the allocator let it.
+    /// Does a command, and adds its lines to the bytes that wait. Fails only if it asks for memory and an allocation
+    /// fails; nothing then changes. An update runs each processor on a thread of its own, where the gate and the
+    /// allocator let it.
     pub fn run<R: Threads + Wait + Sync, G: Gate>(
         &mut self,
         caller: &Caller<R, G>,
         alloc: Global,
         c: &Command,
         writer: &mut Writer,
-    )
-        requires line { length writer.old + LINE_ROOM ≤ WRITER_ROOM }
+    ) -> Result<(), NoMemory>
+        requires lines { length writer.old + REPORT_ROOM ≤ WRITER_ROOM }
         requires fits { Fits self.old.now c.now }
-        requires formed { IsFormed c.now }
         requires room { HasEraRoom self.old.machine }
-        ensures text { writer.new ≡ writer.old ++ command_text self.old c.now }
-        ensures after { self.new ≡ state_after self.old c.now }
+        ensures text { OnOk result (writer.new ≡ writer.old ++ command_text self.old c.now) }
+        ensures after { OnOk result (self.new ≡ state_after self.old c.now) }
+        ensures asks { OnErr result (AsksForMemory self.old.machine c.now) }
+        ensures kept { OnErr result ((self.new ≡ self.old) × (writer.new ≡ writer.old)) }
     {
-        self.parts.do_formed(caller, alloc, writer, c);
+        self.parts.do_command(caller, alloc, c, writer)?;
         self.parts.setup.accept(c);
-    }
-
-    /// Adds a window of memory, and writes nothing. Fails only if an allocation fails; nothing then changes.
-    #[inline(never)]
-    pub fn add_window(&mut self, base: u64, lines: u32) -> Result<(), NoMemory>
-        requires fits { Fits self.old.now (Command.Ram base lines) }
-        ensures added { OnOk result (self.new ≡ state_after self.old (Command.Ram base lines)) }
-        ensures kept { OnErr result (self.new ≡ self.old) }
-    {
-        add_window(&mut self.parts.core, base, lines)?;
-        self.parts.setup.accept(&Command::Ram(base, lines));
         Ok(())
-    }
-
-    /// Brings a processor in if one may come, and returns the line that says so, or why none does. Fails only if one may
-    /// come and an allocation fails; nothing then changes.
-    #[inline(never)]
-    pub fn bring_in(&mut self, newcomer: Newcomer) -> Result<LineBuffer, NoMemory>
-        requires fits { Fits self.old.now (Command.Newcomer newcomer) }
-        requires room { HasEraRoom self.old.machine }
-        ensures text { IfOk result (λ line. line.items ≡ command_text self.old (Command.Newcomer newcomer)) }
-        ensures after { OnOk result (self.new ≡ state_after self.old (Command.Newcomer newcomer)) }
-        ensures asks { OnErr result (may_come self.old.machine ≡ true) }
-        ensures kept { OnErr result (self.new ≡ self.old) }
-    {
-        let line = bring_in(&mut self.parts.core, newcomer)?;
-        self.parts.setup.accept(&Command::Newcomer(newcomer));
-        Ok(line)
-    }
-
-    /// Does a report: writes a line for each processor, and whether all have the same registers.
-    #[inline(never)]
-    pub fn report<K: Sink>(&mut self, writer: &mut Writer, sink: &mut K) -> Result<(), Failed>
-        requires { Fits self.old.now Command.Report }
-        ensures bytes { Adds (command_text self.old Command.Report) (change writer.old writer.new) (port K.taken sink.old sink.new) result }
-        ensures after { self.new ≡ state_after self.old Command.Report }
-        ensures cause { HasCause (K.faults sink.old) (K.faults sink.new) result }
-    {
-        self.parts.setup.accept(&Command::Report);
-        write_report(self.parts.core.system().cpus(), writer, sink)
     }
 }

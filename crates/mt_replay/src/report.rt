@@ -1,13 +1,12 @@
-ghost use Rattle.std.specs.Prelude.{◌≡◌, ◌<◌, ◌≤◌, length, slice_get, Some};
-ghost use Rattle.mt_ports.specs.Causes.{HasCause};
-ghost use Rattle.mt_output.specs.Writing.{Adds};
-ghost use Rattle.mt_output.specs.Ports.{change, port};
+ghost use Rattle.std.specs.Prelude.{◌≡◌, ◌<◌, ◌≤◌, ◌+◌, ◌++◌, length, slice_get, Some};
 ghost use Rattle.mt_replay.specs.Texts.{processor_lines, report_text};
 
 use crate::texts::{have_one_file, processor_line, registers_line};
 use mt_cpu::Cpu;
-use mt_output::Writer;
-use mt_ports::{Failed, Sink};
+use mt_output::{LINE_ROOM, WRITER_ROOM, Writer};
+
+/// What a report takes at most: a line for each of 16 processors, and one about all.
+pub const REPORT_ROOM: usize = 17 * LINE_ROOM;
 
 fn cpu_at(cpus: &[Cpu], k: usize) -> &Cpu
     requires { k < length cpus.now }
@@ -16,34 +15,25 @@ fn cpu_at(cpus: &[Cpu], k: usize) -> &Cpu
     &cpus[k]
 }
 
-// Writes a line for each processor, in order.
-fn write_processors<K: Sink>(cpus: &[Cpu], writer: &mut Writer, sink: &mut K) -> Result<(), Failed>
-    requires { length cpus.now ≤ 16 }
-    ensures bytes { Adds (processor_lines 0 cpus.now) (change writer.old writer.new) (port K.taken sink.old sink.new) result }
-    ensures cause { HasCause (K.faults sink.old) (K.faults sink.new) result }
+// Adds a line for each processor, in order.
+fn append_processors(writer: &mut Writer, cpus: &[Cpu])
+    requires room { length writer.old + REPORT_ROOM ≤ WRITER_ROOM }
+    requires few { length cpus.now ≤ 16 }
+    ensures text { writer.new ≡ writer.old ++ processor_lines 0 cpus.now }
+    ensures room { length writer.new + LINE_ROOM ≤ WRITER_ROOM }
 {
     'processors: for k in 0..cpus.len() {
-        let line = processor_line(k as u32, cpu_at(cpus, k));
-        match writer.write(sink, line.as_slice()) {
-            Ok(()) => {}
-            Err(failed) => return Err(failed),
-        }
+        writer.append(processor_line(k as u32, cpu_at(cpus, k)).as_slice());
     }
-    Ok(())
 }
 
-/// Writes a line for each processor in order, and whether all have the same registers.
-pub(crate) fn write_report<K: Sink>(
-    cpus: &[Cpu],
-    writer: &mut Writer,
-    sink: &mut K,
-) -> Result<(), Failed>
-    requires { length cpus.now ≤ 16 }
-    ensures bytes { Adds (report_text cpus.now) (change writer.old writer.new) (port K.taken sink.old sink.new) result }
-    ensures cause { HasCause (K.faults sink.old) (K.faults sink.new) result }
+/// Adds a line for each processor in order, and whether all have the same registers.
+#[inline(never)]
+pub(crate) fn report(writer: &mut Writer, cpus: &[Cpu])
+    requires room { length writer.old + REPORT_ROOM ≤ WRITER_ROOM }
+    requires few { length cpus.now ≤ 16 }
+    ensures { writer.new ≡ writer.old ++ report_text cpus.now }
 {
-    match write_processors(cpus, writer, sink) {
-        Ok(()) => writer.write(sink, registers_line(have_one_file(cpus)).as_slice()),
-        Err(failed) => Err(failed),
-    }
+    append_processors(writer, cpus);
+    writer.append(registers_line(have_one_file(cpus)).as_slice());
 }

@@ -7,7 +7,7 @@ ghost use Rattle.mt_machine.specs.Update.{dirty_count};
 ghost use Rattle.mt_output.specs.Lines.{address_text, line};
 ghost use Rattle.mt_regs.specs.declared.fault.Fault.{Fault};
 ghost use Rattle.mt_regs.specs.RegisterFile.{RegisterFile};
-ghost use Rattle.mt_replay.specs.Texts.{call_fault_line, called_line, cancel_line, complete_line, done_line, full_line, go_line, have_one_file, is_same_file, joined_line, memory_line, number_at, phase_text, processor_line, register_line, registers_line, retired_line, ruled_line, stale_count, stepped_line, switch_text, under_way_line, up_line};
+ghost use Rattle.mt_replay.specs.Texts.{call_fault_line, called_line, cancel_line, complete_line, done_line, go_line, have_one_file, is_same_file, joined_line, memory_line, number_at, phase_text, processor_line, register_line, registers_line, retired_line, ruled_line, stale_count, stepped_line, switch_text, under_way_line, up_line};
 ghost use Rattle.mt_regs.specs.Registers.{HasThreeDigits};
 
 use arrayvec::ArrayVec;
@@ -164,13 +164,6 @@ pub(crate) fn under_way_line() -> LineBuffer
     ensures { result.items ≡ under_way_line }
 {
     text_line(b"under way")
-}
-
-/// No more processors may come up.
-pub(crate) fn full_line() -> LineBuffer
-    ensures { result.items ≡ full_line }
-{
-    text_line(b"full")
 }
 
 // The number of the writable register at a place.

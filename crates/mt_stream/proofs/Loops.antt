@@ -54,6 +54,6 @@ module _ (R : Running) (start : Path) (laws : AreLaws R) (bytes more : List ℕ)
       refuses Asks asks none = elim (does here.text here.point here.at) [
         | inl ended ↦ absurd (ends_with_memory R start laws bytes left new now later a c here stop result dropped after source_after d e drains long leaves ended none)
         | inr wants ↦
-            line_refused R start laws bytes left new now later a c here stop result dropped after source_after d e drains long leaves Asks none wants.refused wants.waits wants.kept
+            line_refused R start laws bytes left new now later a c here stop result dropped after source_after d e drains long leaves Asks none wants.refused wants.passed
             (asks wants.refused here.text here.point here.at)
       ]

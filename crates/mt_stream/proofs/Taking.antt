@@ -38,7 +38,7 @@ takes_same At here other writer sink (Ok None) same g =
 takes_same At here other writer sink (Ok (Some stop)) same (inl e) =
     inl (record { telling = e.telling; stops = λ end lines. ap (λ (x : Leads). x.tells) (same end lines) ∙ e.stops end lines; status_is = e.status_is; last = e.last; passed = e.passed })
 takes_same At here other writer sink (Ok (Some stop)) same (inr w) =
-    inr (record { refused = w.refused; early = λ end lines. let (rest, is) = w.early end lines in (rest, ap (λ (x : Leads). x.early) (same end lines) ∙ is); waits = w.waits; kept = w.kept })
+    inr (record { refused = w.refused; early = λ end lines. let (rest, is) = w.early end lines in (rest, ap (λ (x : Leads). x.early) (same end lines) ∙ is); passed = w.passed })
 takes_same At here other writer sink (Err failed) same f = record {
   text = f.text;
   front = λ end lines. let (rest, cut) = f.front end lines in (rest, ap (λ (x : Leads). x.tells.text) (same end lines) ∙ cut);

@@ -474,7 +474,7 @@ module _ (R : Running) (start : Path) (laws : AreLaws R) where
       ]
         where
           passed : PassesOn [] h.text left a c
-          passed = subst (λ l. PassesOn [] h.text l a c) (sym w.waits) (subst (λ o. PassesOn [] h.text waiting a o) (sym w.kept) h.passed)
+          passed = passes_on h.text waiting left a b c h.passed w.passed
 
           before_early : Appends a d h.text → AppendsFront a d (early_of start bytes)
           before_early put =
@@ -483,9 +483,9 @@ module _ (R : Running) (start : Path) (laws : AreLaws R) where
               subst (AppendsFront a d) (sym (ap (λ (x : Leads). x.early) from.1 ∙ is)) (front_of h.text rest a d put)
 
       -- it was refused at this line
-      pub line_refused : (Asks : Telling → ℕ → List ℕ → Type 0) → result ≡ NoMemory → stop ≡ stopped.NoMemory → left ≡ waiting → c ≡ b → Asks (tells_of h.point) feed.line.number feed.line.bytes
+      pub line_refused : (Asks : Telling → ℕ → List ℕ → Type 0) → result ≡ NoMemory → stop ≡ stopped.NoMemory → PassesOn waiting [] left b c → Asks (tells_of h.point) feed.line.number feed.line.bytes
           → RefusedAtLine (tells_of start) Asks (held bytes source_after) (change a d)
-      line_refused Asks none wants waits kept asks = by (refused_leaves (last_line stop (is_last feed)) (read more source_after) left (change c d) result leaves none wants)
+      line_refused Asks none wants passed asks = by (refused_leaves (last_line stop (is_last feed)) (read more source_after) left (change c d) result leaves none wants)
         where
           by : Appends c d left × (more ≡ []) → RefusedAtLine (tells_of start) Asks (held bytes source_after) (change a d)
           by (put, no_more) =
@@ -503,7 +503,7 @@ module _ (R : Running) (start : Path) (laws : AreLaws R) where
                 front = h.front;
                 is = subst (λ (s : Option (List ℕ)). IsFront h.seen s h.front) (h.is_left ∙ sym is_left) h.is;
                 asks = subst (λ (n : ℕ). Asks (tells_of h.point) n (take h.front.0 h.seen)) h.number (subst (Asks (tells_of h.point) feed.line.number) h.line asks);
-                taken = passes_out h.text left a c d (subst (λ (l : List ℕ). PassesOn [] h.text l a c) (sym waits) (subst (λ (o : Option (List ℕ)). PassesOn [] h.text waiting a o) (sym kept) h.passed)) put;
+                taken = passes_out h.text left a c d (passes_on h.text waiting left a b c h.passed passed) put;
               }
 
       -- an offence or a refused dump

@@ -95,12 +95,11 @@ pub record Ends (here : AtLine) (writer : Waiting) (sink : Port) (stop : Stop) :
   pub last : stop ≢ stopped.NoMemory
   pub passed : PassesOn writer.old telling.text writer.new sink.old sink.new
 
--- Memory was refused, where it may be, and nothing was written.
+-- Memory was refused, where it may be, and nothing was added to what waits.
 pub record Wants (here : AtLine) (writer : Waiting) (sink : Port) (stop : Stop) : Type 0 where
   pub refused : stop ≡ stopped.NoMemory
   pub early : (end : Option Place) (lines : List (List ℕ)) → (rest : List ℕ) × ((here.leads end lines).early ≡ here.so_far ++ rest)
-  pub waits : writer.new ≡ writer.old
-  pub kept : sink.new ≡ sink.old
+  pub passed : PassesOn writer.old [] writer.new sink.old sink.new
 
 -- The sink failed, and took a front.
 pub record Fails (here : AtLine) (waiting : List ℕ) (sink : Port) : Type 0 where

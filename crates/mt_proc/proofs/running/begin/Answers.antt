@@ -1,4 +1,4 @@
-use Rattle.std.proofs.Common.{◌≡◌, ◌∙◌, ℕ, List, ap, arith, length, sym, subst, [], None, Some}
+use Rattle.std.proofs.Common.{◌≡◌, ◌∙◌, ℕ, List, ap, arith, inr, length, refl, sym, subst, [], None, Some}
 use Rattle.std.proofs.lemmas.List.{length-map}
 use Rattle.mt_stream.specs.declared.ending.Stop.TheVariants.{NoMemory, Refused}
 use Rattle.mt_regs.specs.RegisterFile.{RegisterFile}
@@ -39,6 +39,9 @@ returns-in-Some-clause-bytes g c = λ at leads.
     ends c.args.cpus here c.args.run.now (change c.args.writer.now c.tell.new.writer) (port g.K.Sink.taken c.args.sink.now c.tell.new.sink) (dump_refused_line dump.version k fault) Refused c.tell.result
     (leads_as c.args.cpus here (begins dump (first_refusal dump.files)) (begins dump (Some (k, fault))) (ap (begins dump) refused) leads) (λ is. cc is)
     (subst (λ l. Adds l (change c.args.writer.now c.tell.new.writer) (port g.K.Sink.taken c.args.sink.now c.tell.new.sink) c.tell.result) line c.tell.ensures.bytes) c.tell.ensures.stop
+
+pub returns-in_default-new-clause-bytes : goal.returns-in_default-new-clause-bytes
+returns-in_default-new-clause-bytes g c = λ at leads. inr (record { refused = refl; early = λ end lines. (_, refl); passed = passes_nothing c.args.writer.now (g.K.Sink.taken c.args.sink.now) })
 
 pub returns-clause-bytes : goal.returns-clause-bytes
 returns-clause-bytes g c = λ there leads.

@@ -1,7 +1,8 @@
-use Rattle.std.proofs.Common.{◌≡◌, ◌∙◌, ap, subst, sym, ℕ, List, None, Some}
+use Rattle.std.proofs.Common.{◌≡◌, ◌∙◌, ap, inr, refl, subst, sym, ℕ, List, None, Some}
 use Rattle.mt_regs.specs.Agreement.{first_refusal}
 use Rattle.mt_output.specs.Lines.{dump_refused_line}
 use Rattle.mt_output.specs.Writing.{Adds}
+use Rattle.mt_output.proofs.Writing.{passes_nothing}
 use Rattle.mt_stream.specs.declared.ending.Stop.TheVariants.{NoMemory, Refused}
 use Rattle.mt_dump.specs.Dumps.{Dump}
 use Rattle.mt_dump.specs.ForProcessors.{files_for}
@@ -31,6 +32,9 @@ returns-in-Some-clause-bytes g c = λ number.
     takes_last (StandsAt c.args.run.now) (dump_at (setup_of c.args.run.now) c.args.dump number) (dump_refused_line c.args.dump.version c.in-Some.k c.in-Some.fault) (change c.args.writer.now c.tell.new.writer)
     (port g.K.Sink.taken c.args.sink.now c.tell.new.sink) Refused c.tell.result (dump_refused (setup_of c.args.run.now) c.args.dump number (c.in-Some.k, c.in-Some.fault) refused) (λ is. cc is)
     (subst (λ (l : List ℕ). Adds l (change c.args.writer.now c.tell.new.writer) (port g.K.Sink.taken c.args.sink.now c.tell.new.sink) c.tell.result) line c.tell.ensures.bytes) c.tell.ensures.stop
+
+pub returns-in_default-begin-clause-bytes : goal.returns-in_default-begin-clause-bytes
+returns-in_default-begin-clause-bytes g c = λ number. inr (record { refused = refl; early = λ end lines. (_, refl); passed = passes_nothing c.args.writer.now (g.K.Sink.taken c.args.sink.now) })
 
 pub returns-in-Ok-write-clause-bytes : goal.returns-in-Ok-write-clause-bytes
 returns-in-Ok-write-clause-bytes g c = λ number.
