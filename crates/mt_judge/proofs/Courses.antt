@@ -4,22 +4,22 @@ use Rattle.std.proofs.Math.Seq.{take-suc}
 use Rattle.std.proofs.lemmas.Bool.{ltb-false}
 use Rattle.std.specs.Prelude.{◌↔◌, IfSome, IsSomeAnd, is_some, nat_lt, not}
 use Rattle.std.specs.Option.{option_map_or}
-use Rattle.mt_judge.specs.Dues.{AreListsFinished, IsDue}
-use Rattle.mt_judge.specs.Listed.{wrongs_in}
+use Rattle.mt_procedure.specs.Dues.{AreListsFinished, IsDue}
+use Rattle.mt_search.specs.Listed.{wrongs_in}
 use Rattle.mt_judge.specs.Ordered.{AreRightSteps, AreWhole, IsRightRun, IsWhole, all_turns, ordered, part_of, step_of, steps_below, turn, turns}
-use Rattle.mt_judge.specs.Runs.{Case, IsEnded, IsRun, State, after, may_go, moved, next_move, run, step_at}
-use Rattle.mt_judge.specs.Searches.{has_wrong}
+use Rattle.mt_procedure.specs.Runs.{Case, IsEnded, IsRun, State, after, may_go, moved, next_move, run, step_at}
+use Rattle.mt_search.specs.Searches.{has_wrong}
 use Rattle.mt_judge.specs.Told.{AreTold, AreToldBehind, IsRightTold, IsTold, IsToldOrder, IsToldPart, TellsNext, TellsStep}
-use Rattle.mt_judge.specs.Wrongs.{fault_of}
-use Rattle.mt_judge.specs.declared.moves.Move.{Move}
+use Rattle.mt_search.specs.Wrongs.{fault_of}
+use Rattle.mt_procedure.specs.declared.moves.Move.{Move}
 use Rattle.mt_judge.specs.declared.one_run.JudgedRun.{JudgedRun}
 use Rattle.mt_judge.specs.declared.transcript.Told.{Told}
 use Rattle.mt_judge.specs.declared.transcript.Told.TheVariants as line
 use Rattle.mt_judge.specs.declared.transcript.ToldStep.{ToldStep}
-use Rattle.mt_judge.specs.declared.wrong.Fault.{Fault}
-use Rattle.mt_judge.specs.declared.wrong.Wrong.{Wrong}
-use Rattle.mt_judge.proofs.RunLists.{run_behind, runs_behind}
-use Rattle.mt_judge.proofs.Searching.{bad_is, goes}
+use Rattle.mt_search.specs.declared.wrong.Fault.{Fault}
+use Rattle.mt_search.specs.declared.wrong.Wrong.{Wrong}
+use Rattle.mt_procedure.proofs.RunLists.{run_behind, runs_behind}
+use Rattle.mt_search.proofs.Searching.{bad_is, goes}
 
 -- ---- flags
 

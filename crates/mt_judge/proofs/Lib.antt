@@ -1,13 +1,2 @@
-mod Alike
-mod Buckets
-mod Courses
-mod Depths
-mod Firsts
-mod Fits
-mod Gathered
-mod Keeping
-mod Nodes
-mod Places
-mod RunLists
-mod Searching
-mod Translations
+pub mod Courses
+pub mod Keeping

@@ -1,8 +1,8 @@
 -- One run, by the processors in the order of their steps, and what it means that nothing is wrong in it (own).
 use Rattle.std.specs.Prelude.{◌≡◌, ℕ, zero, suc, ◌^◌, false, List, [], ◌∷◌, ◌++◌, length, if◌then◌else◌, Option, None, Some}
-use Rattle.mt_judge.specs.Dues.{AreListsFinished, IsDueAt}
-use Rattle.mt_judge.specs.Runs.{Case, IsEnded, IsRun, State, may_go, moved, run}
-use Rattle.mt_judge.specs.Searches.{has_wrong, is_bad}
+use Rattle.mt_procedure.specs.Dues.{AreListsFinished, IsDueAt}
+use Rattle.mt_procedure.specs.Runs.{Case, IsEnded, IsRun, State, may_go, moved, run}
+use Rattle.mt_search.specs.Searches.{has_wrong, is_bad}
 
 -- ---- the steps that are ordered
 

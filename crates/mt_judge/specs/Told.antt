@@ -5,12 +5,12 @@ use Rattle.std.specs.Option.{option_map_or}
 use Rattle.mt_machine.specs.declared.event.Event.{Event}
 use Rattle.mt_machine.specs.Machine.{has_arrived, has_arrived_again}
 use Rattle.mt_machine.specs.System.{Processor}
-use Rattle.mt_judge.specs.Dues.{IsDue, is_unfinished}
-use Rattle.mt_judge.specs.Listed.{wrongs_in}
+use Rattle.mt_procedure.specs.Dues.{IsDue, is_unfinished}
+use Rattle.mt_search.specs.Listed.{wrongs_in}
 use Rattle.mt_judge.specs.Ordered.{AreRightSteps, AreWhole, IsWhole, ordered, part_of}
-use Rattle.mt_judge.specs.Runs.{Case, IsRun, State, due_of, may_go, moved, next_move, phase_in, procedure_order, run, step_at}
-use Rattle.mt_judge.specs.Wrongs.{fault_of}
-use Rattle.mt_judge.specs.declared.moves.Move.{Move}
+use Rattle.mt_procedure.specs.Runs.{Case, IsRun, State, due_of, may_go, moved, next_move, phase_in, procedure_order, run, step_at}
+use Rattle.mt_search.specs.Wrongs.{fault_of}
+use Rattle.mt_procedure.specs.declared.moves.Move.{Move}
 use Rattle.mt_judge.specs.declared.one_run.JudgedRun.{JudgedRun}
 use Rattle.mt_judge.specs.declared.transcript.Arrivals.{Arrivals}
 use Rattle.mt_judge.specs.declared.transcript.Told.{Told}
@@ -28,10 +28,6 @@ has_arrived_second p = has_arrived_again (procedure_order p.file) p
 
 abbrev pub arrived_in : List Processor → Arrivals
 arrived_in ps = record { first = count_by has_arrived_first ps; second = count_by has_arrived_second ps; of = length ps }
-
--- the event that is due, if the processor's lines are within the physical addresses
-abbrev pub told_due : List Processor → ℕ → Option Event
-told_due ps k = option_map_or (λ p. if list_all (λ l. nat_lt l.number (2 ^ 46)) p.lines then due_of ps p else None) (slice_get ps k) None
 
 -- a step from one state to another, with its fault and all that is wrong in the state after it
 pub record TellsStep (before : State) (m : Move) (after : State) (t : ToldStep) : Type 0 where

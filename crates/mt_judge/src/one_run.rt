@@ -1,14 +1,14 @@
 ghost use Rattle.std.specs.Prelude.{◌≡◌, ◌↔◌, ◌||◌, [], IfOk, IsFalse, IsNone, OnOk, Option, false};
-ghost use Rattle.mt_judge.specs.Dues.{AreListsFinished};
+ghost use Rattle.mt_procedure.specs.Dues.{AreListsFinished};
 ghost use Rattle.mt_judge.specs.Ordered.{IsRightRun, all_turns, ordered, step_of, turn};
-ghost use Rattle.mt_judge.specs.Runs.{IsEnded, IsRun, may_go};
+ghost use Rattle.mt_procedure.specs.Runs.{IsEnded, IsRun, may_go};
 ghost use Rattle.mt_judge.specs.Told.{AreToldBehind, IsTold, IsToldOrder, IsToldPart, IsTranscript};
 
 use crate::judging::Verdict;
-use crate::moves::{Case, State, advance};
 use crate::transcript::{Told, Transcript, tell, tell_ends, tell_pause, tell_pauses, told_step};
-use crate::wrong::wrongs_of;
 use mt_ports::NoMemory;
+use mt_procedure::{Case, State, advance};
+use mt_search::wrongs_of;
 use std::alloc::Global;
 
 /// More turns than the lists of any text take.

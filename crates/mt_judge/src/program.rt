@@ -1,12 +1,11 @@
 ghost use Rattle.mt_judge.specs.Verdicts.{IsStatusOf};
 
-use crate::case::Trouble;
 use crate::judging::{Verdict, judge};
-use crate::moves::Case;
-use crate::reader::read_input;
 use crate::telling::verdict_text;
+use mt_case::{Trouble, read_input};
 use mt_output::{bad_text, exit_code, words_behind_name, written};
 use mt_ports::{Sink, Source, Status};
+use mt_procedure::Case;
 use std::alloc::Global;
 use std::env::Args;
 use std::io::{self, ErrorKind};

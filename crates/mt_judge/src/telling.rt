@@ -1,54 +1,51 @@
 use crate::judging::{Explored, Verdict};
-use crate::moves::{Case, Move, Outcome, State};
 use crate::numbers::{push_decimal, push_hex};
-use crate::search::Found;
-use crate::step::ProcedureStep;
 use crate::transcript::{Arrivals, Told, ToldStep, Transcript, end_at};
-use crate::wrong::{Fault, Wrong};
 use mt_kinds::{LINE_BYTES, MemType, PAGE_BYTES, WORD_BYTES};
 use mt_machine::{Done, Event, Op, Phase};
+use mt_procedure::{Case, Move, Outcome, ProcedureStep, State};
 use mt_regs::RegFile;
+use mt_search::{Fault, Found, Wrong};
 use std::alloc::{AllocError, Global};
 
-fn tell_wait(text: &mut String, barrier: u32, count: u32) -> Result<(), AllocError> {
-    push_decimal(text, "wait ", barrier as u64)?;
+fn tell_numbers(text: &mut String, barrier: u32, count: u32) -> Result<(), AllocError> {
+    push_decimal(text, " ", barrier as u64)?;
     push_decimal(text, " ", count as u64)
+}
+
+fn tell_values(text: &mut String, va: u64, v: u64) -> Result<(), AllocError> {
+    push_hex(text, " ", va, 1)?;
+    push_hex(text, " ", v, 1)
 }
 
 /// Writes the words of a step, as a procedure has them.
 fn tell_step(text: &mut String, step: ProcedureStep) -> Result<(), AllocError> {
+    text.push_str(step.word())?;
     match step {
-        ProcedureStep::Interrupt => text.push_str("take"),
-        ProcedureStep::ArriveAt(barrier) => push_decimal(text, "arrive ", barrier as u64),
-        ProcedureStep::WaitAt { barrier, count } => tell_wait(text, barrier, count),
-        ProcedureStep::SetCd => text.push_str("set-cd"),
-        ProcedureStep::Wbinvd => text.push_str("wbinvd"),
-        ProcedureStep::Invd => text.push_str("invd"),
-        ProcedureStep::ClearPge => text.push_str("clear-pge"),
-        ProcedureStep::ReloadCr3 => text.push_str("reload-cr3"),
-        ProcedureStep::ClearEnable => text.push_str("clear-e"),
-        ProcedureStep::WriteRegisters => text.push_str("write"),
-        ProcedureStep::WriteDefault => text.push_str("enable"),
-        ProcedureStep::ClearCd => text.push_str("clear-cd"),
-        ProcedureStep::ReturnPge => text.push_str("restore-pge"),
-        ProcedureStep::GoOn => text.push_str("release"),
-        ProcedureStep::Access(op) => tell_access(text, op),
-        ProcedureStep::Invlpg(va) => push_hex(text, "invlpg ", va, 1),
-        ProcedureStep::Pge(on) => text.push_str(if on { "pge on" } else { "pge off" }),
-        ProcedureStep::Cd(on) => text.push_str(if on { "cd on" } else { "cd off" }),
-    }
-}
-
-fn tell_store(text: &mut String, va: u64, v: u64) -> Result<(), AllocError> {
-    push_hex(text, "store ", va, 1)?;
-    push_hex(text, " ", v, 1)
-}
-
-fn tell_access(text: &mut String, op: Op) -> Result<(), AllocError> {
-    match op {
-        Op::Load(va) => push_hex(text, "load ", va, 1),
-        Op::Store(va, v) => tell_store(text, va, v),
-        Op::Fence => text.push_str("fence"),
+        ProcedureStep::Arrive(barrier) => push_decimal(text, " ", barrier as u64),
+        ProcedureStep::Wait { barrier, count } => tell_numbers(text, barrier, count),
+        ProcedureStep::Access(Op::Load(va)) | ProcedureStep::Invlpg(va) => push_hex(
+            text, " ", va, 1,
+        ),
+        ProcedureStep::Access(Op::Store(va, v)) => tell_values(text, va, v),
+        ProcedureStep::Pge(on) | ProcedureStep::Cd(on) => text.push_str(if on {
+            " on"
+        } else {
+            " off"
+        }),
+        ProcedureStep::Take
+        | ProcedureStep::SetCd
+        | ProcedureStep::Wbinvd
+        | ProcedureStep::Invd
+        | ProcedureStep::ClearPge
+        | ProcedureStep::ReloadCr3
+        | ProcedureStep::ClearE
+        | ProcedureStep::Write
+        | ProcedureStep::Enable
+        | ProcedureStep::ClearCd
+        | ProcedureStep::RestorePge
+        | ProcedureStep::Release
+        | ProcedureStep::Access(Op::Fence) => Ok(()),
     }
 }
 
@@ -108,32 +105,27 @@ fn tell_move(text: &mut String, goal: &RegFile, m: &Move) -> Result<(), AllocErr
     text.push_str("\n")
 }
 
-// The flush of the TLB that is due.
-fn flush_word(phase: Phase) -> &'static str {
-    match phase {
-        Phase::Flushed2 => "reload-cr3",
-        _ => "clear-pge",
-    }
-}
-
-// The step of a procedure that an event is, in a phase.
-fn event_word(event: Event, phase: Phase) -> &'static str {
-    match event {
-        Event::Take => "take",
-        Event::Arrive => "arrive",
-        Event::Leave => "leave",
-        Event::Pass => "wait",
-        Event::SetNoFill => "set-cd",
-        Event::WriteBack { .. } | Event::DropLines => "wbinvd",
-        Event::FlushTlb => flush_word(phase),
-        Event::Disable => "clear-e",
-        Event::Write(_) => "write",
-        Event::Enable => "enable",
-        Event::SetNormal => "clear-cd",
-        Event::RestorePge => "restore-pge",
-        Event::ArriveAgain => "arrive",
-        Event::Release => "release",
-    }
+// The step of a procedure that an event is, in a phase. No list has a step that leaves the update.
+fn step_of(event: Event, phase: Phase) -> Option<ProcedureStep> {
+    Some(match event {
+        Event::Take => ProcedureStep::Take,
+        Event::Arrive | Event::ArriveAgain => ProcedureStep::Arrive(0),
+        Event::Leave => return None,
+        Event::Pass => ProcedureStep::Wait {
+            barrier: 0,
+            count: 1,
+        },
+        Event::SetNoFill => ProcedureStep::SetCd,
+        Event::WriteBack { .. } | Event::DropLines => ProcedureStep::Wbinvd,
+        Event::FlushTlb if phase == Phase::Flushed2 => ProcedureStep::ReloadCr3,
+        Event::FlushTlb => ProcedureStep::ClearPge,
+        Event::Disable => ProcedureStep::ClearE,
+        Event::Write(_) => ProcedureStep::Write,
+        Event::Enable => ProcedureStep::Enable,
+        Event::SetNormal => ProcedureStep::ClearCd,
+        Event::RestorePge => ProcedureStep::RestorePge,
+        Event::Release => ProcedureStep::Release,
+    })
 }
 
 fn tell_barrier(text: &mut String, count: usize, of: usize, which: &str) -> Result<(), AllocError> {
@@ -146,7 +138,10 @@ fn tell_barrier(text: &mut String, count: usize, of: usize, which: &str) -> Resu
 
 fn tell_event_due(text: &mut String, event: Event, phase: Phase) -> Result<(), AllocError> {
     text.push_str("the manual has ")?;
-    text.push_str(event_word(event, phase))?;
+    text.push_str(match step_of(event, phase) {
+        Some(step) => step.word(),
+        None => "leave",
+    })?;
     text.push_str(" here\n")
 }
 

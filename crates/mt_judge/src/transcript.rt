@@ -1,12 +1,12 @@
 ghost use Rattle.std.specs.Prelude.{◌≡◌, ◌↔◌, ◌∷◌, ◌++◌, [], IfOk, IfSome, IsTrue, OnOk};
 ghost use Rattle.mt_judge.specs.Told.{AreTold, AreToldBehind, IsRightTold, TellsStep, arrived_in};
 
-use crate::due::{due_at, has_arrived, has_arrived_again};
-use crate::moves::{Case, Move, State, phase_in};
-use crate::step::ProcedureStep;
-use crate::wrong::{Fault, Wrong, fault_of, wrongs_of};
 use mt_machine::{Event, Phase};
 use mt_ports::NoMemory;
+use mt_procedure::{
+    Case, Move, ProcedureStep, State, due_at, has_arrived, has_arrived_again, phase_in,
+};
+use mt_search::{Fault, Wrong, fault_of, wrongs_of};
 use std::alloc::Global;
 
 /// How many processors have arrived at the two barriers, and how many there are.

@@ -25,12 +25,12 @@ use Rattle.mt_machine.specs.System.{Processor, System, buffers_of, change, lines
 use Rattle.mt_laws.proofs.Barrier.Ranks.{and_left, and_right}
 use Rattle.mt_laws.proofs.Clearing.Follows.{all_append, all_drop, all_filter}
 use Rattle.mt_laws.proofs.Clearing.Renewed.{at_change}
-use Rattle.mt_judge.specs.declared.moves.Outcome.TheVariants.{Accessed}
-use Rattle.mt_judge.specs.declared.step.ProcedureStep.TheVariants.{Access}
-use Rattle.mt_judge.specs.declared.wrong.Fault.TheVariants.{OldType}
-use Rattle.mt_judge.specs.declared.wrong.Kept.{Kept}
-use Rattle.mt_judge.specs.declared.wrong.Kept.TheVariants.{Buffer, CleanLine, DirtyLine}
-use Rattle.mt_judge.specs.Wrongs.{allows, allows_by, fault_with, is_allowed, is_same_entry, made_entry, old_type, page_of}
+use Rattle.mt_procedure.specs.declared.moves.Outcome.TheVariants.{Accessed}
+use Rattle.mt_procedure.specs.declared.step.ProcedureStep.TheVariants.{Access}
+use Rattle.mt_search.specs.declared.wrong.Fault.TheVariants.{OldType}
+use Rattle.mt_search.specs.declared.wrong.Kept.{Kept}
+use Rattle.mt_search.specs.declared.wrong.Kept.TheVariants.{Buffer, CleanLine, DirtyLine}
+use Rattle.mt_search.specs.Wrongs.{allows, allows_by, fault_with, is_allowed, is_same_entry, made_entry, old_type, page_of}
 use Rattle.mt_judge_laws.proofs.Emptied.{both}
 use Rattle.mt_judge_laws.proofs.Since.{AreRight, bare, cleaned_is_right, clean_allowed, right_buffer, right_entry, right_line}
 

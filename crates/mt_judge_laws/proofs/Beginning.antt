@@ -18,8 +18,8 @@ use Rattle.mt_laws.proofs.Barrier.Ranks.{At, Guarded, is_ahead, processor_at, ra
 use Rattle.mt_laws.proofs.Barrier.Stages.{Stage, stages_of}
 use Rattle.mt_laws.proofs.Clearing.Cleared.{Clear, gone_runs}
 use Rattle.mt_laws.proofs.Registers.Filed.{AllFiled, is_done}
-use Rattle.mt_judge.specs.Runs.{Case, State, system_of}
-use Rattle.mt_judge.specs.Searches.{has_wrong}
+use Rattle.mt_procedure.specs.Runs.{Case, State, system_of}
+use Rattle.mt_search.specs.Searches.{has_wrong}
 use Rattle.mt_judge_laws.specs.Manual.{IsRightStart, at_rest, machine_of, MayCall}
 use Rattle.mt_judge_laws.proofs.Holding.{order_of, Holds}
 use Rattle.mt_judge_laws.proofs.Right.{AllRun, NoneWrong, Senses, none_wrong, nothing_wrong, start_agrees, start_right, stays_right}

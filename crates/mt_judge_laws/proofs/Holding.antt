@@ -31,15 +31,15 @@ use Rattle.mt_laws.proofs.Invariant.Kept.{start_aligned}
 use Rattle.mt_laws.proofs.Invariant.Standing.{reached_standing, start_standing}
 use Rattle.mt_laws.proofs.Registers.Filed.{AllFiled, filed_steps, filed_next}
 use Rattle.mt_laws.specs.Parts.{answered}
-use Rattle.mt_judge.specs.declared.moves.Outcome.{Outcome}
-use Rattle.mt_judge.specs.declared.wrong.Fault.TheVariants.{LostWord}
-use Rattle.mt_judge.specs.declared.step.ProcedureStep.{ProcedureStep}
-use Rattle.mt_judge.specs.declared.step.ProcedureStep.TheVariants as list
-use Rattle.mt_judge.specs.declared.moves.Outcome.TheVariants.{Accessed}
-use Rattle.mt_judge.specs.Parts.{bus}
-use Rattle.mt_judge.specs.Runs.{Case, State, procedure_order, system_of}
-use Rattle.mt_judge.specs.Steps.{event_of, accessed, answer_aside, aside, controlled, after_reload, reload_aside}
-use Rattle.mt_judge.specs.Wrongs.{fault_with}
+use Rattle.mt_procedure.specs.declared.moves.Outcome.{Outcome}
+use Rattle.mt_search.specs.declared.wrong.Fault.TheVariants.{LostWord}
+use Rattle.mt_procedure.specs.declared.step.ProcedureStep.{ProcedureStep}
+use Rattle.mt_procedure.specs.declared.step.ProcedureStep.TheVariants as list
+use Rattle.mt_procedure.specs.declared.moves.Outcome.TheVariants.{Accessed}
+use Rattle.mt_list_machine.specs.Parts.{bus}
+use Rattle.mt_procedure.specs.Runs.{Case, State, procedure_order, system_of}
+use Rattle.mt_procedure.specs.Steps.{event_of, accessed, answer_aside, aside, controlled, after_reload, reload_aside}
+use Rattle.mt_search.specs.Wrongs.{fault_with}
 use Rattle.mt_judge_laws.specs.Manual.{at_rest, IsInstruction}
 use Rattle.mt_judge_laws.proofs.Counting.{all_staged, stage_after}
 use Rattle.mt_judge_laws.proofs.Since.{AllSince, steps_since, IsPlain, control_since}

@@ -4,10 +4,10 @@ use Rattle.std.specs.Prelude.{slice_get}
 use Rattle.std.specs.List.{All}
 use Rattle.mt_machine.specs.declared.op.Op.TheVariants.{Load}
 use Rattle.mt_machine.specs.System.{Processor}
-use Rattle.mt_judge.specs.declared.step.ProcedureStep.TheVariants.{Access, Pge}
-use Rattle.mt_judge.specs.declared.step.ProcedureStep.{ProcedureStep}
-use Rattle.mt_judge.specs.Runs.{list_of}
-use Rattle.mt_judge.specs.WorkedWrongs.{dirty_line, mapped, with_line}
+use Rattle.mt_procedure.specs.declared.step.ProcedureStep.TheVariants.{Access, Pge}
+use Rattle.mt_procedure.specs.declared.step.ProcedureStep.{ProcedureStep}
+use Rattle.mt_procedure.specs.Runs.{list_of}
+use Rattle.mt_search.specs.WorkedWrongs.{dirty_line, mapped, with_line}
 use Rattle.mt_judge_laws.specs.Manual.{IsInstruction, IsManualList, manual_list}
 use Rattle.mt_judge_laws.specs.WorkedManual.{first_list, second_list, two_lists, two_processors}
 

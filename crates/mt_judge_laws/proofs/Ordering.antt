@@ -8,12 +8,13 @@ use Rattle.mt_machine.specs.Access.{is_running}
 use Rattle.mt_machine.specs.Machine.{due}
 use Rattle.mt_machine.specs.Start.{IsStart}
 use Rattle.mt_machine.specs.System.{Processor, System}
-use Rattle.mt_judge.specs.declared.moves.Move.{Move}
-use Rattle.mt_judge.specs.declared.step.ProcedureStep.{ProcedureStep}
-use Rattle.mt_judge.specs.declared.step.ProcedureStep.TheVariants as list
-use Rattle.mt_judge.specs.Runs.{Case, State, after, due_in, due_of, event_in, is_fit, is_open, move_of, moved, next_move, next_step, place_of, run, step_at, system_of}
-use Rattle.mt_judge.specs.Steps.{after_step, answer_aside, answer_of_step, aside, event_of}
-use Rattle.mt_judge.specs.Wrongs.{fault_of, fault_with}
+use Rattle.mt_procedure.specs.declared.moves.Move.{Move}
+use Rattle.mt_procedure.specs.declared.step.ProcedureStep.{ProcedureStep}
+use Rattle.mt_procedure.specs.declared.step.ProcedureStep.TheVariants as list
+use Rattle.mt_list_machine.specs.Calls.{is_fit}
+use Rattle.mt_procedure.specs.Runs.{Case, State, after, due_in, due_of, event_in, is_open, move_of, moved, next_move, next_step, place_of, run, step_at, system_of}
+use Rattle.mt_procedure.specs.Steps.{after_step, answer_aside, answer_of_step, aside, event_of}
+use Rattle.mt_search.specs.Wrongs.{fault_of, fault_with}
 use Rattle.mt_judge_laws.specs.Manual.{IsInstruction, IsRightStart, MayCall, at_rest}
 use Rattle.mt_judge_laws.specs.Orderly.{AreOrderly, IsBeside, IsOrderly, OrderlyRunsAreRight, OrderlyRunsAreTheMachines, OrderlyStepsHaveNoFault}
 use Rattle.mt_judge_laws.proofs.Beginning.{holds_first, right_in, running_is, start_is}
@@ -46,8 +47,8 @@ module _ (c : Case) (first : State) (start : IsStart (at_rest c first)) (s : Sta
         (subst HoldsIn (sym i.is) i.holds, i.right)
 
     beside : (t : ProcedureStep) → IsBeside p.phase t → HoldsIn (aside t k (system_of c s)) × (fault_with k t (answer_aside t k (system_of c s)) p ≡ None)
-    beside (list.ArriveAt barrier) allowed = (h, refl)
-    beside (list.WaitAt barrier count) allowed = (h, refl)
+    beside (list.Arrive barrier) allowed = (h, refl)
+    beside (list.Wait barrier count) allowed = (h, refl)
     beside other allowed = by_instruction other allowed.0 allowed.1
 
     kept : (e : Option Event) → event_of todo part p ≡ e → IsAllowed e → IsKept e

@@ -16,13 +16,13 @@ use Rattle.mt_machine.specs.declared.phase.Phase.TheVariants.{Running, Taken, Ar
 use Rattle.mt_machine.specs.Machine.{after_drop, after_flush, due, has_arrived, has_arrived_again, write_back_or_drop}
 use Rattle.mt_machine.specs.System.{Processor}
 use Rattle.mt_machine.proofs.Rows.{back_case}
-use Rattle.mt_judge.specs.declared.moves.Outcome.{Outcome}
-use Rattle.mt_judge.specs.declared.step.ListPlace.{ListPlace}
-use Rattle.mt_judge.specs.declared.step.ProcedureStep.{ProcedureStep}
-use Rattle.mt_judge.specs.declared.step.ProcedureStep.TheVariants as list
-use Rattle.mt_judge.specs.Runs.{arrived_at, counted, is_open, place_after, procedure_order, step_behind}
-use Rattle.mt_judge.specs.Steps.{arrival, clearing, event_of, passage, reloading}
-use Rattle.mt_judge.specs.Wrongs.{fault_with}
+use Rattle.mt_procedure.specs.declared.moves.Outcome.{Outcome}
+use Rattle.mt_procedure.specs.declared.step.ListPlace.{ListPlace}
+use Rattle.mt_procedure.specs.declared.step.ProcedureStep.{ProcedureStep}
+use Rattle.mt_procedure.specs.declared.step.ProcedureStep.TheVariants as list
+use Rattle.mt_procedure.specs.Runs.{arrived_at, counted, is_open, place_after, procedure_order, step_behind}
+use Rattle.mt_procedure.specs.Steps.{arrival, clearing, event_of, passage, reloading}
+use Rattle.mt_search.specs.Wrongs.{fault_with}
 use Rattle.mt_judge_laws.specs.Manual.{IsInstruction, first_flush, manual_list, since_flush}
 use Rattle.mt_judge_laws.proofs.Counting.{era_after, first_after, phase_after, second_after}
 
@@ -67,7 +67,7 @@ two_at_least goal = long (pair_registers 0 (pair_count goal)) (if has_fixed goal
 
 abbrev pub since_write : ℕ → List ProcedureStep
 since_write n =
-    list.WriteDefault ∷ list.Wbinvd ∷ list.ReloadCr3 ∷ list.ClearCd ∷ list.ReturnPge ∷ list.ArriveAt 1 ∷ list.WaitAt 1 n ∷ list.GoOn ∷ []
+    list.Enable ∷ list.Wbinvd ∷ list.ReloadCr3 ∷ list.ClearCd ∷ list.RestorePge ∷ list.Arrive 1 ∷ list.Wait 1 n ∷ list.Release ∷ []
 
 -- so many processors wait for each other, and so many registers are written
 module _ (n r : ℕ) (behind : List ProcedureStep) (snoops : Bool) where
@@ -75,26 +75,26 @@ module _ (n r : ℕ) (behind : List ProcedureStep) (snoops : Bool) where
   abbrev pub IsPlace : ℕ → Phase → Bool → List ProcedureStep → ℕ → Type 0
   IsPlace count Running true left part = (ops : List ProcedureStep) × All IsInstruction ops × (left ≡ ops)
   IsPlace count Running false left part = (ops : List ProcedureStep) × All IsInstruction ops × (left ≡ ops ++ (manual_list n snoops ++ behind))
-  IsPlace count Taken ahead left part = left ≡ list.ArriveAt 0 ∷ list.WaitAt 0 n ∷ list.SetCd ∷ ((first_flush snoops ++ since_flush n) ++ behind)
-  IsPlace count Arrived ahead left part = left ≡ list.WaitAt 0 n ∷ list.SetCd ∷ ((first_flush snoops ++ since_flush n) ++ behind)
+  IsPlace count Taken ahead left part = left ≡ list.Arrive 0 ∷ list.Wait 0 n ∷ list.SetCd ∷ ((first_flush snoops ++ since_flush n) ++ behind)
+  IsPlace count Arrived ahead left part = left ≡ list.Wait 0 n ∷ list.SetCd ∷ ((first_flush snoops ++ since_flush n) ++ behind)
   IsPlace count Passed ahead left part = left ≡ list.SetCd ∷ ((first_flush snoops ++ since_flush n) ++ behind)
   IsPlace count NoFill ahead left part = left ≡ (first_flush snoops ++ since_flush n) ++ behind
   IsPlace count Flushed ahead left part = left ≡ since_flush n ++ behind
-  IsPlace count TlbFlushed ahead left part = left ≡ list.ClearEnable ∷ list.WriteRegisters ∷ (since_write n ++ behind)
-  IsPlace count (Writing i) ahead left part = ((left ≡ list.WriteRegisters ∷ (since_write n ++ behind)) × (part ≡ i) × (i + 1 < r)) ⊎ ((left ≡ since_write n ++ behind) × (r ≤ i + 1))
-  IsPlace count Enabled ahead left part = left ≡ list.Wbinvd ∷ list.ReloadCr3 ∷ list.ClearCd ∷ list.ReturnPge ∷ list.ArriveAt 1 ∷ list.WaitAt 1 n ∷ list.GoOn ∷ behind
-  IsPlace count Flushed2 ahead left part = left ≡ list.ReloadCr3 ∷ list.ClearCd ∷ list.ReturnPge ∷ list.ArriveAt 1 ∷ list.WaitAt 1 n ∷ list.GoOn ∷ behind
-  IsPlace count TlbFlushed2 ahead left part = left ≡ list.ClearCd ∷ list.ReturnPge ∷ list.ArriveAt 1 ∷ list.WaitAt 1 n ∷ list.GoOn ∷ behind
-  IsPlace count Normal ahead left part = left ≡ list.ReturnPge ∷ list.ArriveAt 1 ∷ list.WaitAt 1 n ∷ list.GoOn ∷ behind
-  IsPlace count Restored ahead left part = left ≡ list.ArriveAt 1 ∷ list.WaitAt 1 n ∷ list.GoOn ∷ behind
-  IsPlace count Arrived2 ahead left part = (left ≡ list.WaitAt 1 n ∷ list.GoOn ∷ behind) ⊎ ((left ≡ list.GoOn ∷ behind) × (n ≤ count))
+  IsPlace count TlbFlushed ahead left part = left ≡ list.ClearE ∷ list.Write ∷ (since_write n ++ behind)
+  IsPlace count (Writing i) ahead left part = ((left ≡ list.Write ∷ (since_write n ++ behind)) × (part ≡ i) × (i + 1 < r)) ⊎ ((left ≡ since_write n ++ behind) × (r ≤ i + 1))
+  IsPlace count Enabled ahead left part = left ≡ list.Wbinvd ∷ list.ReloadCr3 ∷ list.ClearCd ∷ list.RestorePge ∷ list.Arrive 1 ∷ list.Wait 1 n ∷ list.Release ∷ behind
+  IsPlace count Flushed2 ahead left part = left ≡ list.ReloadCr3 ∷ list.ClearCd ∷ list.RestorePge ∷ list.Arrive 1 ∷ list.Wait 1 n ∷ list.Release ∷ behind
+  IsPlace count TlbFlushed2 ahead left part = left ≡ list.ClearCd ∷ list.RestorePge ∷ list.Arrive 1 ∷ list.Wait 1 n ∷ list.Release ∷ behind
+  IsPlace count Normal ahead left part = left ≡ list.RestorePge ∷ list.Arrive 1 ∷ list.Wait 1 n ∷ list.Release ∷ behind
+  IsPlace count Restored ahead left part = left ≡ list.Arrive 1 ∷ list.Wait 1 n ∷ list.Release ∷ behind
+  IsPlace count Arrived2 ahead left part = (left ≡ list.Wait 1 n ∷ list.Release ∷ behind) ⊎ ((left ≡ list.Release ∷ behind) × (n ≤ count))
 
   pub place_up : (a b : ℕ) → a ≤ b → (ph : Phase) (ahead : Bool) (left : List ProcedureStep) (part : ℕ) → IsPlace a ph ahead left part → IsPlace b ph ahead left part
   place_up a b up Running true left part h = h
   place_up a b up Running false left part h = h
   place_up a b up Arrived2 ahead left part h = ⊎_elim
-      (λ (e : left ≡ list.WaitAt 1 n ∷ list.GoOn ∷ behind). inl e)
-      (λ (e : (left ≡ list.GoOn ∷ behind) × (n ≤ a)). inr (e.0, let low = e.1 in omega (arith, low, up)))
+      (λ (e : left ≡ list.Wait 1 n ∷ list.Release ∷ behind). inl e)
+      (λ (e : (left ≡ list.Release ∷ behind) × (n ≤ a)). inr (e.0, let low = e.1 in omega (arith, low, up)))
       h
   place_up a b up other ahead left part h = h
 
@@ -116,9 +116,9 @@ module _ (goal : RegisterFile) (ps : List Processor) (n r : ℕ) (behind : List 
 
   -- the step is the wait at the second barrier, which is no event
   pub record Waits (t : ProcedureStep) : Type 0 where
-    pub is : t ≡ list.WaitAt 1 n
+    pub is : t ≡ list.Wait 1 n
     pub phase : p.phase ≡ Arrived2
-    pub left : drop (at.step + 1) steps ≡ list.GoOn ∷ behind
+    pub left : drop (at.step + 1) steps ≡ list.Release ∷ behind
     pub full : n ≤ arrived_at arrivals 1
 
   -- the step is an instruction of a processor that runs
@@ -200,22 +200,22 @@ module _ (goal : RegisterFile) (ps : List Processor) (n r : ℕ) (behind : List 
   starts same behind left =
       let low = ltb-false 0 p.era behind in
       let zeroth : (p.era == 0) ≡ true = eq-eqb p.era 0 (omega (arith, low)) in
-      plain list.Interrupt Take _ left refl
+      plain list.Take Take _ left refl
       (ap (due (procedure_order goal) ps p) same ∙ ap (λ (b : Bool). if b && true then Some Take else None) zeroth)
       (λ h. absurd (cc)) (λ a b xs. refl) (λ k outcome q. refl) (λ tail. tail)
 
-  passes : p.phase ≡ Arrived → IsLeft (list.WaitAt 0 n ∷ list.SetCd ∷ ((first_flush p.self_snoop ++ since_flush n) ++ behind)) → TurnFor todo
+  passes : p.phase ≡ Arrived → IsLeft (list.Wait 0 n ∷ list.SetCd ∷ ((first_flush p.self_snoop ++ since_flush n) ++ behind)) → TurnFor todo
   passes same left =
-      let is = head_left steps at.step (list.WaitAt 0 n) todo _ left next in
+      let is = head_left steps at.step (list.Wait 0 n) todo _ left next in
       let full : n ≤ arrived_at arrivals 0 = leb-true n (arrived_at arrivals 0) (ap (is_open arrivals) is ∙ opened) in
-      plain (list.WaitAt 0 n) Pass _ left (ap passage same)
+      plain (list.Wait 0 n) Pass _ left (ap passage same)
       (ap (due (procedure_order goal) ps p) same ∙ ap (λ (b : Bool). if b && true then Some Pass else None) (first_open full))
       (λ h. absurd (cc)) (λ a b xs. refl) (λ k outcome q. refl) (λ tail. tail)
 
-  writes : (i : ℕ) → p.phase ≡ Writing i → IsLeft (list.WriteRegisters ∷ (since_write n ++ behind)) → at.part ≡ i → i + 1 < r → TurnFor todo
+  writes : (i : ℕ) → p.phase ≡ Writing i → IsLeft (list.Write ∷ (since_write n ++ behind)) → at.part ≡ i → i + 1 < r → TurnFor todo
   writes i same left part more =
       let within : nat_lt (i + 1) (length (writable p.file)) ≡ true = lt-ltb (i + 1) (length (writable p.file)) (omega (arith, more, registers)) in
-      plain list.WriteRegisters (Write at.part) _ left refl
+      plain list.Write (Write at.part) _ left refl
       (ap (due (procedure_order goal) ps p) same ∙ ap (λ (b : Bool). Some (if b then Write i else Enable)) within ∙ ap (λ (j : ℕ). Some (Write j)) (sym part))
       (λ h. absurd (cc)) (λ a b xs. refl) (λ k outcome q. refl) (λ tail. one tail (nat_lt (at.part + 2) r) refl)
     where
@@ -227,24 +227,24 @@ module _ (goal : RegisterFile) (ps : List Processor) (n r : ℕ) (behind : List 
   enables : (i : ℕ) → p.phase ≡ Writing i → IsLeft (since_write n ++ behind) → r ≤ i + 1 → TurnFor todo
   enables i same left last =
       let past : nat_lt (i + 1) (length (writable p.file)) ≡ false = le-ltb (i + 1) (length (writable p.file)) (omega (arith, last, registers)) in
-      plain list.WriteDefault Enable _ left refl
+      plain list.Enable Enable _ left refl
       (ap (due (procedure_order goal) ps p) same ∙ ap (λ (b : Bool). Some (if b then Write i else Enable)) past)
       (λ h. absurd (cc)) (λ a b xs. refl) (λ k outcome q. refl) (λ tail. tail)
 
-  releases : p.phase ≡ Arrived2 → IsLeft (list.GoOn ∷ behind) → n ≤ arrived_at arrivals 1 → TurnFor todo
+  releases : p.phase ≡ Arrived2 → IsLeft (list.Release ∷ behind) → n ≤ arrived_at arrivals 1 → TurnFor todo
   releases same left full =
-      plain list.GoOn Release _ left refl
+      plain list.Release Release _ left refl
       (ap (due (procedure_order goal) ps p) same ∙ ap (λ (b : Bool). if b then Some Release else None) (second_open full))
       (λ h. absurd (cc)) (λ a b xs. refl) (λ k outcome q. refl)
       (λ tail. subst (λ (b : Bool). PlaceAt Running b (step_behind at)) (sym later) (behind, fit_behind, tail))
 
-  waits : p.phase ≡ Arrived2 → IsLeft (list.WaitAt 1 n ∷ list.GoOn ∷ behind) → WaitsFor
+  waits : p.phase ≡ Arrived2 → IsLeft (list.Wait 1 n ∷ list.Release ∷ behind) → WaitsFor
   waits same left =
-      let is = head_left steps at.step (list.WaitAt 1 n) todo _ left next in
+      let is = head_left steps at.step (list.Wait 1 n) todo _ left next in
       record {
         is = sym is;
         phase = same;
-        left = tail_left steps at.step (list.WaitAt 1 n) _ left;
+        left = tail_left steps at.step (list.Wait 1 n) _ left;
         full = leb-true n (arrived_at arrivals 1) (ap (is_open arrivals) is ∙ opened);
       }
 
@@ -268,7 +268,7 @@ module _ (goal : RegisterFile) (ps : List Processor) (n r : ℕ) (behind : List 
   turn Running true same is place = after_release place.0 place.1 place.2 same is
   turn Running false same is place = before place.0 place.1 place.2 same is
   turn Taken ahead same is place =
-      inl (plain (list.ArriveAt 0) Arrive _ place (ap arrival same) (ap (due (procedure_order goal) ps p) same) (λ h. absurd (cc)) (λ a b xs. refl) (λ k outcome q. refl) (λ tail. tail))
+      inl (plain (list.Arrive 0) Arrive _ place (ap arrival same) (ap (due (procedure_order goal) ps p) same) (λ h. absurd (cc)) (λ a b xs. refl) (λ k outcome q. refl) (λ tail. tail))
   turn Arrived ahead same is place = inl (passes same place)
   turn Passed ahead same is place =
       inl (plain list.SetCd SetNoFill _ place refl (ap (due (procedure_order goal) ps p) same) (λ h. absurd (cc)) (λ a b xs. refl) (λ k outcome q. refl) (λ tail. tail))
@@ -276,10 +276,10 @@ module _ (goal : RegisterFile) (ps : List Processor) (n r : ℕ) (behind : List 
   turn Flushed ahead same is place =
       inl (flushes list.ClearPge Flushed _ same place (ap clearing same) (ap (due (procedure_order goal) ps p) same) (λ a b xs. refl) (λ k outcome q. refl) refl (λ tail. tail))
   turn TlbFlushed ahead same is place =
-      inl (plain list.ClearEnable Disable _ place refl (ap (due (procedure_order goal) ps p) same) (λ h. absurd (cc)) (λ a b xs. refl) (λ k outcome q. refl)
+      inl (plain list.ClearE Disable _ place refl (ap (due (procedure_order goal) ps p) same) (λ h. absurd (cc)) (λ a b xs. refl) (λ k outcome q. refl)
       (λ tail. inl (tail, refl, omega (arith, some))))
   turn (Writing i) ahead same is place = inl (⊎_elim
-      (λ (h : (drop at.step steps ≡ list.WriteRegisters ∷ (since_write n ++ behind)) × (at.part ≡ i) × (i + 1 < r)). writes i same h.0 h.1 h.2)
+      (λ (h : (drop at.step steps ≡ list.Write ∷ (since_write n ++ behind)) × (at.part ≡ i) × (i + 1 < r)). writes i same h.0 h.1 h.2)
       (λ (h : (drop at.step steps ≡ since_write n ++ behind) × (r ≤ i + 1)). enables i same h.0 h.1)
       place)
   turn Enabled ahead same is place = inl (drains Enabled _ same place (ap (due (procedure_order goal) ps p) same) place (λ tail. tail))
@@ -289,11 +289,11 @@ module _ (goal : RegisterFile) (ps : List Processor) (n r : ℕ) (behind : List 
   turn TlbFlushed2 ahead same is place =
       inl (plain list.ClearCd SetNormal _ place refl (ap (due (procedure_order goal) ps p) same) (λ h. absurd (cc)) (λ a b xs. refl) (λ k outcome q. refl) (λ tail. tail))
   turn Normal ahead same is place =
-      inl (plain list.ReturnPge RestorePge _ place refl (ap (due (procedure_order goal) ps p) same) (λ h. absurd (cc)) (λ a b xs. refl) (λ k outcome q. refl) (λ tail. tail))
+      inl (plain list.RestorePge RestorePge _ place refl (ap (due (procedure_order goal) ps p) same) (λ h. absurd (cc)) (λ a b xs. refl) (λ k outcome q. refl) (λ tail. tail))
   turn Restored ahead same is place =
-      inl (plain (list.ArriveAt 1) ArriveAgain _ place (ap arrival same) (ap (due (procedure_order goal) ps p) same) (λ h. absurd (cc)) (λ a b xs. refl) (λ k outcome q. refl)
+      inl (plain (list.Arrive 1) ArriveAgain _ place (ap arrival same) (ap (due (procedure_order goal) ps p) same) (λ h. absurd (cc)) (λ a b xs. refl) (λ k outcome q. refl)
       (λ tail. inl tail))
   turn Arrived2 ahead same is place = ⊎_elim
-      (λ (left : drop at.step steps ≡ list.WaitAt 1 n ∷ list.GoOn ∷ behind). inr (inl (waits same left)))
-      (λ (h : (drop at.step steps ≡ list.GoOn ∷ behind) × (n ≤ arrived_at arrivals 1)). inl (releases same h.0 h.1))
+      (λ (left : drop at.step steps ≡ list.Wait 1 n ∷ list.Release ∷ behind). inr (inl (waits same left)))
+      (λ (h : (drop at.step steps ≡ list.Release ∷ behind) × (n ≤ arrived_at arrivals 1)). inl (releases same h.0 h.1))
       place

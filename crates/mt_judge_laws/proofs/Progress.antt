@@ -22,11 +22,12 @@ use Rattle.mt_laws.proofs.Barrier.Stages.{Stage, stage_of, stages_of}
 use Rattle.mt_laws.proofs.Invariant.Standing.{stays_sound}
 use Rattle.mt_laws.proofs.Registers.UnderWay.{lines_are_low}
 use Rattle.mt_laws.proofs.Steps.StepCounts.{count_more}
-use Rattle.mt_judge.specs.declared.step.ListPlace.{ListPlace}
-use Rattle.mt_judge.specs.declared.step.ProcedureStep.{ProcedureStep}
-use Rattle.mt_judge.specs.declared.step.ProcedureStep.TheVariants as list
-use Rattle.mt_judge.specs.Dues.{AreListsFinished}
-use Rattle.mt_judge.specs.Runs.{Case, SomeGoesOn, IsEnded, State, arrived_at, is_fit, is_open, list_of, may_go, place_of, step_at, system_of}
+use Rattle.mt_procedure.specs.declared.step.ListPlace.{ListPlace}
+use Rattle.mt_procedure.specs.declared.step.ProcedureStep.{ProcedureStep}
+use Rattle.mt_procedure.specs.declared.step.ProcedureStep.TheVariants as list
+use Rattle.mt_procedure.specs.Dues.{AreListsFinished}
+use Rattle.mt_list_machine.specs.Calls.{is_fit}
+use Rattle.mt_procedure.specs.Runs.{Case, SomeGoesOn, IsEnded, State, arrived_at, is_open, list_of, may_go, place_of, step_at, system_of}
 use Rattle.mt_judge_laws.specs.Manual.{IsInstruction, at_rest, first_flush, machine_of, manual_list, since_flush}
 use Rattle.mt_judge_laws.proofs.Holding.{order_of}
 use Rattle.mt_judge_laws.proofs.Counting.{again, arrived}
@@ -91,7 +92,7 @@ pub record Next (n : ℕ) (arrivals : List ℕ) (ph : Phase) (left : List Proced
   pub opened : (ph ≡ Arrived → n ≤ arrived_at arrivals 0) → (ph ≡ Arrived2 → n ≤ arrived_at arrivals 1) → is_open arrivals todo ≡ true
 
 next_before : (arrivals : List ℕ) (left : List ProcedureStep) (n : ℕ) (snoops : Bool) (behind ts : List ProcedureStep) → All IsInstruction ts → left ≡ ts ++ (manual_list n snoops ++ behind) → Next n arrivals Running left
-next_before arrivals left n snoops behind [] fit is = record { todo = list.Interrupt; more = _; is = is; opened = λ first second. refl }
+next_before arrivals left n snoops behind [] fit is = record { todo = list.Take; more = _; is = is; opened = λ first second. refl }
 next_before arrivals left n snoops behind (t ∷ ts) fit is = record { todo = t; more = _; is = is; opened = λ first second. instruction_open arrivals t (All-head IsInstruction t ts fit) }
 
 -- a processor that hasn't released has a next step
@@ -99,27 +100,27 @@ next_left : (n r : ℕ) (behind : List ProcedureStep) (snoops : Bool) (arrivals 
     → (ph ≡ Running → ahead ≡ false) → Next n arrivals ph left
 next_left n r behind snoops arrivals left part Running true place late = absurd (let e : true ≡ false = late refl in cc)
 next_left n r behind snoops arrivals left part Running false place late = next_before arrivals left n snoops behind place.0 place.1 place.2
-next_left n r behind snoops arrivals left part Taken ahead place late = record { todo = list.ArriveAt 0; more = _; is = place; opened = λ first second. refl }
+next_left n r behind snoops arrivals left part Taken ahead place late = record { todo = list.Arrive 0; more = _; is = place; opened = λ first second. refl }
 next_left n r behind snoops arrivals left part Arrived ahead place late =
-    record { todo = list.WaitAt 0 n; more = _; is = place; opened = λ first second. le-leb n (arrived_at arrivals 0) (first refl) }
+    record { todo = list.Wait 0 n; more = _; is = place; opened = λ first second. le-leb n (arrived_at arrivals 0) (first refl) }
 next_left n r behind snoops arrivals left part Passed ahead place late = record { todo = list.SetCd; more = _; is = place; opened = λ first second. refl }
 next_left n r behind snoops arrivals left part NoFill ahead place late =
     let f = flush_first n snoops (behind) in record { todo = f.0; more = f.1; is = place ∙ f.2; opened = λ first second. f.3 arrivals }
 next_left n r behind snoops arrivals left part (Writing i) ahead place late = ⊎_elim
-    (λ (h : (left ≡ list.WriteRegisters ∷ _) × (part ≡ i) × (i + 1 < r)). record { todo = list.WriteRegisters; more = _; is = h.0; opened = λ first second. refl })
-    (λ (h : (left ≡ list.WriteDefault ∷ _) × (r ≤ i + 1)). record { todo = list.WriteDefault; more = _; is = h.0; opened = λ first second. refl })
+    (λ (h : (left ≡ list.Write ∷ _) × (part ≡ i) × (i + 1 < r)). record { todo = list.Write; more = _; is = h.0; opened = λ first second. refl })
+    (λ (h : (left ≡ list.Enable ∷ _) × (r ≤ i + 1)). record { todo = list.Enable; more = _; is = h.0; opened = λ first second. refl })
     place
 next_left n r behind snoops arrivals left part Arrived2 ahead place late = ⊎_elim
-    (λ (h : left ≡ list.WaitAt 1 n ∷ list.GoOn ∷ behind). record { todo = list.WaitAt 1 n; more = _; is = h; opened = λ first second. le-leb n (arrived_at arrivals 1) (second refl) })
-    (λ (h : (left ≡ list.GoOn ∷ behind) × (n ≤ arrived_at arrivals 1)). record { todo = list.GoOn; more = _; is = h.0; opened = λ first second. refl })
+    (λ (h : left ≡ list.Wait 1 n ∷ list.Release ∷ behind). record { todo = list.Wait 1 n; more = _; is = h; opened = λ first second. le-leb n (arrived_at arrivals 1) (second refl) })
+    (λ (h : (left ≡ list.Release ∷ behind) × (n ≤ arrived_at arrivals 1)). record { todo = list.Release; more = _; is = h.0; opened = λ first second. refl })
     place
 next_left n r behind snoops arrivals left part Flushed ahead place late = record { todo = list.ClearPge; more = _; is = place; opened = λ first second. refl }
-next_left n r behind snoops arrivals left part TlbFlushed ahead place late = record { todo = list.ClearEnable; more = _; is = place; opened = λ first second. refl }
+next_left n r behind snoops arrivals left part TlbFlushed ahead place late = record { todo = list.ClearE; more = _; is = place; opened = λ first second. refl }
 next_left n r behind snoops arrivals left part Enabled ahead place late = record { todo = list.Wbinvd; more = _; is = place; opened = λ first second. refl }
 next_left n r behind snoops arrivals left part Flushed2 ahead place late = record { todo = list.ReloadCr3; more = _; is = place; opened = λ first second. refl }
 next_left n r behind snoops arrivals left part TlbFlushed2 ahead place late = record { todo = list.ClearCd; more = _; is = place; opened = λ first second. refl }
-next_left n r behind snoops arrivals left part Normal ahead place late = record { todo = list.ReturnPge; more = _; is = place; opened = λ first second. refl }
-next_left n r behind snoops arrivals left part Restored ahead place late = record { todo = list.ArriveAt 1; more = _; is = place; opened = λ first second. refl }
+next_left n r behind snoops arrivals left part Normal ahead place late = record { todo = list.RestorePge; more = _; is = place; opened = λ first second. refl }
+next_left n r behind snoops arrivals left part Restored ahead place late = record { todo = list.Arrive 1; more = _; is = place; opened = λ first second. refl }
 
 -- a processor that has released has instructions left, or none
 released_left : (n r : ℕ) (behind : List ProcedureStep) (snoops : Bool) (arrivals : List ℕ) (left : List ProcedureStep) (part : ℕ) (ph : Phase) (ahead : Bool) → ahead ≡ true → (is_running ph ≡ false → ahead ≡ false)

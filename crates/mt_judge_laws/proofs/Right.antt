@@ -21,11 +21,11 @@ use Rattle.mt_laws.proofs.Barrier.Stages.{Stage, stage_of, stages_of}
 use Rattle.mt_laws.proofs.Clearing.Cleared.{buffers_gone, entries_gone, lines_gone}
 use Rattle.mt_laws.proofs.Clearing.Renewed.{AllClear}
 use Rattle.mt_laws.proofs.Registers.Filed.{AllFiled, is_done}
-use Rattle.mt_judge.specs.declared.wrong.Wrong.{Wrong}
-use Rattle.mt_judge.specs.declared.wrong.Wrong.TheVariants.{Disagree, StaleBuffer, StaleEntry, StaleLine}
-use Rattle.mt_judge.specs.Runs.{State}
-use Rattle.mt_judge.specs.Searches.{has_wrong}
-use Rattle.mt_judge.specs.Wrongs.{disagree, holds_at, is_awake, is_stale_buffer, is_stale_entry, is_stale_line, is_wrong}
+use Rattle.mt_search.specs.declared.wrong.Wrong.{Wrong}
+use Rattle.mt_search.specs.declared.wrong.Wrong.TheVariants.{Disagree, StaleBuffer, StaleEntry, StaleLine}
+use Rattle.mt_procedure.specs.Runs.{State}
+use Rattle.mt_search.specs.Searches.{has_wrong}
+use Rattle.mt_search.specs.Wrongs.{disagree, holds_at, is_awake, is_stale_buffer, is_stale_entry, is_stale_line, is_wrong}
 use Rattle.mt_judge_laws.proofs.Emptied.{both}
 use Rattle.mt_judge_laws.proofs.Accessing.{AllKeep, Keeps, access_keeps, type_is_own}
 use Rattle.mt_judge_laws.proofs.Since.{AllSince, AreRight, Bare, Since, is_before, is_early, is_no_fill, none_right, re_right, right_buffer, right_entry, right_line, with_view}

@@ -32,8 +32,8 @@ use Rattle.mt_laws.proofs.Barrier.Ranks.{Guarded, and_left, and_right, stage_at}
 use Rattle.mt_laws.proofs.Barrier.Stages.{Stage, stage_of, stages}
 use Rattle.mt_laws.proofs.Clearing.Cleared.{buffers_gone, entries_gone, lines_gone}
 use Rattle.mt_laws.proofs.Clearing.Renewed.{AllClear, at_change}
-use Rattle.mt_judge.specs.declared.wrong.Kept.TheVariants.{Buffer, CleanLine, DirtyLine}
-use Rattle.mt_judge.specs.Wrongs.{allows_by, is_allowed, is_same_entry, kept_as, made_entry, page_of}
+use Rattle.mt_search.specs.declared.wrong.Kept.TheVariants.{Buffer, CleanLine, DirtyLine}
+use Rattle.mt_search.specs.Wrongs.{allows_by, is_allowed, is_same_entry, kept_as, made_entry, page_of}
 use Rattle.mt_judge_laws.proofs.Emptied.{Fewer, IsOfClean, before_in, both}
 
 -- ---- what is right by a processor's registers and mappings

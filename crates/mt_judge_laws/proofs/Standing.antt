@@ -18,17 +18,18 @@ use Rattle.mt_machine.specs.System.{Processor, System}
 use Rattle.mt_machine.proofs.Rows.{due_row}
 use Rattle.mt_laws.proofs.Barrier.Ranks.{At, at_set, stage_at}
 use Rattle.mt_laws.proofs.Barrier.Stages.{Stage, stage_of, stages_of}
-use Rattle.mt_judge.specs.declared.moves.Outcome.{Outcome}
-use Rattle.mt_judge.specs.declared.moves.Outcome.TheVariants.{Nothing}
-use Rattle.mt_judge.specs.declared.step.ListPlace.{ListPlace}
-use Rattle.mt_judge.specs.declared.step.ProcedureStep.{ProcedureStep}
-use Rattle.mt_judge.specs.declared.step.ProcedureStep.TheVariants as list
-use Rattle.mt_judge.specs.declared.wrong.Fault.TheVariants.{LostWord}
-use Rattle.mt_judge.specs.WorkedWrongs.{dirty_line, mapped, with_line}
-use Rattle.mt_judge.specs.Dues.{IsDue, is_astray, is_invd}
-use Rattle.mt_judge.specs.Runs.{Case, State, after as state_after, arrived_at, counted, due_in, due_of, event_in, is_fit, is_open, list_of, may_go, move_of, moved, next_step, place_after, place_of, step_at, step_behind, system_of, phase_in}
-use Rattle.mt_judge.specs.Steps.{after_step, event_of, passage, answer_of_step, reloading}
-use Rattle.mt_judge.specs.Wrongs.{fault_of, fault_with}
+use Rattle.mt_procedure.specs.declared.moves.Outcome.{Outcome}
+use Rattle.mt_procedure.specs.declared.moves.Outcome.TheVariants.{Nothing}
+use Rattle.mt_procedure.specs.declared.step.ListPlace.{ListPlace}
+use Rattle.mt_procedure.specs.declared.step.ProcedureStep.{ProcedureStep}
+use Rattle.mt_procedure.specs.declared.step.ProcedureStep.TheVariants as list
+use Rattle.mt_search.specs.declared.wrong.Fault.TheVariants.{LostWord}
+use Rattle.mt_search.specs.WorkedWrongs.{dirty_line, mapped, with_line}
+use Rattle.mt_procedure.specs.Dues.{IsDue, is_astray, is_invd}
+use Rattle.mt_list_machine.specs.Calls.{is_fit}
+use Rattle.mt_procedure.specs.Runs.{Case, State, after as state_after, arrived_at, counted, due_in, due_of, event_in, is_open, list_of, may_go, move_of, moved, next_step, place_after, place_of, step_at, step_behind, system_of, phase_in}
+use Rattle.mt_procedure.specs.Steps.{after_step, event_of, passage, answer_of_step, reloading}
+use Rattle.mt_search.specs.Wrongs.{fault_of, fault_with}
 use Rattle.mt_judge_laws.specs.Manual.{at_rest, IsInstruction}
 use Rattle.mt_judge_laws.proofs.Holding.{Holds, due_alike, due_behind, holds_event, instructs, order_of, stages_are}
 use Rattle.mt_judge_laws.proofs.Counting.{Counts, again, all_pass, all_staged, arrived, counts, era_after, first_after, phase_after, second_after, stage_after}
@@ -253,7 +254,7 @@ module _ (c : Case) (first : State) (start : IsStart (at_rest c first)) (few : l
   abbrev behind_wait : State
   behind_wait = record s { places = slice_set s.places k (step_behind place) }
 
-  waited_places : drop (place.step + 1) (list_of c k) ≡ list.GoOn ∷ rest → length first.processors ≤ arrived_at s.arrived 1 → p.phase ≡ Arrived2 → AllPlaced c first behind_wait
+  waited_places : drop (place.step + 1) (list_of c k) ≡ list.Release ∷ rest → length first.processors ≤ arrived_at s.arrived 1 → p.phase ≡ Arrived2 → AllPlaced c first behind_wait
   waited_places left full phase j x at_x = ⊎_elim
       (λ (h : (j ≡ k) × (slice_get (set s.places k (step_behind place)) j ≡ Some (step_behind place))).
       let own : At (stages_of s.processors) k x = subst (λ (i : ℕ). At (stages_of s.processors) i x) h.0 at_x in

@@ -12,15 +12,15 @@ use Rattle.mt_machine.specs.System.{Processor}
 use Rattle.mt_laws.proofs.Barrier.Ranks.{At, processor_at}
 use Rattle.mt_laws.proofs.Barrier.Stages.{Stage, stage_of, stages_of}
 use Rattle.mt_laws.proofs.Steps.StepCounts.{count_more}
-use Rattle.mt_judge.specs.declared.moves.Move.{Move}
-use Rattle.mt_judge.specs.declared.search.Found.{Found}
-use Rattle.mt_judge.specs.declared.search.Found.TheVariants as ends
-use Rattle.mt_judge.specs.declared.step.ListPlace.{ListPlace}
+use Rattle.mt_procedure.specs.declared.moves.Move.{Move}
+use Rattle.mt_search.specs.declared.search.Found.{Found}
+use Rattle.mt_search.specs.declared.search.Found.TheVariants as ends
+use Rattle.mt_procedure.specs.declared.step.ListPlace.{ListPlace}
 use Rattle.mt_judge.specs.Verdicts.{IsRight}
-use Rattle.mt_judge.specs.Dues.{AreStepsDue, IsDue, IsDueAt}
-use Rattle.mt_judge.specs.Runs.{Case, SomeGoesOn, IsEnded, IsRun, State, arrived_at, list_of, may_go, move_of, moved, next_move, run, step_at}
-use Rattle.mt_judge.specs.Searches.{AreAllFine, IsFound, fault_at, has_wrong, is_bad}
-use Rattle.mt_judge.specs.Wrongs.{fault_of}
+use Rattle.mt_procedure.specs.Dues.{AreStepsDue, IsDue, IsDueAt}
+use Rattle.mt_procedure.specs.Runs.{Case, SomeGoesOn, IsEnded, IsRun, State, arrived_at, list_of, may_go, move_of, moved, next_move, run, step_at}
+use Rattle.mt_search.specs.Searches.{AreAllFine, IsFound, fault_at, has_wrong, is_bad}
+use Rattle.mt_search.specs.Wrongs.{fault_of}
 use Rattle.mt_judge_laws.specs.Manual.{IsManual, IsRightStart, NothingGoesWrong, RunsAreTheMachines, SearchesFindNothing, at_rest, first_place}
 use Rattle.mt_judge_laws.proofs.Beginning.{holds_first, right_in, stage_is, start_is}
 use Rattle.mt_judge_laws.proofs.Holding.{order_of}

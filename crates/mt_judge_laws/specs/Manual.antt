@@ -5,13 +5,13 @@ use Rattle.std.specs.List.{All}
 use Rattle.mt_machine.specs.Machine.{Calls, FitsOp, IsEnabled, Machine, Reached, remaining_order}
 use Rattle.mt_machine.specs.Start.{IsQuiet}
 use Rattle.mt_machine.specs.System.{Processor}
-use Rattle.mt_judge.specs.declared.search.Found.{Found}
-use Rattle.mt_judge.specs.declared.search.Found.TheVariants as found
-use Rattle.mt_judge.specs.declared.step.ListPlace.{ListPlace}
-use Rattle.mt_judge.specs.declared.step.ProcedureStep.{ProcedureStep}
-use Rattle.mt_judge.specs.declared.step.ProcedureStep.TheVariants as list
-use Rattle.mt_judge.specs.Runs.{Case, IsRun, State, list_of, procedure_order, run, system_of}
-use Rattle.mt_judge.specs.Searches.{IsFound, has_wrong}
+use Rattle.mt_search.specs.declared.search.Found.{Found}
+use Rattle.mt_search.specs.declared.search.Found.TheVariants as found
+use Rattle.mt_procedure.specs.declared.step.ListPlace.{ListPlace}
+use Rattle.mt_procedure.specs.declared.step.ProcedureStep.{ProcedureStep}
+use Rattle.mt_procedure.specs.declared.step.ProcedureStep.TheVariants as list
+use Rattle.mt_procedure.specs.Runs.{Case, IsRun, State, list_of, procedure_order, run, system_of}
+use Rattle.mt_search.specs.Searches.{IsFound, has_wrong}
 use Rattle.mt_judge.specs.Verdicts.{IsRight}
 
 -- ---- the list
@@ -24,12 +24,12 @@ first_flush false = list.Wbinvd ∷ []
 -- the steps behind that flush
 abbrev pub since_flush : ℕ → List ProcedureStep
 since_flush count =
-    list.ClearPge ∷ list.ClearEnable ∷ list.WriteRegisters ∷ list.WriteDefault ∷ list.Wbinvd ∷ list.ReloadCr3 ∷ list.ClearCd ∷ list.ReturnPge
-    ∷ list.ArriveAt 1 ∷ list.WaitAt 1 count ∷ list.GoOn ∷ []
+    list.ClearPge ∷ list.ClearE ∷ list.Write ∷ list.Enable ∷ list.Wbinvd ∷ list.ReloadCr3 ∷ list.ClearCd ∷ list.RestorePge
+    ∷ list.Arrive 1 ∷ list.Wait 1 count ∷ list.Release ∷ []
 
 -- of each of so many processors
 abbrev pub manual_list : ℕ → Bool → List ProcedureStep
-manual_list count self_snoop = list.Interrupt ∷ list.ArriveAt 0 ∷ list.WaitAt 0 count ∷ list.SetCd ∷ (first_flush self_snoop ++ since_flush count)
+manual_list count self_snoop = list.Take ∷ list.Arrive 0 ∷ list.Wait 0 count ∷ list.SetCd ∷ (first_flush self_snoop ++ since_flush count)
 
 -- an access or a control instruction of a processor that runs
 abbrev pub IsInstruction : ProcedureStep → Type 0

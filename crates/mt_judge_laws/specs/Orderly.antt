@@ -2,18 +2,18 @@
 use Rattle.std.specs.Prelude.{◌≡◌, ℕ, true, false, List, [], ◌∷◌, None, Some, IsSomeAnd, MatchOption}
 use Rattle.mt_machine.specs.declared.phase.Phase.{Phase}
 use Rattle.mt_machine.specs.Access.{is_running}
-use Rattle.mt_judge.specs.declared.moves.Move.{Move}
-use Rattle.mt_judge.specs.declared.step.ProcedureStep.{ProcedureStep}
-use Rattle.mt_judge.specs.declared.step.ProcedureStep.TheVariants as list
-use Rattle.mt_judge.specs.Runs.{Case, State, moved, next_move, run}
-use Rattle.mt_judge.specs.Searches.{has_wrong}
-use Rattle.mt_judge.specs.Wrongs.{fault_of}
+use Rattle.mt_procedure.specs.declared.moves.Move.{Move}
+use Rattle.mt_procedure.specs.declared.step.ProcedureStep.{ProcedureStep}
+use Rattle.mt_procedure.specs.declared.step.ProcedureStep.TheVariants as list
+use Rattle.mt_procedure.specs.Runs.{Case, State, moved, next_move, run}
+use Rattle.mt_search.specs.Searches.{has_wrong}
+use Rattle.mt_search.specs.Wrongs.{fault_of}
 use Rattle.mt_judge_laws.specs.Manual.{IsInstruction, IsMachines, IsRightStart, MayCall}
 
 -- what may stand beside the events: a count or a wait at a barrier, and an instruction of a processor that runs
 abbrev pub IsBeside : Phase → ProcedureStep → Type 0
-IsBeside phase (list.ArriveAt barrier) = Unit {0}
-IsBeside phase (list.WaitAt barrier count) = Unit {0}
+IsBeside phase (list.Arrive barrier) = Unit {0}
+IsBeside phase (list.Wait barrier count) = Unit {0}
 IsBeside phase todo = (is_running phase ≡ true) × IsInstruction todo
 
 -- a step whose event is due, or that is none and may stand beside the events

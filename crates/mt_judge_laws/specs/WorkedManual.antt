@@ -6,12 +6,12 @@ use Rattle.mt_machine.specs.declared.event.Event.{Event}
 use Rattle.mt_machine.specs.declared.op.Op.TheVariants.{Load}
 use Rattle.mt_machine.specs.Start.{zero_memory}
 use Rattle.mt_machine.specs.System.{Processor}
-use Rattle.mt_judge.specs.declared.moves.Outcome.TheVariants.{Nothing}
-use Rattle.mt_judge.specs.declared.moves.Move.{Move}
-use Rattle.mt_judge.specs.declared.step.ProcedureStep.TheVariants.{Access, Pge}
-use Rattle.mt_judge.specs.declared.step.ProcedureStep.{ProcedureStep}
-use Rattle.mt_judge.specs.Runs.{Case, State}
-use Rattle.mt_judge.specs.WorkedWrongs.{dirty_line, mapped, registers, with_line}
+use Rattle.mt_procedure.specs.declared.moves.Outcome.TheVariants.{Nothing}
+use Rattle.mt_procedure.specs.declared.moves.Move.{Move}
+use Rattle.mt_procedure.specs.declared.step.ProcedureStep.TheVariants.{Access, Pge}
+use Rattle.mt_procedure.specs.declared.step.ProcedureStep.{ProcedureStep}
+use Rattle.mt_procedure.specs.Runs.{Case, State}
+use Rattle.mt_search.specs.WorkedWrongs.{dirty_line, mapped, registers, with_line}
 use Rattle.mt_judge_laws.specs.Manual.{first_place, manual_list}
 
 abbrev pub two_processors : List Processor

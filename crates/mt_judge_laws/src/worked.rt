@@ -1,7 +1,7 @@
 // Instances of what the laws require, and of what fails in one part.
 ghost use Rattle.std.specs.Prelude.{◌≡◌, [], ◌∷◌, false, true, None, Some, replicate};
-ghost use Rattle.mt_judge.specs.WorkedWrongs.{dirty_line, mapped, registers, with_line};
-ghost use Rattle.mt_judge.specs.declared.step.ProcedureStep.TheVariants.{Access, ArriveAt, ClearPge, WaitAt};
+ghost use Rattle.mt_search.specs.WorkedWrongs.{dirty_line, mapped, registers, with_line};
+ghost use Rattle.mt_procedure.specs.declared.step.ProcedureStep.TheVariants.{Access, Arrive, ClearPge, Wait};
 ghost use Rattle.mt_machine.specs.declared.op.Op.TheVariants.{Load};
 ghost use Rattle.mt_machine.specs.declared.event.Event.TheVariants.{ArriveAgain, RestorePge, Take};
 ghost use Rattle.mt_machine.specs.declared.phase.Phase.TheVariants.{Arrived2, Restored, Running, Taken};
@@ -38,10 +38,10 @@ pub fn worked_manual_lists()
 
 /// Steps that are due or may stand beside the events, and steps that aren't so for one thing.
 pub fn worked_orderly_moves()
-    ensures due { IsOrderly (move Restored (ArriveAt 1) (Some ArriveAgain) (Some ArriveAgain)) }
-    ensures waits { IsOrderly (move Arrived2 (WaitAt 1 2) None None) }
+    ensures due { IsOrderly (move Restored (Arrive 1) (Some ArriveAgain) (Some ArriveAgain)) }
+    ensures waits { IsOrderly (move Arrived2 (Wait 1 2) None None) }
     ensures loads { IsOrderly (move Running (Access (Load 0x1000)) None (Some Take)) }
-    ensures early { IsOrderly (move Restored (ArriveAt 1) (Some ArriveAgain) (Some RestorePge)) → ⊥ }
+    ensures early { IsOrderly (move Restored (Arrive 1) (Some ArriveAgain) (Some RestorePge)) → ⊥ }
     ensures in_the_midst { IsOrderly (move Restored (Access (Load 0x1000)) None (Some ArriveAgain)) → ⊥ }
     ensures no_instruction { IsOrderly (move Running ClearPge None (Some Take)) → ⊥ }
 {}

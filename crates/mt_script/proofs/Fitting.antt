@@ -67,7 +67,7 @@ aligned_fact line words i step limit n is =
     let both = and_parts (n % step == 0) (nat_lt n limit) (tested_fact (value_in line words i) OutOfRange (place_of line words i) (λ address. address % step == 0 && nat_lt address limit) n is).1 in
     (eqb-true (n % step) 0 both.0, ltb-true n limit both.1)
 
-count_fact : (line : ℕ) (words : List (ℕ × List ℕ)) (i first last n : ℕ) → count_in line words i first last ≡ Ok n → (first ≤ n) × (n ≤ last)
+pub count_fact : (line : ℕ) (words : List (ℕ × List ℕ)) (i first last n : ℕ) → count_in line words i first last ≡ Ok n → (first ≤ n) × (n ≤ last)
 count_fact line words i first last n is =
     let place = place_of line words i in
     let parts = tested_fact (limited place (decimal_number (text_of words i) last)) OutOfRange place (nat_le first) n is in

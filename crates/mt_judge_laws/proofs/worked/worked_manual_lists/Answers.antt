@@ -1,5 +1,5 @@
 use Rattle.std.proofs.Common.{◌≡◌, arith, lit<, refl, rules}
-use Rattle.mt_judge.specs.WorkedWrongs.{dirty_line, mapped, with_line}
+use Rattle.mt_search.specs.WorkedWrongs.{dirty_line, mapped, with_line}
 use Rattle.mt_judge_laws.proofs.OnWorked.{lists_are, not_empty}
 use Rattle.mt_judge_laws.proofs.worked.worked_manual_lists.Goals as goal
 

@@ -1,7 +1,7 @@
 use Rattle.std.proofs.Common.{refl, rules, ◌≡◌, arith, true, false, lit<}
-use Rattle.mt_judge.specs.Searches.{has_wrong}
-use Rattle.mt_judge.specs.Wrongs.{disagree}
-use Rattle.mt_judge.specs.WorkedWrongs.{mapped}
+use Rattle.mt_search.specs.Searches.{has_wrong}
+use Rattle.mt_search.specs.Wrongs.{disagree}
+use Rattle.mt_search.specs.WorkedWrongs.{mapped}
 use Rattle.mt_judge_laws.specs.WorkedManual.{two_started}
 use Rattle.mt_judge_laws.proofs.worked.worked_right_starts.Goals as goal
 

@@ -2,7 +2,7 @@ use Rattle.std.proofs.Common.{ℕ, Option, subst, sym}
 use Rattle.std.specs.Prelude.{OnOk}
 use Rattle.mt_judge.specs.Told.{IsToldPart}
 use Rattle.mt_judge.proofs.Courses.{part_of_turns}
-use Rattle.mt_judge.proofs.Translations.{on_both}
+use Rattle.mt_list_machine.proofs.Results.{on_both}
 use Rattle.mt_judge.proofs.one_run.JudgedRun.part.Goals as goal
 
 pub returns-in_ok-all_turns-in-None : goal.returns-in_ok-all_turns-in-None

@@ -1,5 +1,5 @@
 use Rattle.std.proofs.Common.{take}
-use Rattle.mt_judge.specs.Runs.{IsRun}
+use Rattle.mt_procedure.specs.Runs.{IsRun}
 use Rattle.mt_judge.specs.Told.{IsTold}
 use Rattle.mt_judge.proofs.one_run.JudgedRun.path.Given as goal
 

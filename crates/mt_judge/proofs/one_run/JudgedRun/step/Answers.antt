@@ -1,10 +1,10 @@
 use Rattle.std.proofs.Common.{◌∙◌, ◌∷◌, ◌++◌, [], List, ap, refl, subst, sym}
-use Rattle.mt_judge.specs.Runs.{State}
+use Rattle.mt_procedure.specs.Runs.{State}
 use Rattle.mt_judge.specs.Told.{TellsStep}
 use Rattle.mt_judge.specs.declared.transcript.Told.{Told}
 use Rattle.mt_judge.specs.declared.transcript.Told.TheVariants as line
 use Rattle.mt_judge.proofs.Courses.{nothing_told, told_idle, told_step}
-use Rattle.mt_judge.proofs.Searching.{waits}
+use Rattle.mt_search.proofs.Searching.{waits}
 use Rattle.mt_judge.proofs.one_run.JudgedRun.step.Goals as goal
 
 pub returns-in-Some-clause-told : goal.returns-in-Some-clause-told

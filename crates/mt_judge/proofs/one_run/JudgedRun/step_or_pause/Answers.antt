@@ -1,6 +1,6 @@
 use Rattle.std.proofs.Common.{refl}
 use Rattle.mt_judge.proofs.Courses.{told_pause}
-use Rattle.mt_judge.proofs.Translations.{on_ok}
+use Rattle.mt_list_machine.proofs.Results.{on_ok}
 use Rattle.mt_judge.proofs.one_run.JudgedRun.step_or_pause.Goals as goal
 
 pub returns : goal.returns

@@ -1,6 +1,6 @@
 use Rattle.std.proofs.Common.{[]}
 use Rattle.mt_judge.proofs.Courses.{all_told}
-use Rattle.mt_judge.proofs.Translations.{on_ok}
+use Rattle.mt_list_machine.proofs.Results.{on_ok}
 use Rattle.mt_judge.proofs.one_run.JudgedRun.tell_end.Goals as goal
 
 pub returns : goal.returns

@@ -1,0 +1,7 @@
+use Rattle.std.proofs.Common.{◌≡◌, ◌++◌, drop, map, take}
+use Rattle.mt_cache.specs.Lines.{without_line}
+use Rattle.mt_machine.specs.Bus.{with_lines}
+use Rattle.mt_list_machine.proofs.snoops.drop_all.Given as goal
+
+abbrev pub invariant-loop-i : goal.invariant-loop-i
+invariant-loop-i l = take l.i l.cpus ++ map (with_lines (without_line l.number)) (drop l.i l.cpus) ≡ map (with_lines (without_line l.number)) l.fn.cpus

@@ -1,0 +1,14 @@
+//! Lists of steps that change memory type registers, one for each processor, and runs of them: what a step does, and which step the
+//! manual's procedure has due.
+#![tactic(auto)]
+
+mod due;
+mod event;
+mod moves;
+mod order;
+mod step;
+
+pub use due::{due_at, has_arrived, has_arrived_again};
+pub use moves::{Case, Move, Outcome, Procedure, State, advance, aside, phase_in};
+pub use order::{is_running, sum};
+pub use step::{ListPlace, PLAIN, ProcedureStep};
