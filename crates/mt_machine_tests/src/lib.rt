@@ -6,6 +6,8 @@ mod checks;
 #[cfg(test)]
 mod common;
 #[cfg(test)]
+mod drawn;
+#[cfg(test)]
 mod holders;
 #[cfg(test)]
 mod interleavings;
