@@ -1,4 +1,5 @@
-# Functions of ./build, .ci/run, run-program, wrong/try and library/rt-lib. $top is the top of the repository, $name a crate, $crates
+# shellcheck shell=sh disable=SC2154
+# Functions of ./build, .ci/run, run-program, wrong/try, library/ and web/. $top is the top of the repository, $name a crate, $crates
 # its closure, $program the program that is built of it, and $room an empty folder.
 
 # The crates that $name stands on, itself included, by the lines `NAME: DEP DEP ..` of crates.txt.
@@ -26,22 +27,28 @@ copy() {
             *) cp -r "$part" "$room/repo/crates/$crate" || return 1 ;;
             esac
         done
-        grep "^$crate[ :]" "$top/crates.txt" >>"$room/repo/crates.txt" || return 1
+        grep "^${crate}[ :]" "$top/crates.txt" >>"$room/repo/crates.txt" || return 1
     done
 }
 
-# Whether the program is built, and no source is newer than it.
+# Whether the program is built, and none of its sources and of these files is newer.
 is_built() {
-    [ -x "$program" ] && [ -z "$(newer)" ]
+    [ -e "$program" ] && [ -z "$(newer "$@")" ]
 }
 
 newer() {
-    set -- "$top/crates.txt"
+    set -- "$@" "$top/crates.txt"
     [ ! -e "$top/out/toolchain" ] || set -- "$@" "$top/out/toolchain"
     for crate in $crates; do
         set -- "$@" "$top/crates/$crate"/*
     done
     find "$@" \( -name out -o -name must-fail \) -prune -o -newer "$program" -print
+}
+
+# Prints a line on standard error if the toolchain isn't that of TOOLCHAIN. Its word is who says so.
+compare_toolchain() {
+    pinned=$(cat "$top/TOOLCHAIN") && present=$(rt version 2>/dev/null) || return 0
+    [ "$present" = "$pinned" ] || echo "$1: TOOLCHAIN names $pinned, but this is $present" >&2
 }
 
 # Writes the toolchain's version to out/toolchain, unless it is there already. So this file is older than what this toolchain built.
