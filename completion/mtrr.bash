@@ -1,3 +1,4 @@
+# shellcheck shell=bash disable=SC2207
 # Completion of mtrr, mtrr-import, mtrr-map, mtrr-explain and mtrr-judge for bash.
 
 _mtrr() {
