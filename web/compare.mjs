@@ -1,6 +1,6 @@
 // Runs the module beside the programs, and tells where a text or a status differs. `call(tool, words, ..inputs)` answers a status
 // and bytes, and `guess(bytes)` the format of a log, wherever the module runs.
-//     node compare.mjs          in Node, if its engine has 64-bit memory and tables
+//     node compare.mjs          in Node. Its status is 77 if the engine has no 64-bit memory and tables
 import { mkdtempSync, readFileSync, rmSync, writeFileSync } from 'node:fs';
 import { tmpdir } from 'node:os';
 import { FORMATS, OTHERS, QUESTIONS, dumps, explainProgram, logs, program, randomDump, scriptInNode, top } from './programs.mjs';
@@ -90,6 +90,7 @@ if (process.argv[1] === import.meta.filename || process.argv[1]?.endsWith('/comp
     const wasm = `${top}web/out/mtrr.wasm`;
     if (!WebAssembly.validate(readFileSync(wasm))) {
         console.log(`Node ${process.version} has no 64-bit memory and tables: the module was not run in it`);
+        process.exit(77);
     } else {
         const { call, guess } = await scriptInNode(wasm);
         process.exit(await compare({ call, guess }, 2000) ? 1 : 0);
