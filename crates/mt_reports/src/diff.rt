@@ -1,137 +1,131 @@
-use crate::fields::{ValueText, append_value, value_text};
-use crate::given::Given;
-use crate::names::register_name;
+use crate::NoReport;
+use crate::fields::{add_fields, write_fields};
+use crate::object::Json;
 use crate::page::kind_name;
-use crate::texts::{RegisterText, append_register, first_address, last_address, register_text};
+use crate::registers::{add_register, add_value, write_register, write_value};
+use crate::report::{Answer, Form, Named, Report, answered};
+use crate::text::Text;
 use mt_explain::{Difference, Span, TypeChange, differences, type_changes};
-use mt_regs::{PageType, Reason, RegFile};
-use serde::Serialize;
+use mt_regs::{Fault, PageType, Reason, RegFile};
 use std::alloc::{AllocError, Global};
 
-/// A register whose values differ. A file that hasn't the register has no value.
-#[derive(Drop, Serialize)]
-pub struct DifferenceText {
-    pub number: String,
-    pub name: String,
-    pub old: Option<ValueText>,
-    pub new: Option<ValueText>,
+const MOST_CPUS: u32 = 16;
+
+// What differs between the files of two processors.
+#[derive(Drop)]
+struct CpuDiff<'a> {
+    numbers: (u32, u32),
+    old: &'a RegFile,
+    new: &'a RegFile,
+    registers: Vec<Difference>,
+    // `None` if a register is at fault by itself, so that the types of pages weren't compared.
+    types: Option<Vec<Span<TypeChange>>>,
 }
 
-/// Pages whose types differ. A file that hasn't the pages gives them no type.
-#[derive(Drop, Serialize)]
-pub struct ChangeText {
-    pub first: String,
-    pub last: String,
-    pub pages: u64,
-    pub old: Option<&'static str>,
-    pub new: Option<&'static str>,
+// What differs between two dumps, or between two processors of one.
+#[derive(Drop)]
+struct Diff<'a> {
+    old: Named<'a>,
+    new: Named<'a>,
+    // the two processors of one dump
+    numbers: Option<(u32, u32)>,
+    differ: bool,
+    cpus: Vec<CpuDiff<'a>>,
 }
 
-/// The first fault of a file.
-#[derive(Drop, Serialize)]
-pub struct FirstFaultText {
-    pub register: RegisterText,
-    pub problem: &'static str,
-}
-
-/// What differs between two files of one processor each.
-#[derive(Drop, Serialize)]
-pub struct CpuDiff {
-    pub old_cpu: u32,
-    pub new_cpu: u32,
-    pub old_fault: Option<FirstFaultText>,
-    pub new_fault: Option<FirstFaultText>,
-    pub registers: Vec<DifferenceText>,
-    /// `None` if a register is at fault by itself, so that the types of pages weren't compared.
-    pub types: Option<Vec<ChangeText>>,
-}
-
-/// One of the two sides of a comparison.
-#[derive(Drop, Serialize)]
-pub struct SideText<'a> {
-    pub file: &'a str,
-    pub width: u8,
-    pub width_assumed: bool,
-    pub processors: u32,
-}
-
-/// What differs between two dumps, or between two processors of one.
-#[derive(Drop, Serialize)]
-pub struct DiffReport<'a> {
-    pub old: SideText<'a>,
-    pub new: SideText<'a>,
-    pub differ: bool,
-    pub cpus: Vec<CpuDiff>,
-}
-
-// ---- facts
-
-fn value_in(
-    alloc: Global,
-    f: &RegFile,
-    msr: u32,
-    value: Option<u64>,
-) -> Result<Option<ValueText>, AllocError> {
-    match value {
-        Some(value) => Ok(Some(value_text(alloc, f, msr, value)?)),
-        None => Ok(None),
-    }
-}
-
-fn difference_text(
+fn types_of(
     alloc: Global,
     old: &RegFile,
     new: &RegFile,
-    d: &Difference,
-) -> Result<DifferenceText, AllocError> {
-    Ok(DifferenceText {
-        number: format!(in alloc; "{:03x}", d.msr)?,
-        name: register_name(alloc, d.msr)?,
-        old: value_in(alloc, old, d.msr, d.old)?,
-        new: value_in(alloc, new, d.msr, d.new)?,
-    })
-}
-
-fn register_texts(
-    alloc: Global,
-    old: &RegFile,
-    new: &RegFile,
-) -> Result<Vec<DifferenceText>, AllocError> {
-    let mut texts = Vec::new(alloc);
-    for d in differences(alloc, old, new)?.as_slice() {
-        texts.push(difference_text(alloc, old, new, d)?)?;
-    }
-    Ok(texts)
-}
-
-fn name_of(kind: Option<PageType>) -> Option<&'static str> {
-    Some(kind_name(kind?))
-}
-
-fn change_text(alloc: Global, run: &Span<TypeChange>) -> Result<ChangeText, AllocError> {
-    let end = run.first.saturating_add(run.count);
-    Ok(ChangeText {
-        first: first_address(alloc, run.first)?,
-        last: last_address(alloc, end)?,
-        pages: run.count,
-        old: name_of(run.mark.old),
-        new: name_of(run.mark.new),
-    })
-}
-
-fn change_texts(
-    alloc: Global,
-    old: &RegFile,
-    new: &RegFile,
-) -> Result<Option<Vec<ChangeText>>, AllocError> {
+) -> Result<Option<Vec<Span<TypeChange>>>, AllocError> {
     let (None, None) = (old.register_fault(), new.register_fault()) else {
         return Ok(None);
     };
-    let mut texts = Vec::new(alloc);
-    for run in type_changes(alloc, old, new)?.as_slice() {
-        texts.push(change_text(alloc, run)?)?;
+    Ok(Some(type_changes(alloc, old, new)?))
+}
+
+// Files of one width whose registers are equal give equal types, whatever faults they have.
+fn cpu_diff<'a>(
+    alloc: Global,
+    numbers: (u32, u32),
+    old: &'a RegFile,
+    new: &'a RegFile,
+) -> Result<CpuDiff<'a>, AllocError> {
+    let registers = differences(alloc, old, new)?;
+    let types = if registers.is_empty() && old.maxphy == new.maxphy {
+        Some(Vec::new(alloc))
+    } else {
+        types_of(alloc, old, new)?
+    };
+    Ok(CpuDiff {
+        numbers,
+        old,
+        new,
+        registers,
+        types,
+    })
+}
+
+impl CpuDiff<'_> {
+    fn is_same(&self) -> bool {
+        match &self.types {
+            Some(runs) => self.registers.is_empty() && runs.is_empty(),
+            None => false,
+        }
     }
-    Ok(Some(texts))
+}
+
+impl Diff<'_> {
+    fn new<'a>(
+        old: Named<'a>,
+        new: Named<'a>,
+        numbers: Option<(u32, u32)>,
+        cpus: Vec<CpuDiff<'a>>,
+    ) -> Diff<'a> {
+        let mut differ = old.width() != new.width() || old.files().len() != new.files().len();
+        for cpu in &cpus {
+            differ = differ || !cpu.registers.is_empty();
+        }
+        Diff {
+            old,
+            new,
+            numbers,
+            differ,
+            cpus,
+        }
+    }
+}
+
+/// What differs between two dumps, processor by processor. Something is found if they differ.
+pub fn diff_answer<'a>(
+    alloc: Global,
+    old: Named<'a>,
+    new: Named<'a>,
+    form: Form,
+) -> Result<Answer, NoReport> {
+    let mut cpus = Vec::new(alloc);
+    for k in 0..MOST_CPUS {
+        if let (Some(f), Some(g)) = (old.given.dump.file_at(k), new.given.dump.file_at(k)) {
+            cpus.push(cpu_diff(alloc, (k, k), f, g)?)?;
+        }
+    }
+    answered(alloc, &Diff::new(old, new, None, cpus), form)
+}
+
+/// What differs between two processors of a dump. Something is found if they differ. Fails with `NoProcessor` if it hasn't both.
+pub fn diff_of_cpus_answer(
+    alloc: Global,
+    dump: Named<'_>,
+    numbers: (u32, u32),
+    form: Form,
+) -> Result<Answer, NoReport> {
+    let files = &dump.given.dump;
+    let (Some(old), Some(new)) = (files.file_at(numbers.0), files.file_at(numbers.1)) else {
+        return Err(NoReport::NoProcessor(dump.files().len().saturating_sub(1)));
+    };
+    let mut cpus = Vec::new(alloc);
+    cpus.push(cpu_diff(alloc, numbers, old, new)?)?;
+    answered(alloc, &Diff::new(dump, dump, Some(numbers), cpus), form)
 }
 
 fn problem(reason: Reason) -> &'static str {
@@ -143,215 +137,225 @@ fn problem(reason: Reason) -> &'static str {
     }
 }
 
-fn first_fault_text(alloc: Global, f: &RegFile) -> Result<Option<FirstFaultText>, AllocError> {
-    match f.first_fault() {
-        Some(fault) => Ok(Some(FirstFaultText {
-            register: register_text(alloc, fault.msr, f.get(fault.msr).unwrap_or(0))?,
-            problem: problem(fault.reason),
-        })),
-        None => Ok(None),
-    }
+// A register at fault exists, so it has a value.
+fn value_at(f: &RegFile, fault: &Fault) -> u64 {
+    f.get(fault.msr).unwrap_or(0)
 }
 
-// Files of one width whose registers are equal give equal types, whatever faults they have.
-fn cpu_diff(
-    alloc: Global,
-    cpus: (u32, u32),
-    old: &RegFile,
-    new: &RegFile,
-) -> Result<CpuDiff, AllocError> {
-    let registers = register_texts(alloc, old, new)?;
-    let types = if registers.is_empty() && old.maxphy == new.maxphy {
-        Some(Vec::new(alloc))
-    } else {
-        change_texts(alloc, old, new)?
-    };
-    Ok(CpuDiff {
-        old_cpu: cpus.0,
-        new_cpu: cpus.1,
-        old_fault: first_fault_text(alloc, old)?,
-        new_fault: first_fault_text(alloc, new)?,
-        registers,
-        types,
-    })
-}
-
-fn side<'a>(file: &'a str, given: &Given) -> SideText<'a> {
-    SideText {
-        file,
-        width: given.dump.first_file().maxphy,
-        width_assumed: !given.has_width,
-        processors: given.dump.files.len() as u32,
-    }
-}
-
-fn report_of<'a>(old: SideText<'a>, new: SideText<'a>, cpus: Vec<CpuDiff>) -> DiffReport<'a> {
-    let mut differ = old.width != new.width || old.processors != new.processors;
-    for cpu in &cpus {
-        differ = differ || !cpu.registers.is_empty();
-    }
-    DiffReport {
-        old,
-        new,
-        differ,
-        cpus,
-    }
-}
-
-/// What differs between two dumps, processor by processor.
-pub fn files_report<'a>(
-    alloc: Global,
-    files: (&'a str, &'a str),
-    old: &Given,
-    new: &Given,
-) -> Result<DiffReport<'a>, AllocError> {
-    let mut cpus = Vec::new(alloc);
-    for (k, f) in old.dump.files.as_slice().iter().enumerate() {
-        if let Some(g) = new.dump.file_at(k as u32) {
-            cpus.push(cpu_diff(alloc, (k as u32, k as u32), f, g)?)?;
-        }
-    }
-    Ok(report_of(side(files.0, old), side(files.1, new), cpus))
-}
-
-/// What differs between two processors of a dump, if it has both.
-pub fn cpus_report<'a>(
-    alloc: Global,
-    file: &'a str,
-    given: &Given,
-    cpus: (u32, u32),
-) -> Result<Option<DiffReport<'a>>, AllocError> {
-    let Some(old) = given.dump.file_at(cpus.0) else {
-        return Ok(None);
-    };
-    let Some(new) = given.dump.file_at(cpus.1) else {
-        return Ok(None);
-    };
-    let mut list = Vec::new(alloc);
-    list.push(cpu_diff(alloc, cpus, old, new)?)?;
-    Ok(Some(report_of(side(file, given), side(file, given), list)))
-}
-
-// ---- texts
-
-fn append_side(text: &mut String, sign: &str, value: &Option<ValueText>) -> Result<(), AllocError> {
-    write!(text, "  {sign} ")?;
+fn add_side(text: &mut Text, sign: &str, f: &RegFile, msr: u32, value: Option<u64>) {
+    text.add(sign);
     match value {
-        Some(value) => append_value(text, value),
-        None => text.push_str("the file hasn't it\n"),
+        Some(value) => add_fields(text, f, msr, value),
+        None => text.add("the file hasn't it\n"),
     }
 }
 
-fn append_difference(text: &mut String, d: &DifferenceText) -> Result<(), AllocError> {
-    write!(text, "  {} {}\n", d.number, d.name)?;
-    append_side(text, "-", &d.old)?;
-    append_side(text, "+", &d.new)
+fn add_difference(text: &mut Text, cpu: &CpuDiff<'_>, d: &Difference) {
+    text.add("  ");
+    add_register(text, d.msr);
+    text.add("\n");
+    add_side(text, "  - ", cpu.old, d.msr, d.old);
+    add_side(text, "  + ", cpu.new, d.msr, d.new);
 }
 
-fn shown(kind: Option<&'static str>) -> &'static str {
-    kind.unwrap_or("no such page")
-}
-
-fn append_change(text: &mut String, run: &ChangeText) -> Result<(), AllocError> {
-    write!(
-        text,
-        "  {}-{} ({} pages): {} -> {}\n",
-        run.first,
-        run.last,
-        run.pages,
-        shown(run.old),
-        shown(run.new)
-    )
-}
-
-fn append_fault(
-    text: &mut String,
-    sign: &str,
-    fault: &Option<FirstFaultText>,
-) -> Result<(), AllocError> {
-    if let Some(fault) = fault {
-        write!(text, "  {sign} isn't accepted: ")?;
-        append_register(text, &fault.register)?;
-        write!(text, ": {}\n", fault.problem)?;
+fn shown(kind: Option<PageType>) -> &'static str {
+    match kind {
+        Some(kind) => kind_name(kind),
+        None => "no such page",
     }
-    Ok(())
 }
 
-fn append_types(text: &mut String, types: &Option<Vec<ChangeText>>) -> Result<(), AllocError> {
+fn add_change(text: &mut Text, run: &Span<TypeChange>) {
+    text.add("  ");
+    text.add_run(run.first, run.count);
+    text.add_all(&[": ", shown(run.mark.old), " -> ", shown(run.mark.new), "\n"]);
+}
+
+fn add_fault(text: &mut Text, sign: &str, f: &RegFile) {
+    if let Some(fault) = f.first_fault() {
+        text.add_all(&[sign, "isn't accepted: "]);
+        add_value(text, fault.msr, value_at(f, &fault));
+        text.add_all(&[": ", problem(fault.reason), "\n"]);
+    }
+}
+
+fn add_types(text: &mut Text, types: &Option<Vec<Span<TypeChange>>>) {
     match types {
         Some(runs) => {
             for run in runs {
-                append_change(text, run)?;
+                add_change(text, run);
             }
-            Ok(())
         }
-        None => text.push_str(
+        None => text.add(
             "  the types of pages aren't compared, since registers are at fault by themselves\n",
         ),
     }
 }
 
-fn is_same(cpu: &CpuDiff) -> bool {
-    match &cpu.types {
-        Some(runs) => cpu.registers.is_empty() && runs.is_empty(),
-        None => false,
-    }
-}
-
-fn append_cpu(text: &mut String, cpu: &CpuDiff, many: bool) -> Result<(), AllocError> {
-    if is_same(cpu) {
-        return Ok(());
+fn add_cpu(text: &mut Text, cpu: &CpuDiff<'_>, many: bool) {
+    if cpu.is_same() {
+        return;
     }
     if many {
-        write!(text, "  cpu {}\n", cpu.old_cpu)?;
+        text.add_decimal("  cpu ", cpu.numbers.0 as u64);
+        text.add("\n");
     }
-    append_fault(text, "-", &cpu.old_fault)?;
-    append_fault(text, "+", &cpu.new_fault)?;
+    add_fault(text, "  - ", cpu.old);
+    add_fault(text, "  + ", cpu.new);
     for d in &cpu.registers {
-        append_difference(text, d)?;
+        add_difference(text, cpu, d);
     }
-    append_types(text, &cpu.types)
+    add_types(text, &cpu.types);
 }
 
-fn append_width(text: &mut String, sign: &str, side: &SideText<'_>) -> Result<(), AllocError> {
-    let assumed = if side.width_assumed { ", assumed" } else { "" };
-    write!(text, "  {sign} {} address bits{assumed}\n", side.width)
+fn add_width(text: &mut Text, sign: &str, dump: &Named<'_>) {
+    let assumed = if dump.given.has_width {
+        ""
+    } else {
+        ", assumed"
+    };
+    text.add_decimal(sign, dump.width() as u64);
+    text.add_all(&[" address bits", assumed, "\n"]);
 }
 
-fn append_sides(text: &mut String, report: &DiffReport<'_>) -> Result<(), AllocError> {
-    if report.old.width != report.new.width {
-        append_width(text, "-", &report.old)?;
-        append_width(text, "+", &report.new)?;
-    }
-    if report.old.processors != report.new.processors {
-        write!(
-            text,
-            "  - processors: {}\n  + processors: {}\n",
-            report.old.processors, report.new.processors
-        )?;
-    }
-    Ok(())
+fn add_processors(text: &mut Text, sign: &str, dump: &Named<'_>) {
+    text.add(sign);
+    text.add_decimal("processors: ", dump.files().len() as u64);
+    text.add("\n");
 }
 
-/// What a person reads of a report on two dumps, or on these processors of one.
-pub fn diff_text(
-    alloc: Global,
-    report: &DiffReport<'_>,
-    cpus: Option<(u32, u32)>,
-) -> Result<String, AllocError> {
-    let mut text = String::new(alloc);
-    match cpus {
-        Some((old, new)) => write!(text, "{}: cpu {old} and cpu {new}", report.old.file)?,
-        None => write!(text, "{} and {}", report.old.file, report.new.file)?,
+fn write_side(json: &mut Json, name: &str, f: &RegFile, msr: u32, value: Option<u64>) {
+    match value {
+        Some(value) => {
+            json.key(name);
+            write_fields(json, f, msr, value);
+        }
+        None => json.null(name),
     }
-    if !report.differ {
-        text.push_str(": no difference\n")?;
-        return Ok(text);
+}
+
+fn write_difference(json: &mut Json, cpu: &CpuDiff<'_>, d: &Difference) {
+    json.begin_object();
+    write_register(json, d.msr);
+    write_side(json, "old", cpu.old, d.msr, d.old);
+    write_side(json, "new", cpu.new, d.msr, d.new);
+    json.end_object();
+}
+
+fn write_kind(json: &mut Json, name: &str, kind: Option<PageType>) {
+    match kind {
+        Some(kind) => json.string(name, kind_name(kind)),
+        None => json.null(name),
     }
-    text.push_str(" differ\n")?;
-    append_sides(&mut text, report)?;
-    for cpu in &report.cpus {
-        append_cpu(&mut text, cpu, report.cpus.len() > 1)?;
+}
+
+fn write_change(json: &mut Json, run: &Span<TypeChange>) {
+    json.begin_object();
+    json.run(run.first, run.count);
+    write_kind(json, "old", run.mark.old);
+    write_kind(json, "new", run.mark.new);
+    json.end_object();
+}
+
+fn write_types(json: &mut Json, types: &Option<Vec<Span<TypeChange>>>) {
+    match types {
+        Some(runs) => {
+            json.begin_list("types");
+            for run in runs {
+                write_change(json, run);
+            }
+            json.end_list();
+        }
+        None => json.null("types"),
     }
-    Ok(text)
+}
+
+fn write_fault(json: &mut Json, name: &str, f: &RegFile) {
+    match f.first_fault() {
+        Some(fault) => {
+            json.key(name);
+            json.begin_object();
+            json.key("register");
+            write_value(json, fault.msr, value_at(f, &fault));
+            json.string("problem", problem(fault.reason));
+            json.end_object();
+        }
+        None => json.null(name),
+    }
+}
+
+fn write_cpu(json: &mut Json, cpu: &CpuDiff<'_>) {
+    json.begin_object();
+    json.number("old_cpu", cpu.numbers.0 as u64);
+    json.number("new_cpu", cpu.numbers.1 as u64);
+    write_fault(json, "old_fault", cpu.old);
+    write_fault(json, "new_fault", cpu.new);
+    json.begin_list("registers");
+    for d in &cpu.registers {
+        write_difference(json, cpu, d);
+    }
+    json.end_list();
+    write_types(json, &cpu.types);
+    json.end_object();
+}
+
+fn write_dump(json: &mut Json, name: &str, dump: &Named<'_>) {
+    json.key(name);
+    json.begin_object();
+    json.string("file", dump.file);
+    dump.write_width(json);
+    json.number("processors", dump.files().len() as u64);
+    json.end_object();
+}
+
+fn add_names(text: &mut Text, diff: &Diff<'_>) {
+    text.add(diff.old.file);
+    match diff.numbers {
+        Some((old, new)) => {
+            text.add_decimal(": cpu ", old as u64);
+            text.add_decimal(" and cpu ", new as u64);
+        }
+        None => text.add_all(&[" and ", diff.new.file]),
+    }
+}
+
+fn add_dumps(text: &mut Text, old: &Named<'_>, new: &Named<'_>) {
+    if old.width() != new.width() {
+        add_width(text, "  - ", old);
+        add_width(text, "  + ", new);
+    }
+    if old.files().len() != new.files().len() {
+        add_processors(text, "  - ", old);
+        add_processors(text, "  + ", new);
+    }
+}
+
+impl Report for Diff<'_> {
+    fn is_found(&self) -> bool {
+        self.differ
+    }
+
+    fn add(&self, text: &mut Text) {
+        add_names(text, self);
+        if !self.differ {
+            text.add(": no difference\n");
+            return;
+        }
+        text.add(" differ\n");
+        add_dumps(text, &self.old, &self.new);
+        for cpu in &self.cpus {
+            add_cpu(text, cpu, self.cpus.len() > 1);
+        }
+    }
+
+    fn write(&self, json: &mut Json) {
+        write_dump(json, "old", &self.old);
+        write_dump(json, "new", &self.new);
+        json.flag("differ", self.differ);
+        json.begin_list("cpus");
+        for cpu in &self.cpus {
+            write_cpu(json, cpu);
+        }
+        json.end_list();
+    }
 }

@@ -1,3 +1,6 @@
+use mt_dump::{DumpFault, GivenDump, read_given};
+use mt_output::dump_reason_text;
+use mt_text::LONGEST_INPUT;
 use std::alloc::AllocError;
 use thiserror::Error;
 
@@ -6,8 +9,6 @@ use thiserror::Error;
 pub enum NoReport {
     #[error(transparent)]
     Memory(#[from(alloc)] AllocError),
-    #[error(transparent)]
-    Json(#[from] serde_json::Error),
     #[error("more than 16 MB")]
     TooLong,
     #[error("{line}:{column}: {reason}")]
@@ -24,4 +25,23 @@ pub enum NoReport {
     Disabled,
     #[error("it has processors 0 to {0}")]
     NoProcessor(usize),
+}
+
+fn no_dump(fault: DumpFault) -> NoReport {
+    NoReport::NoDump {
+        line: fault.place.line,
+        column: fault.place.column,
+        reason: str::from_utf8(dump_reason_text(fault.reason)).unwrap_or("no dump"),
+    }
+}
+
+/// The dump that a text shows, of at most `LONGEST_INPUT` bytes. Fails with `TooLong` or with `NoDump`.
+pub fn given_by(text: &[u8]) -> Result<GivenDump, NoReport> {
+    if text.len() > LONGEST_INPUT {
+        return Err(NoReport::TooLong);
+    }
+    match read_given(text) {
+        Ok(given) => Ok(given),
+        Err(fault) => Err(no_dump(fault)),
+    }
 }

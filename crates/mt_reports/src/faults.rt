@@ -1,53 +1,63 @@
-ghost use Rattle.std.specs.Prelude.{◌≡◌, None};
-ghost use Rattle.mt_regs.specs.Faults.{register_fault};
-
-use crate::given::Given;
-use crate::texts::{
-    PairText, RegisterText, append_pairs, append_register, first_address, last_address, pair_texts,
-    register_text,
-};
+use crate::NoReport;
+use crate::object::Json;
+use crate::registers::{add_pairs, add_value, write_pairs, write_value};
+use crate::report::{Answer, Form, Named, Report, answered};
+use crate::text::Text;
 use mt_explain::{Clash, Defect, FieldFault, clashes, field_faults};
+use mt_kinds::DEF_TYPE_FE;
 use mt_regs::{PAT, RegFile};
-use serde::Serialize;
 use std::alloc::{AllocError, Global};
 
-/// A field at fault.
-#[derive(Drop, Serialize)]
-pub struct FaultText {
-    pub register: RegisterText,
-    pub bits: String,
-    pub found: String,
-    pub problem: &'static str,
-    pub lawful: String,
+// What is wrong with the registers of a processor. Pages with no defined type are looked for if there is no fault.
+#[derive(Drop)]
+struct CpuFaults<'a> {
+    file: &'a RegFile,
+    faults: Vec<FieldFault>,
+    undefined: Vec<Clash>,
 }
 
-/// Pages that have no defined type, and the pairs that meet there.
-#[derive(Drop, Serialize)]
-pub struct UndefinedText {
-    pub first: String,
-    pub last: String,
-    pub pages: u64,
-    pub pairs: Vec<PairText>,
+impl CpuFaults<'_> {
+    fn is_found(&self) -> bool {
+        !self.faults.is_empty() || !self.undefined.is_empty()
+    }
 }
 
-/// What is wrong with the registers of a processor.
-#[derive(Drop, Serialize)]
-pub struct CpuFaults {
-    pub cpu: u32,
-    pub faults: Vec<FaultText>,
-    /// Whether pages with no defined type were looked for.
-    pub looked: bool,
-    pub undefined: Vec<UndefinedText>,
+// What is wrong with a dump.
+#[derive(Drop)]
+struct Faults<'a> {
+    dump: Named<'a>,
+    cpus: Vec<CpuFaults<'a>>,
+    found: bool,
 }
 
-/// What is wrong with a dump.
-#[derive(Drop, Serialize)]
-pub struct FaultsReport<'a> {
-    pub file: &'a str,
-    pub width: u8,
-    pub width_assumed: bool,
-    pub found: bool,
-    pub cpus: Vec<CpuFaults>,
+fn cpu_faults<'a>(alloc: Global, file: &'a RegFile) -> Result<CpuFaults<'a>, AllocError> {
+    let faults = field_faults(alloc, file)?;
+    let undefined = if faults.is_empty() {
+        clashes(alloc, file)?
+    } else {
+        Vec::new(alloc)
+    };
+    Ok(CpuFaults {
+        file,
+        faults,
+        undefined,
+    })
+}
+
+fn faults_of<'a>(alloc: Global, dump: Named<'a>) -> Result<Faults<'a>, AllocError> {
+    let mut cpus = Vec::new(alloc);
+    let mut found = false;
+    for file in dump.files() {
+        let cpu = cpu_faults(alloc, file)?;
+        found = found || cpu.is_found();
+        cpus.push(cpu)?;
+    }
+    Ok(Faults { dump, cpus, found })
+}
+
+/// Every fault of a dump. Something is found if there is a fault or a page with no defined type.
+pub fn faults_answer(alloc: Global, dump: Named<'_>, form: Form) -> Result<Answer, NoReport> {
+    answered(alloc, &faults_of(alloc, dump)?, form)
 }
 
 fn problem(defect: Defect) -> &'static str {
@@ -68,164 +78,126 @@ fn lawful_type(f: &RegFile, msr: u32) -> &'static str {
     }
 }
 
-fn lawful_text(alloc: Global, f: &RegFile, fault: &FieldFault) -> Result<String, AllocError> {
+fn add_lawful(text: &mut Text, f: &RegFile, fault: &FieldFault) {
     match fault.defect {
         Defect::ReservedBits if fault.low == f.maxphy && fault.msr != PAT => {
-            format!(in alloc; "0 where addresses have {} bits", f.maxphy)
+            text.add_decimal("0 where addresses have ", f.maxphy as u64);
+            text.add(" bits");
         }
-        Defect::ReservedBits if fault.low == 10 => {
-            String::from_str(alloc, "0, since 0fe says that there are no fixed ranges")
+        Defect::ReservedBits if fault.low == DEF_TYPE_FE => {
+            text.add("0, since 0fe says that there are no fixed ranges")
         }
-        Defect::ReservedBits => String::from_str(alloc, "0"),
-        Defect::NoType => String::from_str(alloc, lawful_type(f, fault.msr)),
-        Defect::Gap => String::from_str(
-            alloc,
-            "ones from the highest of these bits down to some bit, and zeros below",
-        ),
+        Defect::ReservedBits => text.add("0"),
+        Defect::NoType => text.add(lawful_type(f, fault.msr)),
+        Defect::Gap => {
+            text.add("ones from the highest of these bits down to some bit, and zeros below")
+        }
     }
 }
 
-fn fault_text(alloc: Global, f: &RegFile, fault: &FieldFault) -> Result<FaultText, AllocError> {
-    let last = (fault.low as u32 + fault.count as u32).saturating_sub(1);
-    Ok(FaultText {
-        register: register_text(alloc, fault.msr, fault.value)?,
-        bits: format!(in alloc; "{last}:{}", fault.low)?,
-        found: format!(in alloc; "{:x}", fault.found)?,
-        problem: problem(fault.defect),
-        lawful: lawful_text(alloc, f, fault)?,
-    })
+fn add_fault(text: &mut Text, f: &RegFile, fault: &FieldFault) {
+    text.add("  ");
+    add_value(text, fault.msr, fault.value);
+    text.add(": bits ");
+    text.add_bits(fault.low, fault.count);
+    text.add(" are ");
+    text.add_hex(fault.found, 1);
+    text.add_all(&[": ", problem(fault.defect), "\n    lawful: "]);
+    add_lawful(text, f, fault);
+    text.add("\n");
 }
 
-fn undefined_text(alloc: Global, f: &RegFile, clash: &Clash) -> Result<UndefinedText, AllocError> {
-    let end = clash.first.saturating_add(clash.count);
-    Ok(UndefinedText {
-        first: first_address(alloc, clash.first)?,
-        last: last_address(alloc, end)?,
-        pages: clash.count,
-        pairs: pair_texts(alloc, f, clash.mark.as_slice())?,
-    })
+fn add_undefined(text: &mut Text, f: &RegFile, run: &Clash) {
+    text.add("  ");
+    text.add_run(run.first, run.count);
+    text.add(": no type is defined where these pairs meet\n");
+    add_pairs(text, f, run.mark.as_slice());
 }
 
-fn undefined_texts(alloc: Global, f: &RegFile) -> Result<Vec<UndefinedText>, AllocError>
-    requires { register_fault f.now ≡ None }
-{
-    let mut texts = Vec::new(alloc);
-    for clash in clashes(alloc, f)?.as_slice() {
-        texts.push(undefined_text(alloc, f, clash)?)?;
-    }
-    Ok(texts)
-}
-
-fn fault_texts(
-    alloc: Global,
-    f: &RegFile,
-    faults: &[FieldFault],
-) -> Result<Vec<FaultText>, AllocError> {
-    let mut texts = Vec::new(alloc);
-    for fault in faults {
-        texts.push(fault_text(alloc, f, fault)?)?;
-    }
-    Ok(texts)
-}
-
-// Where pairs meet is looked at once no register is at fault by itself.
-fn cpu_faults(alloc: Global, cpu: u32, f: &RegFile) -> Result<CpuFaults, AllocError> {
-    let faults = field_faults(alloc, f)?;
-    let looked = faults.is_empty();
-    let undefined = if looked {
-        undefined_texts(alloc, f)?
-    } else {
-        Vec::new(alloc)
-    };
-    Ok(CpuFaults {
-        cpu,
-        looked,
-        faults: fault_texts(alloc, f, faults.as_slice())?,
-        undefined,
-    })
-}
-
-/// All that is wrong with a dump.
-pub fn faults_report<'a>(
-    alloc: Global,
-    file: &'a str,
-    given: &Given,
-) -> Result<FaultsReport<'a>, AllocError> {
-    let mut cpus = Vec::new(alloc);
-    let mut found = false;
-    for (k, f) in given.dump.files.as_slice().iter().enumerate() {
-        let cpu = cpu_faults(alloc, k as u32, f)?;
-        found = found || !cpu.faults.is_empty() || !cpu.undefined.is_empty();
-        cpus.push(cpu)?;
-    }
-    Ok(FaultsReport {
-        file,
-        width: given.dump.first_file().maxphy,
-        width_assumed: !given.has_width,
-        found,
-        cpus,
-    })
-}
-
-fn append_fault(text: &mut String, fault: &FaultText) -> Result<(), AllocError> {
-    text.push_str("  ")?;
-    append_register(text, &fault.register)?;
-    write!(
-        text,
-        ": bits {} are {}: {}\n",
-        fault.bits, fault.found, fault.problem
-    )?;
-    write!(text, "    lawful: {}\n", fault.lawful)
-}
-
-fn append_undefined(text: &mut String, run: &UndefinedText) -> Result<(), AllocError> {
-    write!(
-        text,
-        "  {}-{} ({} pages): no type is defined where these pairs meet\n",
-        run.first, run.last, run.pages
-    )?;
-    append_pairs(text, run.pairs.as_slice())
-}
-
-fn append_cpu(text: &mut String, cpu: &CpuFaults, many: bool) -> Result<(), AllocError> {
-    if many && (!cpu.faults.is_empty() || !cpu.undefined.is_empty()) {
-        write!(text, "  cpu {}\n", cpu.cpu)?;
-    }
+fn add_cpu(text: &mut Text, cpu: &CpuFaults<'_>) {
     for fault in &cpu.faults {
-        append_fault(text, fault)?;
+        add_fault(text, cpu.file, fault);
     }
     for run in &cpu.undefined {
-        append_undefined(text, run)?;
+        add_undefined(text, cpu.file, run);
     }
-    if !cpu.looked {
-        text.push_str(
+    if !cpu.faults.is_empty() {
+        text.add(
             "  pages with no defined type aren't looked for: what a register at fault does to pages isn't defined\n",
-        )?;
+        );
     }
-    Ok(())
 }
 
-fn append_end(text: &mut String, report: &FaultsReport<'_>) -> Result<(), AllocError> {
-    if !report.found {
-        return text.push_str(": no fault\n");
-    }
-    text.push_str(": faults\n")?;
-    if report.width_assumed {
-        write!(
-            text,
-            "  the dump has no line maxphyaddr, so {} address bits were assumed\n",
-            report.width
-        )?;
-    }
-    Ok(())
+fn write_fault(json: &mut Json, f: &RegFile, fault: &FieldFault) {
+    json.begin_object();
+    json.key("register");
+    write_value(json, fault.msr, fault.value);
+    json.bits(fault.low, fault.count);
+    json.hex("found", fault.found, 1);
+    json.string("problem", problem(fault.defect));
+    add_lawful(&mut json.part, f, fault);
+    json.text("lawful");
+    json.end_object();
 }
 
-/// What a person reads of a report.
-pub fn faults_text(alloc: Global, report: &FaultsReport<'_>) -> Result<String, AllocError> {
-    let mut text = String::from_str(alloc, report.file)?;
-    append_end(&mut text, report)?;
-    for cpu in &report.cpus {
-        append_cpu(&mut text, cpu, report.cpus.len() > 1)?;
+fn write_undefined(json: &mut Json, f: &RegFile, run: &Clash) {
+    json.begin_object();
+    json.run(run.first, run.count);
+    write_pairs(json, f, run.mark.as_slice());
+    json.end_object();
+}
+
+fn write_cpu(json: &mut Json, k: u64, cpu: &CpuFaults<'_>) {
+    json.begin_object();
+    json.number("cpu", k);
+    json.begin_list("faults");
+    for fault in &cpu.faults {
+        write_fault(json, cpu.file, fault);
     }
-    Ok(text)
+    json.end_list();
+    json.flag("looked", cpu.faults.is_empty());
+    json.begin_list("undefined");
+    for run in &cpu.undefined {
+        write_undefined(json, cpu.file, run);
+    }
+    json.end_list();
+    json.end_object();
+}
+
+impl Report for Faults<'_> {
+    fn is_found(&self) -> bool {
+        self.found
+    }
+
+    fn add(&self, text: &mut Text) {
+        text.add(self.dump.file);
+        if !self.found {
+            text.add(": no fault\n");
+            return;
+        }
+        text.add(": faults\n");
+        if !self.dump.given.has_width {
+            let width = self.dump.width() as u64;
+            text.add_decimal("  the dump has no line maxphyaddr, so ", width);
+            text.add(" address bits were assumed\n");
+        }
+        for (k, cpu) in self.cpus.iter().enumerate() {
+            if self.cpus.len() > 1 && cpu.is_found() {
+                text.add_decimal("  cpu ", k as u64);
+                text.add("\n");
+            }
+            add_cpu(text, cpu);
+        }
+    }
+
+    fn write(&self, json: &mut Json) {
+        json.string("file", self.dump.file);
+        self.dump.write_width(json);
+        json.flag("found", self.found);
+        json.begin_list("cpus");
+        for (k, cpu) in self.cpus.iter().enumerate() {
+            write_cpu(json, k as u64, cpu);
+        }
+        json.end_list();
+    }
 }

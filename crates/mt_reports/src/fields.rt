@@ -1,40 +1,94 @@
 ghost use Rattle.std.specs.Prelude.{◌<◌};
 
-use crate::texts::first_address;
-use mt_kinds::{MemType, PAGE_BYTES, PatType, byte_at, is_bit_set};
+use crate::object::Json;
+use crate::text::Text;
+use mt_kinds::{
+    DEF_TYPE_E, DEF_TYPE_FE, MTRRCAP_FIX, MTRRCAP_WC, MemType, PAGE_BYTES, PHYSMASK_V, PatType,
+    byte_at, is_bit_set,
+};
 use mt_ranges::block_of;
 use mt_regs::{CAPABILITIES, DEFAULT_TYPE, PAT, RegFile};
-use serde::Serialize;
-use std::alloc::{AllocError, Global};
 
 // The numbers of the pairs' registers are below.
 const PAST_PAIRS: u32 = 0x250;
 
-/// A field of a register.
-#[derive(Drop, Serialize)]
-pub struct FieldText {
-    pub name: &'static str,
-    pub value: String,
+// What a field of a register holds.
+#[derive(Clone, Copy)]
+enum Held {
+    Flag(bool),
+    Number(u64),
+    // The number of a page.
+    Page(u64),
+    // The log of a range's bytes. A pair whose mask has a gap has no range.
+    Size(Option<u8>),
+    Type(u8),
+    // Eight types, that of the lowest byte first.
+    Types(u64),
+    // The same by the types of the PAT.
+    Entries(u64),
 }
 
-/// The value of a register, and its fields.
-#[derive(Drop, Serialize)]
-pub struct ValueText {
-    pub value: String,
-    pub fields: Vec<FieldText>,
+// A field of a register.
+#[derive(Clone, Copy)]
+struct Field {
+    name: &'static str,
+    held: Held,
 }
 
-fn field(alloc: Global, name: &'static str, value: &str) -> Result<FieldText, AllocError> {
-    Ok(FieldText {
-        name,
-        value: String::from_str(alloc, value)?,
-    })
+fn named(name: &'static str, held: Held) -> Option<Field> {
+    Some(Field { name, held })
 }
 
-fn flag(alloc: Global, name: &'static str, value: u64, bit: u8) -> Result<FieldText, AllocError>
+fn flag(name: &'static str, value: u64, bit: u8) -> Option<Field>
     requires { bit < 64 }
 {
-    field(alloc, name, if is_bit_set(value, bit) { "1" } else { "0" })
+    named(name, Held::Flag(is_bit_set(value, bit)))
+}
+
+fn low_type(value: u64) -> Option<Field> {
+    named("type", Held::Type((value & 0xff) as u8))
+}
+
+// The size of a valid pair's range.
+fn size_in(f: &RegFile, mask: u64) -> Held {
+    f.is_register_file(); // a fact for the proof
+    match block_of(0, mask, f.maxphy) {
+        Some(block) => Held::Size(Some(block.log + 12)),
+        None => Held::Size(None),
+    }
+}
+
+fn mask_fields(f: &RegFile, value: u64) -> [Option<Field>; 3] {
+    let valid = flag("valid", value, PHYSMASK_V);
+    if is_bit_set(value, PHYSMASK_V) {
+        [valid, named("size", size_in(f, value)), None]
+    } else {
+        [valid, None, None]
+    }
+}
+
+// The fields of a register's value, of which there are at most three.
+fn fields_of(f: &RegFile, msr: u32, value: u64) -> [Option<Field>; 3] {
+    match msr {
+        CAPABILITIES => [
+            named("VCNT", Held::Number(value & 0xff)),
+            flag("FIX", value, MTRRCAP_FIX),
+            flag("WC", value, MTRRCAP_WC),
+        ],
+        PAT => [named("entries", Held::Entries(value)), None, None],
+        DEFAULT_TYPE => [
+            low_type(value),
+            flag("E", value, DEF_TYPE_E),
+            flag("FE", value, DEF_TYPE_FE),
+        ],
+        _ if msr >= PAST_PAIRS => [named("types", Held::Types(value)), None, None],
+        _ if msr % 2 == 0 => [
+            named("base", Held::Page(value / PAGE_BYTES)),
+            low_type(value),
+            None,
+        ],
+        _ => mask_fields(f, value),
+    }
 }
 
 fn type_name(byte: u8) -> &'static str {
@@ -51,134 +105,64 @@ fn entry_name(byte: u8) -> &'static str {
     }
 }
 
-/// A power of two of bytes in the largest unit of which it is a multiple.
-pub fn size_text(alloc: Global, log: u8) -> Result<String, AllocError> {
-    let unit = match log / 10 {
-        0 => "B",
-        1 => "KB",
-        2 => "MB",
-        3 => "GB",
-        4 => "TB",
-        _ => "PB",
-    };
-    format!(in alloc; "{} {unit}", 1u64 << (log % 10))
-}
-
-// The eight names of a value's bytes, the lowest first.
-fn names_text(alloc: Global, value: u64, is_pat: bool) -> Result<String, AllocError> {
-    let mut text = String::new(alloc);
+// Adds the eight names of a value's bytes, the lowest first.
+fn add_names(text: &mut Text, value: u64, is_pat: bool) {
     for i in 0..8 {
         let byte = byte_at(value, i);
         if i > 0 {
-            text.push_str(" ")?;
+            text.add(" ");
         }
-        text.push_str(if is_pat {
+        text.add(if is_pat {
             entry_name(byte)
         } else {
             type_name(byte)
-        })?;
-    }
-    Ok(text)
-}
-
-fn base_fields(alloc: Global, value: u64) -> Result<Vec<FieldText>, AllocError> {
-    let mut fields = Vec::new(alloc);
-    fields.push(FieldText {
-        name: "base",
-        value: first_address(alloc, value / PAGE_BYTES)?,
-    })?;
-    fields.push(field(alloc, "type", type_name((value & 0xff) as u8))?)?;
-    Ok(fields)
-}
-
-// The size of a valid pair's range.
-fn size_in(alloc: Global, f: &RegFile, mask: u64) -> Result<String, AllocError> {
-    f.is_register_file(); // a fact for the proof
-    match block_of(0, mask, f.maxphy) {
-        Some(block) => size_text(alloc, block.log + 12),
-        None => String::from_str(alloc, "none, since the mask has a gap"),
+        });
     }
 }
 
-fn mask_fields(alloc: Global, f: &RegFile, value: u64) -> Result<Vec<FieldText>, AllocError> {
-    let mut fields = Vec::new(alloc);
-    fields.push(flag(alloc, "valid", value, 11)?)?;
-    if is_bit_set(value, 11) {
-        fields.push(FieldText {
-            name: "size",
-            value: size_in(alloc, f, value)?,
-        })?;
+fn add_held(text: &mut Text, held: Held) {
+    match held {
+        Held::Flag(is_set) => text.add(if is_set { "1" } else { "0" }),
+        Held::Number(n) => text.add_decimal("", n),
+        Held::Page(page) => text.add_first(page),
+        Held::Size(Some(log)) => text.add_size(log),
+        Held::Size(None) => text.add("none, since the mask has a gap"),
+        Held::Type(byte) => text.add(type_name(byte)),
+        Held::Types(value) => add_names(text, value, false),
+        Held::Entries(value) => add_names(text, value, true),
     }
-    Ok(fields)
-}
-
-fn default_fields(alloc: Global, value: u64) -> Result<Vec<FieldText>, AllocError> {
-    let mut fields = Vec::new(alloc);
-    fields.push(field(alloc, "type", type_name((value & 0xff) as u8))?)?;
-    fields.push(flag(alloc, "E", value, 11)?)?;
-    fields.push(flag(alloc, "FE", value, 10)?)?;
-    Ok(fields)
-}
-
-fn capability_fields(alloc: Global, value: u64) -> Result<Vec<FieldText>, AllocError> {
-    let mut fields = Vec::new(alloc);
-    fields.push(FieldText {
-        name: "VCNT",
-        value: format!(in alloc; "{}", value & 0xff)?,
-    })?;
-    fields.push(flag(alloc, "FIX", value, 8)?)?;
-    fields.push(flag(alloc, "WC", value, 10)?)?;
-    Ok(fields)
-}
-
-fn byte_fields(
-    alloc: Global,
-    name: &'static str,
-    value: u64,
-    is_pat: bool,
-) -> Result<Vec<FieldText>, AllocError> {
-    let mut fields = Vec::new(alloc);
-    fields.push(FieldText {
-        name,
-        value: names_text(alloc, value, is_pat)?,
-    })?;
-    Ok(fields)
-}
-
-fn fields_of(
-    alloc: Global,
-    f: &RegFile,
-    msr: u32,
-    value: u64,
-) -> Result<Vec<FieldText>, AllocError> {
-    match msr {
-        CAPABILITIES => capability_fields(alloc, value),
-        PAT => byte_fields(alloc, "entries", value, true),
-        DEFAULT_TYPE => default_fields(alloc, value),
-        _ if msr >= PAST_PAIRS => byte_fields(alloc, "types", value, false),
-        _ if msr % 2 == 0 => base_fields(alloc, value),
-        _ => mask_fields(alloc, f, value),
-    }
-}
-
-/// What is said of a register's value in a file.
-pub fn value_text(
-    alloc: Global,
-    f: &RegFile,
-    msr: u32,
-    value: u64,
-) -> Result<ValueText, AllocError> {
-    Ok(ValueText {
-        value: format!(in alloc; "{value:016x}")?,
-        fields: fields_of(alloc, f, msr, value)?,
-    })
 }
 
 /// Adds a value and its fields, as the rest of a line.
-pub fn append_value(text: &mut String, value: &ValueText) -> Result<(), AllocError> {
-    text.push_str(value.value.as_str())?;
-    for field in &value.fields {
-        write!(text, ", {} {}", field.name, field.value)?;
+pub fn add_fields(text: &mut Text, f: &RegFile, msr: u32, value: u64) {
+    text.add_hex(value, 16);
+    for found in fields_of(f, msr, value).as_slice() {
+        if let Some(field) = found {
+            text.add_all(&[", ", field.name, " "]);
+            add_held(text, field.held);
+        }
     }
-    text.push_str("\n")
+    text.add("\n");
+}
+
+fn write_field(json: &mut Json, field: &Field) {
+    json.begin_object();
+    json.string("name", field.name);
+    add_held(&mut json.part, field.held);
+    json.text("value");
+    json.end_object();
+}
+
+/// Writes an object of a value and its fields.
+pub fn write_fields(json: &mut Json, f: &RegFile, msr: u32, value: u64) {
+    json.begin_object();
+    json.hex("value", value, 16);
+    json.begin_list("fields");
+    for found in fields_of(f, msr, value).as_slice() {
+        if let Some(field) = found {
+            write_field(json, field);
+        }
+    }
+    json.end_list();
+    json.end_object();
 }

@@ -1,11 +1,11 @@
-ghost use Rattle.std.specs.Prelude.{◌<◌};
-
-use crate::fields::size_text;
-use crate::given::Given;
-use mt_explain::{Rounding, Span, Unfit, least_by_chunk, rounding_of, steps};
+use crate::NoReport;
+use crate::object::Json;
+use crate::registers::add_register;
+use crate::report::{Answer, Form, Named, Report, answered};
+use crate::text::Text;
+use mt_explain::{Unfit, least_by_chunk, rounding_of, steps};
 use mt_ranges::is_valid;
 use mt_regs::RegFile;
-use serde::Serialize;
 use std::alloc::{AllocError, Global};
 
 // The log of the bytes of a page, which is the least chunk too.
@@ -14,147 +14,126 @@ const PAGE_LOG: u8 = 12;
 // The largest granule has 2^28 pages.
 const PAST_GRANULES: u8 = 29;
 
-/// The pairs that a file has, how many of them are valid, and how many are to stay free.
-#[derive(Clone, Copy, Drop, Serialize)]
-pub struct Budget {
-    pub pairs: u64,
-    pub valid: u64,
-    pub spare: u64,
+// The pairs that a file has, how many of them are valid, and how many are to stay free.
+#[derive(Clone, Copy)]
+struct Budget {
+    pairs: u64,
+    valid: u64,
+    spare: u64,
 }
 
-/// What the same types need from one chunk size on, up to the next.
-#[derive(Drop, Serialize)]
-pub struct ChunkText {
-    pub chunk: String,
-    pub size: String,
-    pub needs: u64,
-    /// How many pairs stay free, if there are enough.
-    pub free: Option<u64>,
-    pub command: Option<String>,
+// The command whose option has a size.
+#[derive(Clone, Copy, PartialEq, Eq)]
+enum Way {
+    Tidy,
+    Gran,
 }
 
-/// What the types rounded to granules of one size need and lose.
-#[derive(Drop, Serialize)]
-pub struct GranuleText {
-    pub granule: String,
-    pub size: String,
-    pub needs: u64,
-    pub free: Option<u64>,
-    /// How many pages lose WB, if the file has so many pairs.
-    pub lost: Option<u64>,
-    pub command: Option<String>,
+// What is needed from one chunk size on, or by granules of one size.
+#[derive(Clone, Copy)]
+struct Row {
+    way: Way,
+    // the log of the size's bytes
+    log: u8,
+    needs: u64,
+    // how many pages granules take from WB, if the file has so many pairs
+    lost: Option<u64>,
 }
 
-/// How many pairs the types of processor 0 need.
-#[derive(Drop, Serialize)]
-pub struct FitReport<'a> {
-    pub file: &'a str,
-    pub width: u8,
-    pub width_assumed: bool,
-    pub has: Budget,
-    pub needs: u64,
-    pub fits: bool,
-    pub chunks: Vec<ChunkText>,
-    /// Empty if the types fit as they are.
-    pub granules: Vec<GranuleText>,
+// How many pairs the types of processor 0 need.
+#[derive(Drop)]
+struct Fit<'a> {
+    dump: Named<'a>,
+    has: Budget,
+    // the least number at any chunk size
+    needs: u64,
+    chunks: Vec<Row>,
+    // empty if the types fit as they are
+    granules: Vec<Row>,
 }
 
-// ---- facts
-
-// How many pairs of a file are valid.
-fn valid_pairs(f: &RegFile) -> u64 {
-    let mut count = 0u64;
-    for pair in f.pairs.as_slice() {
-        if is_valid(*pair) {
-            count = count.saturating_add(1);
+impl Budget {
+    fn of(f: &RegFile, spare: u64) -> Budget {
+        let mut valid = 0u64;
+        for pair in f.pairs.as_slice() {
+            if is_valid(*pair) {
+                valid = valid.saturating_add(1);
+            }
+        }
+        Budget {
+            pairs: f.pairs.len() as u64,
+            valid,
+            spare,
         }
     }
-    count
-}
 
-// How many pairs stay free, if so many can be used.
-fn free_after(has: Budget, needs: u64) -> Option<u64> {
-    if needs <= has.pairs.saturating_sub(has.spare) {
-        Some(has.pairs.saturating_sub(needs))
-    } else {
-        None
+    // How many pairs can be used.
+    fn usable(&self) -> u64 {
+        self.pairs.saturating_sub(self.spare)
+    }
+
+    // How many pairs stay free, if so many can be used.
+    fn free_after(&self, needs: u64) -> Option<u64> {
+        if needs <= self.usable() {
+            Some(self.pairs.saturating_sub(needs))
+        } else {
+            None
+        }
     }
 }
 
-fn bytes_text(alloc: Global, log: u8) -> Result<String, AllocError> {
-    format!(in alloc; "{:x}", 1u64 << (log % 64))
+fn refused(alloc: Global, msr: u32) -> Result<NoReport, AllocError> {
+    let mut register = Text::new(alloc);
+    add_register(&mut register, msr);
+    Ok(NoReport::Refused(register.finish()?))
 }
 
-fn chunk_text(alloc: Global, run: &Span<u64>, has: Budget) -> Result<ChunkText, AllocError> {
-    let log = (run.first % 64) as u8 + PAGE_LOG;
-    let chunk = bytes_text(alloc, log)?;
-    let free = free_after(has, run.mark);
-    let command = match free {
-        Some(_) => Some(format!(in alloc; "mtrr tidy spare={} chunk={chunk}", has.spare)?),
-        None => None,
-    };
-    Ok(ChunkText {
-        size: size_text(alloc, log)?,
-        chunk,
-        needs: run.mark,
-        free,
-        command,
-    })
+fn no_fit(alloc: Global, why: Unfit) -> NoReport {
+    match why {
+        Unfit::Disabled => NoReport::Disabled,
+        Unfit::Refused(fault) => match refused(alloc, fault.msr) {
+            Ok(refused) => refused,
+            Err(error) => NoReport::Memory(error),
+        },
+    }
 }
 
-fn chunk_texts(alloc: Global, least: &[u64], has: Budget) -> Result<Vec<ChunkText>, AllocError> {
-    let mut texts = Vec::new(alloc);
+// A row for each size from which on the least number is another.
+fn chunks_of(alloc: Global, least: &[u64]) -> Result<Vec<Row>, AllocError> {
+    let mut rows = Vec::new(alloc);
     for run in steps(alloc, least)?.as_slice() {
-        texts.push(chunk_text(alloc, run, has)?)?;
+        rows.push(Row {
+            way: Way::Tidy,
+            log: (run.first % 64) as u8 + PAGE_LOG,
+            needs: run.mark,
+            lost: None,
+        })?;
     }
-    Ok(texts)
+    Ok(rows)
 }
 
-fn granule_text(alloc: Global, g: u8, r: Rounding, has: Budget) -> Result<GranuleText, AllocError>
-    requires { g < 29 }
-{
-    let log = g + PAGE_LOG;
-    let granule = bytes_text(alloc, log)?;
-    let free = free_after(has, r.pairs);
-    let command = match free {
-        Some(_) => Some(format!(in alloc;
-            "mtrr gran {granule} spare={} chunk=10000000000000",
-            has.spare
-        )?),
-        None => None,
-    };
-    Ok(GranuleText {
-        size: size_text(alloc, log)?,
-        granule,
-        needs: r.pairs,
-        free,
-        lost: r.lost,
-        command,
-    })
-}
-
-// Each size at which the number of pairs that granules need changes.
-fn granule_texts(
-    alloc: Global,
-    f: &RegFile,
-    has: Budget,
-) -> Result<Result<Vec<GranuleText>, Unfit>, AllocError> {
-    let mut texts = Vec::new(alloc);
+// A row for each size at which the number changes that granules need.
+fn granules_of(alloc: Global, f: &RegFile) -> Result<Vec<Row>, NoReport> {
+    let mut rows = Vec::new(alloc);
     let mut last = None;
     for g in 1..PAST_GRANULES {
         let now = match rounding_of(f, g) {
             Ok(now) => now,
-            Err(why) => return Ok(Err(why)),
+            Err(why) => return Err(no_fit(alloc, why)),
         };
         if last != Some(now.pairs) {
-            texts.push(granule_text(alloc, g, now, has)?)?;
+            rows.push(Row {
+                way: Way::Gran,
+                log: g + PAGE_LOG,
+                needs: now.pairs,
+                lost: now.lost,
+            })?;
         }
         last = Some(now.pairs);
     }
-    Ok(Ok(texts))
+    Ok(rows)
 }
 
-// The least of the numbers.
 fn least_of(numbers: &[u64]) -> u64 {
     let mut least = u64::MAX;
     for number in numbers {
@@ -163,98 +142,156 @@ fn least_of(numbers: &[u64]) -> u64 {
     least
 }
 
-/// How many pairs the types of processor 0 need, where `spare` pairs are to stay free.
-pub fn fit_report<'a>(
-    alloc: Global,
-    file: &'a str,
-    given: &Given,
-    spare: u64,
-) -> Result<Result<FitReport<'a>, Unfit>, AllocError> {
-    let f = given.dump.first_file();
-    let has = Budget {
-        pairs: f.pairs.len() as u64,
-        valid: valid_pairs(f),
-        spare,
-    };
+fn fit_of<'a>(alloc: Global, dump: Named<'a>, spare: u64) -> Result<Fit<'a>, NoReport> {
+    let f = dump.given.dump.first_file();
     let numbers = match least_by_chunk(f) {
         Ok(numbers) => numbers,
-        Err(why) => return Ok(Err(why)),
+        Err(why) => return Err(no_fit(alloc, why)),
     };
+    let has = Budget::of(f, spare);
     let needs = least_of(numbers.as_slice());
-    let fits = free_after(has, needs).is_some();
-    let granules = if fits {
-        Vec::new(alloc)
-    } else {
-        match granule_texts(alloc, f, has)? {
-            Ok(granules) => granules,
-            Err(why) => return Ok(Err(why)),
-        }
+    let granules = match has.free_after(needs) {
+        Some(_) => Vec::new(alloc),
+        None => granules_of(alloc, f)?,
     };
-    Ok(Ok(FitReport {
-        file,
-        width: f.maxphy,
-        width_assumed: !given.has_width,
+    Ok(Fit {
+        dump,
         has,
         needs,
-        fits,
-        chunks: chunk_texts(alloc, numbers.as_slice(), has)?,
+        chunks: chunks_of(alloc, numbers.as_slice())?,
         granules,
-    }))
+    })
 }
 
-// ---- texts
+/// How many pairs the types of processor 0 need, where `spare` pairs are to stay free. Something is found if there are too few.
+/// Fails with `Refused` or with `Disabled`.
+pub fn fit_answer(
+    alloc: Global,
+    dump: Named<'_>,
+    spare: u64,
+    form: Form,
+) -> Result<Answer, NoReport> {
+    answered(alloc, &fit_of(alloc, dump, spare)?, form)
+}
 
-fn append_need(
-    text: &mut String,
-    needs: u64,
-    free: Option<u64>,
-    has: Budget,
-) -> Result<(), AllocError> {
-    match free {
-        Some(free) => write!(text, "{needs} needed, {free} free"),
-        None => write!(
-            text,
-            "{needs} needed, {} too many",
-            needs.saturating_sub(has.pairs.saturating_sub(has.spare))
-        ),
+impl Row {
+    fn bytes(&self) -> u64 {
+        1 << (self.log % 64)
+    }
+
+    // Adds the command of `mtrr` that finds the registers.
+    fn add_command(&self, text: &mut Text, spare: u64) {
+        match self.way {
+            Way::Tidy => {
+                text.add_decimal("mtrr tidy spare=", spare);
+                text.add(" chunk=");
+                text.add_hex(self.bytes(), 1);
+            }
+            Way::Gran => {
+                text.add("mtrr gran ");
+                text.add_hex(self.bytes(), 1);
+                text.add_decimal(" spare=", spare);
+                text.add(" chunk=10000000000000");
+            }
+        }
+    }
+
+    fn add(&self, text: &mut Text, has: Budget) {
+        text.add(match self.way {
+            Way::Tidy => "  chunk ",
+            Way::Gran => "  granules of ",
+        });
+        text.add_size(self.log);
+        text.add_decimal(": ", self.needs);
+        match has.free_after(self.needs) {
+            Some(free) => {
+                text.add_decimal(" needed, ", free);
+                text.add(" free");
+            }
+            None => {
+                text.add_decimal(" needed, ", self.needs.saturating_sub(has.usable()));
+                text.add(" too many");
+            }
+        }
+        if let Some(lost) = self.lost {
+            text.add_decimal(", ", lost);
+            text.add(" pages lose WB");
+        }
+        if has.free_after(self.needs).is_some() {
+            text.add(": ");
+            self.add_command(text, has.spare);
+        }
+        text.add("\n");
+    }
+
+    fn write(&self, json: &mut Json, has: Budget) {
+        let free = has.free_after(self.needs);
+        json.begin_object();
+        json.hex(
+            match self.way {
+                Way::Tidy => "chunk",
+                Way::Gran => "granule",
+            },
+            self.bytes(),
+            1,
+        );
+        json.part.add_size(self.log);
+        json.text("size");
+        json.number("needs", self.needs);
+        json.optional_number("free", free);
+        if self.way == Way::Gran {
+            json.optional_number("lost", self.lost);
+        }
+        if free.is_some() {
+            self.add_command(&mut json.part, has.spare);
+            json.text("command");
+        } else {
+            json.null("command");
+        }
+        json.end_object();
     }
 }
 
-fn append_command(text: &mut String, command: &Option<String>) -> Result<(), AllocError> {
-    if let Some(command) = command {
-        write!(text, ": {command}")?;
+fn write_rows(json: &mut Json, name: &str, rows: &[Row], has: Budget) {
+    json.begin_list(name);
+    for row in rows {
+        row.write(json, has);
     }
-    text.push_str("\n")
+    json.end_list();
 }
 
-fn append_chunk(text: &mut String, c: &ChunkText, has: Budget) -> Result<(), AllocError> {
-    write!(text, "  chunk {}: ", c.size)?;
-    append_need(text, c.needs, c.free, has)?;
-    append_command(text, &c.command)
-}
+impl Report for Fit<'_> {
+    fn is_found(&self) -> bool {
+        self.has.free_after(self.needs).is_none()
+    }
 
-fn append_granule(text: &mut String, g: &GranuleText, has: Budget) -> Result<(), AllocError> {
-    write!(text, "  granules of {}: ", g.size)?;
-    append_need(text, g.needs, g.free, has)?;
-    if let Some(lost) = g.lost {
-        write!(text, ", {lost} pages lose WB")?;
+    fn add(&self, text: &mut Text) {
+        text.add(self.dump.file);
+        text.add_decimal(": pairs: ", self.has.pairs);
+        text.add_decimal(", valid: ", self.has.valid);
+        text.add_decimal(", needed: ", self.needs);
+        text.add_decimal(", to stay free: ", self.has.spare);
+        text.add("\n");
+        for row in &self.chunks {
+            row.add(text, self.has);
+        }
+        for row in &self.granules {
+            row.add(text, self.has);
+        }
     }
-    append_command(text, &g.command)
-}
 
-/// What a person reads of a report.
-pub fn fit_text(alloc: Global, report: &FitReport<'_>) -> Result<String, AllocError> {
-    let mut text = String::new(alloc);
-    write!(
-        text,
-        "{}: pairs: {}, valid: {}, needed: {}, to stay free: {}\n",
-        report.file, report.has.pairs, report.has.valid, report.needs, report.has.spare
-    )?;
-    for c in &report.chunks {
-        append_chunk(&mut text, c, report.has)?;
+    fn write(&self, json: &mut Json) {
+        json.string("file", self.dump.file);
+        self.dump.write_width(json);
+        json.key("has");
+        json.begin_object();
+        json.number("pairs", self.has.pairs);
+        json.number("valid", self.has.valid);
+        json.number("spare", self.has.spare);
+        json.end_object();
+        json.number("needs", self.needs);
+        json.flag("fits", !self.is_found());
+        write_rows(json, "chunks", self.chunks.as_slice(), self.has);
+        write_rows(json, "granules", self.granules.as_slice(), self.has);
     }
-    for g in &report.granules {
-        append_granule(&mut text, g, report.has)?;
-    }
-    Ok(text)
 }

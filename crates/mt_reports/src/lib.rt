@@ -2,19 +2,20 @@
 //! and how many pairs the types need.
 #![tactic(auto)]
 
-mod answer;
 mod diff;
 mod error;
 mod faults;
 mod fields;
 mod fit;
-mod given;
-mod names;
+mod object;
 mod page;
-mod texts;
+mod registers;
+mod report;
+mod text;
 
-pub use answer::{
-    Answer, Form, diff_answer, diff_of_cpus_answer, faults_answer, fit_answer, page_answer,
-};
-pub use error::NoReport;
-pub use given::{Given, given_of};
+pub use diff::{diff_answer, diff_of_cpus_answer};
+pub use error::{NoReport, given_by};
+pub use faults::faults_answer;
+pub use fit::fit_answer;
+pub use page::page_answer;
+pub use report::{Answer, Form, Named};

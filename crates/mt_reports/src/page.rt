@@ -1,50 +1,12 @@
-use crate::given::Given;
-use crate::texts::{
-    PairText, RegisterText, append_pairs, append_register, pair_texts, register_text,
-};
+use crate::NoReport;
+use crate::object::Json;
+use crate::registers::{add_pairs, add_value, write_pairs, write_value};
+use crate::report::{Answer, Form, Named, Report, answered};
+use crate::text::Text;
 use mt_explain::{Decision, Rule, decide, effective_types};
 use mt_kinds::{PAGE_BYTES, Pat};
-use mt_regs::{DEFAULT_TYPE, PAT, PageType, RegFile};
-use serde::Serialize;
-use std::alloc::{AllocError, Global};
-
-/// The type in effect where a mapping chooses an entry of the PAT.
-#[derive(Drop, Serialize)]
-pub struct EffectiveText {
-    pub pat: &'static str,
-    pub effective: &'static str,
-}
-
-/// What gives a page its type on a processor.
-#[derive(Drop, Serialize)]
-pub struct CpuPage {
-    pub cpu: u32,
-    #[serde(rename = "type")]
-    pub kind: &'static str,
-    pub rule: &'static str,
-    pub because: &'static str,
-    /// Whether a register has a fault by itself. What such a register does to pages isn't defined.
-    pub at_fault: bool,
-    pub registers: Vec<RegisterText>,
-    /// The bits of the fixed-range register that has the page.
-    pub bits: Option<String>,
-    pub pairs: Vec<PairText>,
-    pub effective: Vec<EffectiveText>,
-}
-
-/// What gives the page of an address its type.
-#[derive(Drop, Serialize)]
-pub struct PageReport<'a> {
-    pub file: &'a str,
-    pub address: String,
-    pub width: u8,
-    pub width_assumed: bool,
-    /// Whether a processor gives the page no defined type, or has a register at fault by itself.
-    pub found: bool,
-    /// Whether a processor gives the page no defined type.
-    pub undefined: bool,
-    pub cpus: Vec<CpuPage>,
-}
+use mt_regs::{DEFAULT_TYPE, PageType, RegFile};
+use std::alloc::Global;
 
 /// The name of a page's type.
 pub fn kind_name(kind: PageType) -> &'static str {
@@ -88,163 +50,180 @@ fn fixed_number(place: u8) -> u32 {
     }
 }
 
-// The register other than pairs that decides, if there is one.
-fn number_of(rule: Rule) -> Option<u32> {
+// The register other than pairs that decides, if there is one, and its value.
+fn decider(f: &RegFile, rule: Rule) -> Option<(u32, u64)> {
+    let msr = match rule {
+        Rule::Off => DEFAULT_TYPE,
+        Rule::FixedByte { place, .. } => fixed_number(place),
+        Rule::NoPair => DEFAULT_TYPE,
+        _ => return None,
+    };
+    Some((msr, f.get(msr)?))
+}
+
+// The lowest of the eight bits of a fixed-range register that decide.
+fn low_bit(rule: Rule) -> Option<u8> {
     match rule {
-        Rule::Off => Some(DEFAULT_TYPE),
-        Rule::FixedByte { place, .. } => Some(fixed_number(place)),
-        Rule::NoPair => Some(DEFAULT_TYPE),
-        Rule::OneType => None,
-        Rule::UncachedWins => None,
-        Rule::ThroughOverBack => None,
-        Rule::NotDefined => None,
+        Rule::FixedByte { byte, .. } => Some(8 * (byte % 8)),
+        _ => None,
     }
 }
 
-// The registers other than pairs that decide.
-fn register_texts(alloc: Global, f: &RegFile, rule: Rule) -> Result<Vec<RegisterText>, AllocError> {
-    let mut texts = Vec::new(alloc);
-    if let Some(msr) = number_of(rule) {
-        if let Some(value) = f.get(msr) {
-            texts.push(register_text(alloc, msr, value)?)?;
-        }
-    }
-    Ok(texts)
-}
-
-// The bits of a fixed-range register that decide.
-fn bits_text(alloc: Global, rule: Rule) -> Result<Option<String>, AllocError> {
-    match rule {
-        Rule::FixedByte { byte, .. } => {
-            let low = 8 * (byte % 8);
-            Ok(Some(format!(in alloc; "{}:{low}", low + 7)?))
-        }
-        _ => Ok(None),
-    }
-}
-
-// The pairs that decide: those that have the page, unless another rule comes first.
-fn deciding_pairs(
-    alloc: Global,
-    f: &RegFile,
-    decision: &Decision,
-) -> Result<Vec<PairText>, AllocError> {
+// The numbers of the pairs that decide: those that have the page, unless another rule comes first.
+fn deciding_pairs(decision: &Decision) -> &[u8] {
     match decision.rule {
-        Rule::Off => Ok(Vec::new(alloc)),
-        Rule::FixedByte { .. } => Ok(Vec::new(alloc)),
-        _ => pair_texts(alloc, f, decision.pairs.as_slice()),
+        Rule::Off | Rule::FixedByte { .. } => &[],
+        _ => decision.pairs.as_slice(),
     }
 }
 
-fn effective_texts(
-    alloc: Global,
-    f: &RegFile,
-    kind: PageType,
-) -> Result<Vec<EffectiveText>, AllocError> {
-    let mut texts = Vec::new(alloc);
+fn add_effective(text: &mut Text, f: &RegFile, kind: PageType) {
+    let PageType::Kind(kind) = kind else {
+        return;
+    };
+    let types = effective_types(kind, f.pat);
+    for index in 0..8 {
+        let entry = Pat(f.pat).entry(index).name();
+        text.add_decimal("    PAT entry ", index as u64);
+        text.add_all(&[", ", entry, ": ", types[index as usize].name(), "\n"]);
+    }
+}
+
+// Adds the line about the register that decides, with its bits if not all of them do.
+fn add_decider(text: &mut Text, f: &RegFile, rule: Rule) {
+    if let Some((msr, value)) = decider(f, rule) {
+        text.add("    ");
+        add_value(text, msr, value);
+        if let Some(low) = low_bit(rule) {
+            text.add(", bits ");
+            text.add_bits(low, 8);
+        }
+        text.add("\n");
+    }
+}
+
+fn add_cpu(text: &mut Text, cpu: u64, f: &RegFile, page: u64) {
+    let decision = decide(f, page);
+    text.add_decimal("  cpu ", cpu);
+    text.add_all(&[": ", kind_name(decision.kind), ", since "]);
+    text.add_all(&[because(decision.rule), "\n"]);
+    if f.register_fault().is_some() {
+        text.add(
+            "    a register has a fault by itself, and what it does to pages isn't defined: see mtrr-explain faults\n",
+        );
+    }
+    add_decider(text, f, decision.rule);
+    add_pairs(text, f, deciding_pairs(&decision));
+    add_effective(text, f, decision.kind);
+}
+
+fn write_effective(json: &mut Json, f: &RegFile, kind: PageType) {
+    json.begin_list("effective");
     if let PageType::Kind(kind) = kind {
         let types = effective_types(kind, f.pat);
         for index in 0..8 {
-            texts.push(EffectiveText {
-                pat: Pat(f.pat).entry(index).name(),
-                effective: types[index as usize].name(),
-            })?;
+            json.begin_object();
+            json.string("pat", Pat(f.pat).entry(index).name());
+            json.string("effective", types[index as usize].name());
+            json.end_object();
         }
     }
-    Ok(texts)
+    json.end_list();
 }
 
-fn cpu_page(alloc: Global, cpu: u32, f: &RegFile, page: u64) -> Result<CpuPage, AllocError> {
+fn write_decider(json: &mut Json, f: &RegFile, rule: Rule) {
+    json.begin_list("registers");
+    if let Some((msr, value)) = decider(f, rule) {
+        write_value(json, msr, value);
+    }
+    json.end_list();
+    match low_bit(rule) {
+        Some(low) => json.bits(low, 8),
+        None => json.null("bits"),
+    }
+}
+
+fn write_cpu(json: &mut Json, cpu: u64, f: &RegFile, page: u64) {
     let decision = decide(f, page);
-    Ok(CpuPage {
-        cpu,
-        kind: kind_name(decision.kind),
-        rule: rule_name(decision.rule),
-        because: because(decision.rule),
-        at_fault: f.register_fault().is_some(),
-        registers: register_texts(alloc, f, decision.rule)?,
-        bits: bits_text(alloc, decision.rule)?,
-        pairs: deciding_pairs(alloc, f, &decision)?,
-        effective: effective_texts(alloc, f, decision.kind)?,
-    })
+    json.begin_object();
+    json.number("cpu", cpu);
+    json.string("type", kind_name(decision.kind));
+    json.string("rule", rule_name(decision.rule));
+    json.string("because", because(decision.rule));
+    json.flag("at_fault", f.register_fault().is_some());
+    write_decider(json, f, decision.rule);
+    write_pairs(json, f, deciding_pairs(&decision));
+    write_effective(json, f, decision.kind);
+    json.end_object();
 }
 
-/// What gives the page of an address its type in each file of a dump.
-pub fn page_report<'a>(
-    alloc: Global,
-    file: &'a str,
-    given: &Given,
+// What gives the page of an address its type.
+#[derive(Drop)]
+struct Page<'a> {
+    dump: Named<'a>,
     address: u64,
-) -> Result<PageReport<'a>, AllocError> {
-    let mut cpus = Vec::new(alloc);
-    let mut undefined = false;
-    let mut found = false;
-    for (k, f) in given.dump.files.as_slice().iter().enumerate() {
-        let cpu = cpu_page(alloc, k as u32, f, address / PAGE_BYTES)?;
-        undefined = undefined || cpu.effective.is_empty();
-        found = found || cpu.effective.is_empty() || cpu.at_fault;
-        cpus.push(cpu)?;
-    }
-    Ok(PageReport {
-        file,
-        address: format!(in alloc; "{address:x}")?,
-        width: given.dump.first_file().maxphy,
-        width_assumed: !given.has_width,
-        found,
-        undefined,
-        cpus,
-    })
+    // whether a processor gives the page no defined type
+    undefined: bool,
+    // whether a register of a processor has a fault by itself: what it does to pages isn't defined
+    at_fault: bool,
 }
 
-fn append_effective(text: &mut String, effective: &[EffectiveText]) -> Result<(), AllocError> {
-    for (index, entry) in effective.iter().enumerate() {
-        write!(
-            text,
-            "    PAT entry {index}, {}: {}\n",
-            entry.pat, entry.effective
-        )?;
+impl Page<'_> {
+    fn new<'a>(dump: Named<'a>, address: u64) -> Page<'a> {
+        let mut undefined = false;
+        let mut at_fault = false;
+        for f in dump.files() {
+            undefined = undefined || f.page_type(address / PAGE_BYTES).is_undefined();
+            at_fault = at_fault || f.register_fault().is_some();
+        }
+        Page {
+            dump,
+            address,
+            undefined,
+            at_fault,
+        }
     }
-    Ok(())
 }
 
-// Adds the line about a register that decides, with its bits if not all of them do.
-fn append_decider(
-    text: &mut String,
-    register: &RegisterText,
-    bits: &Option<String>,
-) -> Result<(), AllocError> {
-    text.push_str("    ")?;
-    append_register(text, register)?;
-    if let Some(bits) = bits {
-        write!(text, ", bits {bits}")?;
+impl Report for Page<'_> {
+    fn is_found(&self) -> bool {
+        self.undefined || self.at_fault
     }
-    text.push_str("\n")
+
+    fn add(&self, text: &mut Text) {
+        text.add_all(&[self.dump.file, ": page of "]);
+        text.add_hex(self.address, 1);
+        text.add("\n");
+        for (k, f) in self.dump.files().iter().enumerate() {
+            add_cpu(text, k as u64, f, self.address / PAGE_BYTES);
+        }
+    }
+
+    fn write(&self, json: &mut Json) {
+        json.string("file", self.dump.file);
+        json.hex("address", self.address, 1);
+        self.dump.write_width(json);
+        json.flag("found", self.is_found());
+        json.flag("undefined", self.undefined);
+        json.begin_list("cpus");
+        for (k, f) in self.dump.files().iter().enumerate() {
+            write_cpu(json, k as u64, f, self.address / PAGE_BYTES);
+        }
+        json.end_list();
+    }
 }
 
-fn append_cpu(text: &mut String, cpu: &CpuPage) -> Result<(), AllocError> {
-    write!(
-        text,
-        "  cpu {}: {}, since {}\n",
-        cpu.cpu, cpu.kind, cpu.because
-    )?;
-    if cpu.at_fault {
-        text.push_str(
-            "    a register has a fault by itself, and what it does to pages isn't defined: see mtrr-explain faults\n",
-        )?;
+/// What gives the page of an address its type. Something is found if it has no defined type, or if a register has a fault by itself.
+/// Fails with `NoPage` beyond the width.
+pub fn page_answer(
+    alloc: Global,
+    dump: Named<'_>,
+    address: u64,
+    form: Form,
+) -> Result<Answer, NoReport> {
+    let f = dump.given.dump.first_file();
+    if address / PAGE_BYTES >= f.pages() {
+        return Err(NoReport::NoPage(f.maxphy));
     }
-    for register in &cpu.registers {
-        append_decider(text, register, &cpu.bits)?;
-    }
-    append_pairs(text, cpu.pairs.as_slice())?;
-    append_effective(text, cpu.effective.as_slice())
-}
-
-/// What a person reads of a report.
-pub fn page_text(alloc: Global, report: &PageReport<'_>) -> Result<String, AllocError> {
-    let mut text = String::new(alloc);
-    write!(text, "{}: page of {}\n", report.file, report.address)?;
-    for cpu in &report.cpus {
-        append_cpu(&mut text, cpu)?;
-    }
-    Ok(text)
+    answered(alloc, &Page::new(dump, address), form)
 }

@@ -1,8 +1,9 @@
 use crate::told::{PageText, no_memory};
 use crate::words::words_in;
+use mt_dump::GivenDump;
 use mt_reports::{
-    Answer, Form, Given, NoReport, diff_answer, diff_of_cpus_answer, faults_answer, fit_answer,
-    given_of, page_answer,
+    Answer, Form, Named, NoReport, diff_answer, diff_of_cpus_answer, faults_answer, fit_answer,
+    given_by, page_answer,
 };
 use mt_text::{decimal, hex64};
 use std::alloc::Global;
@@ -86,8 +87,8 @@ fn question_of(words: &[String]) -> Option<Question<'_>> {
     }
 }
 
-fn given_named<'a>(file: &'a str, bytes: &[u8]) -> Result<Given, Trouble<'a>> {
-    match given_of(bytes) {
+fn given_named<'a>(file: &'a str, bytes: &[u8]) -> Result<GivenDump, Trouble<'a>> {
+    match given_by(bytes) {
         Ok(given) => Ok(given),
         Err(why) => Err(Trouble { file, why }),
     }
@@ -100,15 +101,21 @@ fn named<'a>(file: &'a str, answer: Result<Answer, NoReport>) -> Result<Answer, 
     }
 }
 
+fn dump<'a>(file: &'a str, given: &'a GivenDump) -> Named<'a> {
+    Named { file, given }
+}
+
 fn diff<'a>(
     alloc: Global,
-    files: (&'a str, &'a str),
+    old: &'a str,
+    new: &'a str,
     first: &[u8],
     second: &[u8],
 ) -> Result<Answer, Trouble<'a>> {
-    let old = given_named(files.0, first)?;
-    let new = given_named(files.1, second)?;
-    named(files.0, diff_answer(alloc, files, &old, &new, Form::Json))
+    let first = given_named(old, first)?;
+    let second = given_named(new, second)?;
+    let answer = diff_answer(alloc, dump(old, &first), dump(new, &second), Form::Json);
+    named(old, answer)
 }
 
 // The answer about the first input, or for `Diff` about both.
@@ -119,24 +126,29 @@ fn answer<'a>(
     second: &[u8],
 ) -> Result<Answer, Trouble<'a>> {
     match question {
-        Question::Diff(old, new) => diff(alloc, (old, new), first, second),
+        Question::Diff(old, new) => diff(alloc, old, new, first, second),
         Question::Faults(file) => {
             let given = given_named(file, first)?;
-            named(file, faults_answer(alloc, file, &given, Form::Json))
+            named(file, faults_answer(alloc, dump(file, &given), Form::Json))
         }
         Question::Page(file, address) => {
             let given = given_named(file, first)?;
-            named(file, page_answer(alloc, file, &given, address, Form::Json))
+            let dump = dump(file, &given);
+            named(file, page_answer(alloc, dump, address, Form::Json))
         }
         Question::Fit(file, spare) => {
             let given = given_named(file, first)?;
-            named(file, fit_answer(alloc, file, &given, spare, Form::Json))
+            named(
+                file,
+                fit_answer(alloc, dump(file, &given), spare, Form::Json),
+            )
         }
         Question::DiffOfCpus(file, old, new) => {
             let given = given_named(file, first)?;
+            let dump = dump(file, &given);
             named(
                 file,
-                diff_of_cpus_answer(alloc, file, &given, (old, new), Form::Json),
+                diff_of_cpus_answer(alloc, dump, (old, new), Form::Json),
             )
         }
     }
@@ -155,12 +167,12 @@ fn trouble_told(alloc: Global, trouble: &Trouble<'_>) -> PageText {
 fn told_of(alloc: Global, answer: Result<Answer, Trouble<'_>>) -> PageText {
     match answer {
         Ok(answer) => PageText {
-            text: answer.text.into_bytes(),
+            text: answer.text,
             number: if answer.found { 1 } else { 0 },
         },
         Err(
             Trouble {
-                why: NoReport::Memory(_) | NoReport::Json(_),
+                why: NoReport::Memory(_),
                 ..
             },
         ) => no_memory(alloc),

@@ -1,5 +1,6 @@
 use anyhow::Result;
-use mt_reports::{Given, given_of};
+use mt_dump::GivenDump;
+use mt_reports::given_by;
 use std::fs;
 use std::fs::Files;
 use std::io::{Input, Read};
@@ -14,7 +15,7 @@ fn bytes_of<R: Files + Input + AllocGlobal>(rt: &R, file: &str) -> Result<Vec<u8
 }
 
 /// Reads a dump from a file, or from standard input for `-`.
-pub fn read<R: Files + Input + AllocGlobal>(rt: &R, file: &str) -> Result<Given> {
+pub fn read<R: Files + Input + AllocGlobal>(rt: &R, file: &str) -> Result<GivenDump> {
     let bytes = bytes_of(rt, file)?;
-    Ok(given_of(bytes.as_slice())?)
+    Ok(given_by(bytes.as_slice())?)
 }

@@ -2,8 +2,9 @@ use crate::command::{Question, command, question_of};
 use crate::input::read;
 use anyhow::{Result, bail};
 use clap::ArgMatches;
+use mt_dump::GivenDump;
 use mt_reports::{
-    Answer, Form, Given, diff_answer, diff_of_cpus_answer, faults_answer, fit_answer, page_answer,
+    Answer, Form, Named, diff_answer, diff_of_cpus_answer, faults_answer, fit_answer, page_answer,
 };
 use std::env::{self, Env};
 use std::fs::Files;
@@ -31,7 +32,7 @@ fn worse(a: Verdict, b: Verdict) -> Verdict {
 }
 
 // Reads a dump, and names the file where there is trouble.
-fn read_named<R: Files + Input + AllocGlobal>(rt: &R, file: &str) -> Result<Given> {
+fn read_named<R: Files + Input + AllocGlobal>(rt: &R, file: &str) -> Result<GivenDump> {
     match read(rt, file) {
         Ok(given) => Ok(given),
         Err(error) => bail!("{file}: {error:#}"),
@@ -39,7 +40,7 @@ fn read_named<R: Files + Input + AllocGlobal>(rt: &R, file: &str) -> Result<Give
 }
 
 fn print_answer<R: Print>(rt: &R, answer: &Answer) -> Result<Verdict> {
-    print!(rt; "{}", answer.text)?;
+    rt.write_all(answer.text.as_slice())?;
     Ok(verdict_of(answer.found))
 }
 
@@ -54,7 +55,15 @@ fn tell_diff_of_files<R: Files + Input + Print + AllocGlobal>(
     let (old, new) = (*old, *new);
     let old_given = read_named(rt, old)?;
     let new_given = read_named(rt, new)?;
-    let answer = diff_answer(rt.alloc(), (old, new), &old_given, &new_given, form)?;
+    let old = Named {
+        file: old,
+        given: &old_given,
+    };
+    let new = Named {
+        file: new,
+        given: &new_given,
+    };
+    let answer = diff_answer(rt.alloc(), old, new, form)?;
     print_answer(rt, &answer)
 }
 
@@ -69,7 +78,11 @@ fn tell_diff_of_cpus<R: Files + Input + Print + AllocGlobal>(
     };
     let file = *file;
     let given = read_named(rt, file)?;
-    match diff_of_cpus_answer(rt.alloc(), file, &given, cpus, form) {
+    let dump = Named {
+        file,
+        given: &given,
+    };
+    match diff_of_cpus_answer(rt.alloc(), dump, cpus, form) {
         Ok(answer) => print_answer(rt, &answer),
         Err(error) => bail!("{file}: {error}"),
     }
@@ -83,10 +96,14 @@ fn tell<R: Files + Input + Print + AllocGlobal>(
 ) -> Result<Verdict> {
     let alloc = rt.alloc();
     let given = read(rt, file)?;
+    let dump = Named {
+        file,
+        given: &given,
+    };
     let answer = match question {
-        Question::Page { address } => page_answer(alloc, file, &given, address, form)?,
-        Question::Fit { spare } => fit_answer(alloc, file, &given, spare, form)?,
-        _ => faults_answer(alloc, file, &given, form)?,
+        Question::Page { address } => page_answer(alloc, dump, address, form)?,
+        Question::Fit { spare } => fit_answer(alloc, dump, spare, form)?,
+        _ => faults_answer(alloc, dump, form)?,
     };
     print_answer(rt, &answer)
 }
