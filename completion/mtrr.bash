@@ -63,12 +63,13 @@ _mtrr_map() {
 }
 
 _mtrr_explain() {
-    local word=${COMP_WORDS[COMP_CWORD]}
+    local word=${COMP_WORDS[COMP_CWORD]} command=1
     COMPREPLY=()
-    if [ "$COMP_CWORD" -eq 1 ]; then
-        COMPREPLY=($(compgen -W 'faults page diff fit --help --version' -- "$word"))
+    [[ ${COMP_WORDS[1]} != --json ]] || command=2
+    if [ "$COMP_CWORD" -le "$command" ]; then
+        COMPREPLY=($(compgen -W 'faults page diff fit --json --help --version' -- "$word"))
     elif [[ $word == -* ]]; then
-        case ${COMP_WORDS[1]} in
+        case ${COMP_WORDS[command]} in
         diff) COMPREPLY=($(compgen -W '--cpus --json --help' -- "$word")) ;;
         fit) COMPREPLY=($(compgen -W '--spare --json --help' -- "$word")) ;;
         *) COMPREPLY=($(compgen -W '--json --help' -- "$word")) ;;

@@ -11,6 +11,8 @@ import tempfile
 import termios
 import threading
 
+from row_files import TOP
+
 TIMEOUT = 120
 MASK = (1 << 64) - 1
 WB = b"0fe 508\n200 6\n201 f00000800\n2ff 800\nend\n"
@@ -146,6 +148,34 @@ def failing_runs(programs):
 def output_of(words, data=b""):
     ran = subprocess.run(words, input=data, capture_output=True, timeout=TIMEOUT)
     return ran.returncode, ran.stdout
+
+
+def errors_of(words, output):
+    """The status of a program that writes to this output, and its standard error."""
+    ran = subprocess.run(words, stdin=subprocess.DEVNULL, stdout=output, stderr=subprocess.PIPE, timeout=TIMEOUT, cwd=TOP)
+    return ran.returncode, ran.stderr
+
+
+def errors_unread(words):
+    """The same if nobody reads the output."""
+    ours, theirs = os.pipe()
+    os.close(ours)
+    with open(theirs, "wb") as output:
+        return errors_of(words, output)
+
+
+def explained_runs(program):
+    """Runs of `mtrr-explain` over an output that takes nothing, a name that isn't UTF-8, and a file without an end."""
+    first, said = b"examples/first.dump", b"mtrr-explain: "
+    faults = [program.encode(), b"faults"]
+    yield "mtrr-explain: nobody reads the output", errors_unread([*faults, first, b"no such file"]), (2, b"")
+    yield "mtrr-explain: nobody reads the help", errors_unread([program, "--help"]), (2, b"")
+    with open("/dev/full", "wb") as output:
+        wanted = 2, said + b"standard output: No space left on device (os error 28)\n"
+        yield "mtrr-explain: the output is full", errors_of([*faults, first, b"no such file"], output), wanted
+    ran = subprocess.run([*faults, b"\xff.dump", b"/dev/zero", first], capture_output=True, timeout=TIMEOUT, cwd=TOP)
+    errors = said + b"\xef\xbf\xbd.dump: its name isn't UTF-8\n" + said + b"/dev/zero: more than 16 MB\n"
+    yield "mtrr-explain: two files without an answer", (ran.returncode, ran.stdout, ran.stderr), (2, first + b": no fault\n", errors)
 
 
 def stepped(x):

@@ -1,5 +1,6 @@
 use anyhow::{Result, bail};
 use clap::{Arg, ArgAction, ArgMatches, Command};
+use mt_reports::Form;
 use mt_text::{decimal, hex64};
 use std::alloc::{AllocError, Global};
 
@@ -9,11 +10,19 @@ const GREATEST_CPU: u64 = 15;
 // No file has more pairs.
 const MOST_PAIRS: u64 = 32;
 
+// The kit's line is that of the file TOOLCHAIN.
+const VERSION: &str = "1.0.0\nproved by rattle-kit-13f logic dac8208d650f15bf";
+
+const STATUSES: &str = "Exit status:
+  0  no fault, no difference, and enough pairs
+  1  a fault, a difference, a page with no defined type, or too few pairs
+  2  wrong usage, or a file without an answer: standard error says why";
+
 const DUMPS: &str = "Dumps, as mtrr reads them; - is standard input";
 
 const OLD_AND_NEW: &str = "The old and the new dump, or one with --cpus; - is standard input";
 
-/// What the words of a command line ask for.
+/// What is asked.
 #[derive(Clone, Copy, Debug, PartialEq, Eq)]
 pub enum Question {
     /// Every fault of each file.
@@ -22,93 +31,99 @@ pub enum Question {
     Page { address: u64 },
     /// How many pairs the types of each file need, where so many are to stay free.
     Fit { spare: u64 },
-    /// What differs between two files.
-    DiffFiles,
-    /// What differs between two processors of a file.
-    DiffCpus { old: u32, new: u32 },
+    /// What differs between two files, or between these processors of one.
+    Diff { cpus: Option<(u32, u32)> },
 }
 
-fn files_arg<'a>(alloc: Global, help: &'static str) -> Arg<'a> {
-    Arg::new(alloc, "FILE")
-        .required(true)
-        .num_args(1..)
-        .action(ArgAction::Append)
-        .help(help)
+/// What the words of a command line ask for, but for the files.
+#[derive(Clone, Copy)]
+pub struct Asked {
+    pub question: Question,
+    pub form: Form,
+    /// Whether each word is UTF-8.
+    pub is_text: bool,
 }
 
-fn json_arg<'a>(alloc: Global) -> Arg<'a> {
-    Arg::new(alloc, "json")
-        .long("json")
-        .action(ArgAction::SetTrue)
-        .help("Print one JSON object for each answer")
+fn positional<'a>(alloc: Global, name: &'static str, help: &'static str) -> Arg<'a> {
+    Arg::new(alloc, name).required(true).help(help)
 }
 
-fn faults_command<'a>(alloc: Global) -> Result<Command<'a>, AllocError> {
-    Command::new(alloc, "faults")
-        .about("Print every fault of the registers, and the pages with no defined type")
-        .arg(json_arg(alloc))?
-        .arg(files_arg(alloc, DUMPS))
+fn option<'a>(alloc: Global, name: &'static str, help: &'static str) -> Arg<'a> {
+    Arg::new(alloc, name).long(name).help(help)
 }
 
-fn page_command<'a>(alloc: Global) -> Result<Command<'a>, AllocError> {
-    let address = Arg::new(alloc, "ADDR")
-        .required(true)
-        .action(ArgAction::Set)
-        .help("A physical address, in hexadecimal");
-    Command::new(alloc, "page")
-        .about("Print the types of one page, and the rule and registers that give them")
-        .arg(json_arg(alloc))?
-        .arg(address)?
-        .arg(files_arg(alloc, DUMPS))
+// A command that takes this argument, if there is one, and files.
+fn subcommand<'a>(
+    alloc: Global,
+    name: &'static str,
+    about: &'static str,
+    arg: Option<Arg<'a>>,
+    files: &'static str,
+) -> Result<Command<'a>, AllocError> {
+    let mut command = Command::new(alloc, name).about(about);
+    if let Some(arg) = arg {
+        command = command.arg(arg)?;
+    }
+    command.arg(
+        positional(alloc, "FILE", files)
+            .num_args(1..)
+            .action(ArgAction::Append),
+    )
 }
 
-fn diff_command<'a>(alloc: Global) -> Result<Command<'a>, AllocError> {
-    let cpus = Arg::new(alloc, "cpus")
-        .long("cpus")
+fn subcommands<'a>(alloc: Global) -> Result<Vec<Command<'a>>, AllocError> {
+    let address = positional(alloc, "ADDR", "A physical address, in hexadecimal");
+    let cpus = option(alloc, "cpus", "Compare two processors of one dump")
         .num_args(2)
         .value_name("CPU")
-        .action(ArgAction::Append)
-        .help("Compare two processors of one dump");
-    Command::new(alloc, "diff")
-        .about("Print what differs between two dumps, or between two processors of one")
-        .arg(json_arg(alloc))?
-        .arg(cpus)?
-        .arg(files_arg(alloc, OLD_AND_NEW))
-}
-
-fn fit_command<'a>(alloc: Global) -> Result<Command<'a>, AllocError> {
-    let spare = Arg::new(alloc, "spare")
-        .long("spare")
-        .value_name("N")
-        .action(ArgAction::Set)
-        .help("Leave N pairs free, 0 to 32; by default 0");
-    Command::new(alloc, "fit")
-        .about(
-            "Print how many pairs processor 0's types need, and the mtrr command that finds them",
-        )
-        .arg(json_arg(alloc))?
-        .arg(spare)?
-        .arg(files_arg(alloc, DUMPS))
+        .action(ArgAction::Append);
+    let spare = option(alloc, "spare", "Leave N pairs free, 0 to 32; by default 0").value_name("N");
+    let mut commands = Vec::new(alloc);
+    commands.push(subcommand(
+        alloc,
+        "faults",
+        "Print every fault of the registers, and the pages with no defined type",
+        None,
+        DUMPS,
+    )?)?;
+    commands.push(subcommand(
+        alloc,
+        "page",
+        "Print the types of one page, and the rule and registers that give them",
+        Some(address),
+        DUMPS,
+    )?)?;
+    commands.push(subcommand(
+        alloc,
+        "diff",
+        "Print what differs between two dumps, or between two processors of one",
+        Some(cpus),
+        OLD_AND_NEW,
+    )?)?;
+    commands.push(subcommand(
+        alloc,
+        "fit",
+        "Print how many pairs processor 0's types need, and the mtrr command that finds them",
+        Some(spare),
+        DUMPS,
+    )?)?;
+    Ok(commands)
 }
 
 /// The command line.
 pub fn command<'a>(alloc: Global) -> Result<Command<'a>, AllocError> {
+    let json = option(alloc, "json", "Print one JSON object for each answer")
+        .action(ArgAction::SetTrue)
+        .global(true);
     Command::new(alloc, "mtrr-explain")
         .bin_name("mtrr-explain")?
-        .version("1.0.0")
+        .version(VERSION)
         .about("Explains dumps of the memory type registers of x86 processors")
-        .after_help(
-            "Exit status:
-  0  no fault, no difference, and enough pairs
-  1  a fault, a difference, a page with no defined type, or too few pairs
-  2  wrong usage, or a file without an answer: standard error says why",
-        )
+        .after_help(STATUSES)
         .subcommand_required(true)
         .arg_required_else_help(true)
-        .subcommand(faults_command(alloc)?)?
-        .subcommand(page_command(alloc)?)?
-        .subcommand(diff_command(alloc)?)?
-        .subcommand(fit_command(alloc)?)
+        .arg(json)?
+        .subcommands(subcommands(alloc)?)
 }
 
 fn page_question(matches: &ArgMatches<'_>) -> Result<Question> {
@@ -127,14 +142,12 @@ fn cpu_number(word: &str) -> Result<u32> {
 }
 
 fn diff_question(matches: &ArgMatches<'_>) -> Result<Question> {
-    match matches.get_strs("cpus") {
-        None => Ok(Question::DiffFiles),
-        Some([old, new]) => Ok(Question::DiffCpus {
-            old: cpu_number(*old)?,
-            new: cpu_number(*new)?,
-        }),
+    let cpus = match matches.get_strs("cpus") {
+        None => None,
+        Some([old, new]) => Some((cpu_number(*old)?, cpu_number(*new)?)),
         Some(_) => bail!("--cpus is given twice"),
-    }
+    };
+    Ok(Question::Diff { cpus })
 }
 
 fn fit_question(matches: &ArgMatches<'_>) -> Result<Question> {
@@ -145,12 +158,25 @@ fn fit_question(matches: &ArgMatches<'_>) -> Result<Question> {
     }
 }
 
-/// What a command and its words ask for.
-pub fn question_of(name: &str, matches: &ArgMatches<'_>) -> Result<Question> {
+fn question_of(name: &str, matches: &ArgMatches<'_>) -> Result<Question> {
     match name {
         "faults" => Ok(Question::Faults),
         "diff" => diff_question(matches),
         "fit" => fit_question(matches),
         _ => page_question(matches),
     }
+}
+
+/// What a command and its words ask for.
+pub fn asked_of(name: &str, matches: &ArgMatches<'_>, is_text: bool) -> Result<Asked> {
+    let form = if matches.get_flag("json") {
+        Form::Json
+    } else {
+        Form::Text
+    };
+    Ok(Asked {
+        question: question_of(name, matches)?,
+        form,
+        is_text,
+    })
 }

@@ -1,21 +1,65 @@
-use anyhow::Result;
+use anyhow::{Result, bail};
 use mt_dump::GivenDump;
 use mt_reports::given_by;
-use std::fs;
-use std::fs::Files;
+use mt_text::LONGEST_INPUT;
+use std::alloc::Global;
+use std::env::{Env, FillError};
+use std::fs::{File, Files};
 use std::io::{Input, Read};
 
-fn bytes_of<R: Files + Input + AllocGlobal>(rt: &R, file: &str) -> Result<Vec<u8>> {
-    if file != "-" {
-        return Ok(fs::read(rt, file)?);
+// Linux takes no longer argument.
+const LONGEST_WORD: usize = 0x2_0000;
+
+/// The words of a command line, and whether each is UTF-8. In one that isn't, U+FFFD stands for what isn't.
+#[derive(Drop)]
+pub struct Words {
+    pub words: Vec<String>,
+    pub are_text: bool,
+}
+
+/// The program's name and its arguments.
+pub fn words_of<R: Env + AllocGlobal>(rt: &R) -> Result<Words> {
+    let alloc = rt.alloc();
+    let mut words = Vec::new(alloc);
+    let mut are_text = true;
+    let mut bytes = Vec::new(alloc);
+    bytes.resize(LONGEST_WORD, 0u8)?;
+    for i in 0..usize::MAX {
+        match rt.arg(i, bytes.as_mut_slice()) {
+            Ok(count) => {
+                let word = &bytes[..count];
+                are_text = are_text && str::from_utf8(word).is_ok();
+                words.push(String::from_utf8_lossy(alloc, word)?)?;
+            }
+            Err(FillError::NotPresent) => break,
+            Err(FillError::TooLong) => bail!("an argument is too long"),
+        }
     }
-    let mut bytes = Vec::new(rt.alloc());
-    rt.reader().read_to_end(&mut bytes)?;
+    Ok(Words { words, are_text })
+}
+
+// The bytes of a dump. Of a text that is too long for one, the first bytes that are too many.
+fn bytes_of<S: Read + Drop>(alloc: Global, source: S) -> Result<Vec<u8>> {
+    let mut bytes = Vec::new(alloc);
+    source
+        .take(LONGEST_INPUT as u64 + 1)
+        .read_to_end(&mut bytes)?;
     Ok(bytes)
 }
 
-/// Reads a dump from a file, or from standard input for `-`.
-pub fn read<R: Files + Input + AllocGlobal>(rt: &R, file: &str) -> Result<GivenDump> {
-    let bytes = bytes_of(rt, file)?;
+/// Reads a dump from a file, or from standard input for `-`. If not all words are text, a name with U+FFFD isn't the file's.
+pub fn read<R: Files + Input + AllocGlobal>(
+    rt: &R,
+    file: &str,
+    are_text: bool,
+) -> Result<GivenDump> {
+    if !are_text && file.contains(char::REPLACEMENT_CHARACTER) {
+        bail!("its name isn't UTF-8");
+    }
+    let bytes = if file == "-" {
+        bytes_of(rt.alloc(), rt.reader())?
+    } else {
+        bytes_of(rt.alloc(), File::open(rt, file)?)?
+    };
     Ok(given_by(bytes.as_slice())?)
 }

@@ -1,17 +1,18 @@
-use crate::command::{Question, command, question_of};
-use crate::input::read;
+use crate::command::{Asked, Question, asked_of, command};
+use crate::input::{read, words_of};
 use anyhow::{Result, bail};
 use clap::ArgMatches;
 use mt_dump::GivenDump;
 use mt_reports::{
-    Answer, Form, Named, diff_answer, diff_of_cpus_answer, faults_answer, fit_answer, page_answer,
+    Answer, Named, diff_answer, diff_of_cpus_answer, faults_answer, fit_answer, page_answer,
 };
-use std::env::{self, Env};
+use std::env::Env;
 use std::fs::Files;
-use std::io::Input;
+use std::io;
+use std::io::{ErrorKind, Input};
 use std::process::ExitCode;
 
-/// What an answer comes to. Its number is the exit status.
+/// What the answers come to. Its number is the exit status.
 #[derive(Clone, Copy, Debug, PartialEq, Eq)]
 enum Verdict {
     Nothing = 0,
@@ -19,42 +20,54 @@ enum Verdict {
     Trouble = 2,
 }
 
-fn verdict_of(found: bool) -> Verdict {
-    if found {
-        Verdict::Something
-    } else {
-        Verdict::Nothing
-    }
-}
-
 fn worse(a: Verdict, b: Verdict) -> Verdict {
     if (a as u8) < b as u8 { b } else { a }
 }
 
-// Reads a dump, and names the file where there is trouble.
-fn read_named<R: Files + Input + AllocGlobal>(rt: &R, file: &str) -> Result<GivenDump> {
-    match read(rt, file) {
+// Whether a text was written. If nobody reads standard output any more, nobody wants to know that.
+fn is_written<R: Eprint>(rt: &R, done: io::Result<()>) -> bool {
+    match done {
+        Ok(()) => true,
+        Err(error) => {
+            if error.kind() != ErrorKind::BrokenPipe {
+                let _ = eprintln!(rt; "mtrr-explain: standard output: {error}");
+            }
+            false
+        }
+    }
+}
+
+// Prints an answer. Returns `None` if no more can be printed.
+fn print_answer<R: Print + Eprint>(rt: &R, answer: &Answer) -> Option<Verdict> {
+    if !is_written(rt, rt.write_all(answer.text.as_slice())) {
+        None
+    } else if answer.found {
+        Some(Verdict::Something)
+    } else {
+        Some(Verdict::Nothing)
+    }
+}
+
+// Reads a dump, and names the file if there is trouble.
+fn read_named<R: Files + Input + AllocGlobal>(
+    rt: &R,
+    asked: &Asked,
+    file: &str,
+) -> Result<GivenDump> {
+    match read(rt, file, asked.is_text) {
         Ok(given) => Ok(given),
         Err(error) => bail!("{file}: {error:#}"),
     }
 }
 
-fn print_answer<R: Print>(rt: &R, answer: &Answer) -> Result<Verdict> {
-    rt.write_all(answer.text.as_slice())?;
-    Ok(verdict_of(answer.found))
-}
-
-fn tell_diff_of_files<R: Files + Input + Print + AllocGlobal>(
+fn diff_of_files<R: Files + Input + AllocGlobal>(
     rt: &R,
-    files: &[&str],
-    form: Form,
-) -> Result<Verdict> {
-    let [old, new] = files else {
-        bail!("diff compares two files, or with --cpus two processors of one");
-    };
-    let (old, new) = (*old, *new);
-    let old_given = read_named(rt, old)?;
-    let new_given = read_named(rt, new)?;
+    asked: &Asked,
+    old: &str,
+    new: &str,
+) -> Result<Answer> {
+    let old_given = read_named(rt, asked, old)?;
+    let new_given = read_named(rt, asked, new)?;
     let old = Named {
         file: old,
         given: &old_given,
@@ -63,102 +76,108 @@ fn tell_diff_of_files<R: Files + Input + Print + AllocGlobal>(
         file: new,
         given: &new_given,
     };
-    let answer = diff_answer(rt.alloc(), old, new, form)?;
-    print_answer(rt, &answer)
+    Ok(diff_answer(rt.alloc(), old, new, asked.form)?)
 }
 
-fn tell_diff_of_cpus<R: Files + Input + Print + AllocGlobal>(
+fn diff_of_cpus<R: Files + Input + AllocGlobal>(
     rt: &R,
-    files: &[&str],
+    asked: &Asked,
+    file: &str,
     cpus: (u32, u32),
-    form: Form,
-) -> Result<Verdict> {
-    let [file] = files else {
-        bail!("diff compares two files, or with --cpus two processors of one");
-    };
-    let file = *file;
-    let given = read_named(rt, file)?;
+) -> Result<Answer> {
+    let given = read_named(rt, asked, file)?;
     let dump = Named {
         file,
         given: &given,
     };
-    match diff_of_cpus_answer(rt.alloc(), dump, cpus, form) {
-        Ok(answer) => print_answer(rt, &answer),
+    match diff_of_cpus_answer(rt.alloc(), dump, cpus, asked.form) {
+        Ok(answer) => Ok(answer),
         Err(error) => bail!("{file}: {error}"),
     }
 }
 
-fn tell<R: Files + Input + Print + AllocGlobal>(
+fn diff<R: Files + Input + AllocGlobal>(
     rt: &R,
-    file: &str,
-    question: Question,
-    form: Form,
-) -> Result<Verdict> {
+    asked: &Asked,
+    cpus: Option<(u32, u32)>,
+    files: &[&str],
+) -> Result<Answer> {
+    match (cpus, files) {
+        (None, [old, new]) => diff_of_files(rt, asked, *old, *new),
+        (Some(cpus), [file]) => diff_of_cpus(rt, asked, *file, cpus),
+        _ => bail!("diff compares two files, or with --cpus two processors of one"),
+    }
+}
+
+// The answer about one of the files.
+fn about<R: Files + Input + AllocGlobal>(rt: &R, asked: &Asked, file: &str) -> Result<Answer> {
     let alloc = rt.alloc();
-    let given = read(rt, file)?;
+    let given = read(rt, file, asked.is_text)?;
     let dump = Named {
         file,
         given: &given,
     };
-    let answer = match question {
-        Question::Page { address } => page_answer(alloc, dump, address, form)?,
-        Question::Fit { spare } => fit_answer(alloc, dump, spare, form)?,
-        _ => faults_answer(alloc, dump, form)?,
-    };
-    print_answer(rt, &answer)
+    Ok(match asked.question {
+        Question::Page { address } => page_answer(alloc, dump, address, asked.form)?,
+        Question::Fit { spare } => fit_answer(alloc, dump, spare, asked.form)?,
+        _ => faults_answer(alloc, dump, asked.form)?,
+    })
 }
 
-// Answers for each file. One that can't be read doesn't keep the others from being answered.
+// Answers for each file. One without an answer doesn't keep the others from theirs.
 fn tell_each<R: Files + Input + Print + Eprint + AllocGlobal>(
     rt: &R,
+    asked: &Asked,
     files: &[&str],
-    question: Question,
-    form: Form,
-) -> Result<Verdict> {
+) -> Verdict {
     let mut verdict = Verdict::Nothing;
     for file in files {
-        match tell(rt, *file, question, form) {
-            Ok(found) => verdict = worse(verdict, found),
+        match about(rt, asked, *file) {
+            Ok(answer) => match print_answer(rt, &answer) {
+                Some(found) => verdict = worse(verdict, found),
+                None => return Verdict::Trouble,
+            },
             Err(error) => {
-                eprintln!(rt; "mtrr-explain: {file}: {error:#}")?;
+                let _ = eprintln!(rt; "mtrr-explain: {file}: {error:#}");
                 verdict = Verdict::Trouble;
             }
         }
     }
-    Ok(verdict)
+    verdict
 }
 
-fn tell_all<R: Files + Input + Print + Eprint + AllocGlobal>(
+fn tell<R: Files + Input + Print + Eprint + AllocGlobal>(
     rt: &R,
-    name: &str,
     matches: &ArgMatches<'_>,
+    is_text: bool,
 ) -> Result<Verdict> {
-    let form = if matches.get_flag("json") {
-        Form::Json
-    } else {
-        Form::Text
+    let Some((name, matches)) = matches.subcommand() else {
+        return Ok(Verdict::Trouble);
     };
     let Some(files) = matches.get_strs("FILE") else {
         return Ok(Verdict::Trouble);
     };
-    match question_of(name, matches)? {
-        Question::DiffFiles => tell_diff_of_files(rt, files, form),
-        Question::DiffCpus { old, new } => tell_diff_of_cpus(rt, files, (old, new), form),
-        question => tell_each(rt, files, question, form),
+    let asked = asked_of(name, matches, is_text)?;
+    match asked.question {
+        Question::Diff { cpus } => {
+            let answer = diff(rt, &asked, cpus, files)?;
+            Ok(print_answer(rt, &answer).unwrap_or(Verdict::Trouble))
+        }
+        _ => Ok(tell_each(rt, &asked, files)),
     }
 }
 
-fn answer<R: Env + Files + Input + Print + Eprint + AllocGlobal>(rt: &R) -> Result<u8> {
-    let alloc = rt.alloc();
-    let words: Vec<String> = env::args(rt)?.collect(alloc)?;
-    match command(alloc)?.try_get_matches_from(words.as_slice()) {
-        Ok(matches) => match matches.subcommand() {
-            Some((name, inner)) => Ok(tell_all(rt, name, inner)? as u8),
-            None => Ok(Verdict::Trouble as u8),
-        },
+fn answer<R: Env + Files + Input + Print + Eprint + AllocGlobal>(rt: &R) -> Result<Verdict> {
+    let words = words_of(rt)?;
+    match command(rt.alloc())?.try_get_matches_from(words.words.as_slice()) {
+        Ok(matches) => tell(rt, &matches, words.are_text),
         Err(error) => {
-            error.print(rt)?;
-            Ok(if error.use_stderr() { 2 } else { 0 })
+            let is_help = !error.use_stderr();
+            Ok(if is_written(rt, error.print(rt)) && is_help {
+                Verdict::Nothing
+            } else {
+                Verdict::Trouble
+            })
         }
     }
 }
@@ -166,10 +185,10 @@ fn answer<R: Env + Files + Input + Print + Eprint + AllocGlobal>(rt: &R) -> Resu
 /// Answers what the arguments ask for. The status is 0 if nothing was found, 1 if something was, and 2 if there was trouble.
 pub fn run<R: Env + Files + Input + Print + Eprint + AllocGlobal>(rt: &R) -> ExitCode {
     match answer(rt) {
-        Ok(status) => ExitCode::from(status),
+        Ok(verdict) => ExitCode::from(verdict as u8),
         Err(error) => {
             let _ = eprintln!(rt; "mtrr-explain: {error:#}");
-            ExitCode::from(2)
+            ExitCode::from(Verdict::Trouble as u8)
         }
     }
 }
