@@ -1,0 +1,4 @@
+pub mod Aparts
+pub mod Cuts
+pub mod Prints
+pub mod Scans

@@ -1,0 +1,4 @@
+pub mod Apart
+pub mod Laws
+pub mod Printed
+pub mod Scan
