@@ -1,7 +1,8 @@
 -- The registers of a dump, by what lines have shown of them, what words supply, and what words allow to be assumed (own).
 --     value_by supplied slots known k number      the value of a register of processor k
 --     width_by supplied slots width      the address width, where lines show this one
-use Rattle.std.specs.Prelude.{ℕ, zero, suc, ◌+◌, ◌-◌, ◌*◌, ◌/◌, ◌%◌, ◌^◌, ◌==◌, ◌&&◌, ◌||◌, nat_lt, not, bit_or, Bool, true, false, List, [], ◌∷◌, position, if◌then◌else◌, Option, Some, None, unwrap_or}
+use Rattle.std.specs.Prelude.{ℕ, zero, suc, ◌+◌, ◌-◌, ◌*◌, ◌/◌, ◌%◌, ◌^◌, ◌==◌, ◌&&◌, ◌||◌, nat_lt, not, bit_or, Bool, true, false, if◌then◌else◌, Option, Some, None, unwrap_or}
+use Rattle.std.specs.Int.{leading_zeros, w64}
 use Rattle.mt_kinds.specs.Bits.{is_bit_set}
 use Rattle.mt_regs.specs.RegisterFile.{low_byte}
 use Rattle.mt_import.specs.declared.format.Format.{Format}
@@ -141,23 +142,13 @@ abbrev pub masks_in : Supplied → (ℕ → Slot) → ℕ → ℕ
 masks_in supplied slots zero = 0
 masks_in supplied slots (suc n) = bit_or (masks_in supplied slots n) (unwrap_or (or_supplied (whole_value (slots (0x201 + 2 * n))) (supplied_value supplied (0x201 + 2 * n))) 0)
 
--- 2 to the power of each width from 32 to 52
-abbrev pub width_limits : List ℕ
-width_limits =
-    0x100000000 ∷ 0x200000000 ∷ 0x400000000 ∷ 0x800000000 ∷ 0x1000000000 ∷ 0x2000000000 ∷ 0x4000000000 ∷ 0x8000000000
-    ∷ 0x10000000000 ∷ 0x20000000000 ∷ 0x40000000000 ∷ 0x80000000000 ∷ 0x100000000000 ∷ 0x200000000000 ∷ 0x400000000000 ∷ 0x800000000000
-    ∷ 0x1000000000000 ∷ 0x2000000000000 ∷ 0x4000000000000 ∷ 0x8000000000000 ∷ 0x10000000000000 ∷ []
+-- a width by how many of 64 bits are left above it
+abbrev pub width_by_zeros : ℕ → Option ℕ
+width_by_zeros zeros = if nat_lt 11 zeros && nat_lt zeros 33 then Some (64 - zeros) else None
 
-abbrev pub is_past : ℕ → ℕ → Bool
-is_past masks limit = nat_lt masks limit
-
-abbrev pub width_at : Option ℕ → Option ℕ
-width_at None = None
-width_at (Some k) = if nat_lt k 21 then Some (32 + k) else None
-
--- assume=width: the least width that has all bits of the masks, where one has bit 31 or more, and none a bit past 51
+-- assume=width: the least width that has all bits of the masks, if it is one of 32 to 52
 abbrev pub widest : ℕ → Option ℕ
-widest masks = if nat_lt masks 0x80000000 then None else width_at (position (is_past masks) width_limits)
+widest masks = width_by_zeros (leading_zeros w64 masks)
 
 abbrev pub assumed_width : Supplied → (ℕ → Slot) → Option ℕ
 assumed_width supplied slots = only_if supplied.assumed.width (widest (masks_in supplied slots 32))

@@ -1,9 +1,9 @@
-ghost use Rattle.std.specs.Prelude.{◌≡◌, ◌≤◌, ◌<◌, ◌^◌, IfSome, Some, position};
+ghost use Rattle.std.specs.Prelude.{◌≡◌, ◌≤◌, ◌<◌, ◌^◌, IfSome, Some};
 ghost use Rattle.mt_regs.specs.RegisterFile.{low_byte};
 ghost use Rattle.mt_import.specs.Reader.{IsFit, firm_in, hint_in, slots_of, values_in};
 ghost use Rattle.mt_import.specs.Slot.{whole_value};
 ghost use Rattle.mt_import.specs.Supplied.{supplied_value};
-ghost use Rattle.mt_import.specs.Values.{assumed_capabilities, assumed_mask, assumed_of, assumed_pair, assumed_pat, assumed_value, assumed_zero, base_of, disabled_value, firm_value, firm_width, has_pairs, is_of_table, is_pair_number, is_past, is_unshown, mask_of, mask_of_size, masks_in, only_if, or_supplied, pair_count, shown_pairs, shows_only_fix, shows_pairs, size_in, widest, width_at, width_by, width_limits};
+ghost use Rattle.mt_import.specs.Values.{assumed_capabilities, assumed_mask, assumed_of, assumed_pair, assumed_pat, assumed_value, assumed_zero, base_of, disabled_value, firm_value, firm_width, has_pairs, is_of_table, is_pair_number, is_unshown, mask_of, mask_of_size, masks_in, only_if, or_supplied, pair_count, shown_pairs, shows_only_fix, shows_pairs, size_in, widest, width_by, width_by_zeros};
 
 use crate::shape::Slot;
 use crate::supplied::Assumed;
@@ -31,30 +31,16 @@ const PAIRS: u32 = 32;
 
 const MOST_BITS: u8 = 52;
 
-// 2 to the power of each width from 32 to 52.
-const WIDTH_LIMITS: [u64; 21] = [
-    0x1_0000_0000,
-    0x2_0000_0000,
-    0x4_0000_0000,
-    0x8_0000_0000,
-    0x10_0000_0000,
-    0x20_0000_0000,
-    0x40_0000_0000,
-    0x80_0000_0000,
-    0x100_0000_0000,
-    0x200_0000_0000,
-    0x400_0000_0000,
-    0x800_0000_0000,
-    0x1000_0000_0000,
-    0x2000_0000_0000,
-    0x4000_0000_0000,
-    0x8000_0000_0000,
-    0x1_0000_0000_0000,
-    0x2_0000_0000_0000,
-    0x4_0000_0000_0000,
-    0x8_0000_0000_0000,
-    0x10_0000_0000_0000,
-];
+fn width_by_zeros(zeros: u32) -> Option<u8>
+    ensures width { result ≡ width_by_zeros zeros }
+    ensures fit { IfSome result IsFit }
+{
+    if 12 <= zeros && zeros <= 32 {
+        Some(64 - zeros as u8)
+    } else {
+        None
+    }
+}
 
 fn or_supplied(value: Option<u64>, other: Option<u64>) -> Option<u64>
     ensures { result ≡ or_supplied value other }
@@ -140,38 +126,12 @@ fn assumed_mask(slot: &Slot, width: Option<u8>) -> Option<u64>
     }
 }
 
-fn is_past(masks: u64, limit: u64) -> bool
-    ensures { result ≡ is_past masks limit }
-{
-    masks < limit
-}
-
-fn limit_past(masks: u64) -> Option<usize>
-    ensures { result ≡ position (is_past masks) width_limits }
-{
-    WIDTH_LIMITS.iter().position(|limit| masks < *limit)
-}
-
-fn width_at(at: Option<usize>) -> Option<u8>
-    ensures width { result ≡ width_at at }
-    ensures fit { IfSome result IsFit }
-{
-    match at {
-        Some(k) if k < 21 => Some(32 + k as u8),
-        _ => None,
-    }
-}
-
-// The least width that has all bits of the masks, if one has bit 31 or more, and none a bit past 51.
+// The least width that has all bits of the masks, if a dump may have it.
 pub(crate) fn widest(masks: u64) -> Option<u8>
     ensures width { result ≡ widest masks }
     ensures fit { IfSome result IsFit }
 {
-    if masks < 0x8000_0000 {
-        None
-    } else {
-        width_at(limit_past(masks))
-    }
+    width_by_zeros(masks.leading_zeros())
 }
 
 // The value of IA32_PAT that is assumed in a log of this format.
