@@ -3,6 +3,7 @@ pub mod Pieces
 pub mod Readings
 pub mod LineWords
 pub mod Rdmsr
+pub mod Tables
 pub mod X86info
 pub mod Inteltool
 pub mod Kernel

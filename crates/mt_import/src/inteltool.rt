@@ -1,112 +1,26 @@
-ghost use Rattle.std.specs.Prelude.{◌≡◌, codes, position};
-ghost use Rattle.mt_import.specs.Pieces.{before};
-ghost use Rattle.mt_text.specs.Number.{decimal_number};
-ghost use Rattle.mt_import.specs.Inteltool.{halves_at, halves_value, inteltool_said, is_colon, is_register_line, is_shared, is_unique, of_halves, said_by_words, turned_by, turned_to};
+ghost use Rattle.std.specs.Prelude.{◌≡◌};
+ghost use Rattle.mt_import.specs.Inteltool.{inteltool_said};
 
-use crate::pieces::{is_text, prefixed_register, shows_one, whole_number};
-use crate::{LineSays, Turn};
-use mt_text::{Line, Words, decimal};
+use crate::LineSays;
+use crate::tables::{Row, Says, said_in};
+use mt_rows::{BLANKS, DECIMAL, EX, HEX, HEX_8, Run, SPACE, WORD};
+use mt_text::Line;
 
-const HALF: u64 = 0x1_0000_0000;
-
-// `0x` and eight digits.
-const HALF_SIZE: usize = 10;
-
-fn of_halves(high: Option<u64>, low: Option<u64>) -> Option<u64>
-    ensures { result ≡ of_halves high low }
-{
-    let Some(high) = high else {
-        return None;
-    };
-    let Some(low) = low else {
-        return None;
-    };
-    if high < HALF && low < HALF {
-        Some(high * HALF + low)
-    } else {
-        None
-    }
-}
-
-fn colon_at(word: &[u8]) -> Option<usize>
-    ensures { result ≡ position is_colon word.now }
-{
-    word.iter().position(|byte| *byte == b':')
-}
-
-fn halves_value(word: &[u8]) -> Option<u64>
-    ensures { result ≡ halves_value word.now }
-{
-    match colon_at(word) {
-        Some(at) => of_halves(
-            whole_number(HALF_SIZE, &word[..at]),
-            whole_number(HALF_SIZE, &word[at + 1..]),
-        ),
-        None => None,
-    }
-}
-
-fn turned_to(digits: &[u8]) -> LineSays
-    ensures { result ≡ turned_to (decimal_number digits.now 65535) }
-{
-    match decimal(digits, 65535) {
-        Ok(processor) => LineSays::Turns(Turn::To(processor as u32)),
-        Err(_) => LineSays::Turns(Turn::Unread),
-    }
-}
-
-fn is_register_line(words: &Words<'_>) -> bool
-    ensures { result ≡ is_register_line words.now.words }
-{
-    is_text(b"MSR", words.text(0)) && is_text(b"=", words.text(2))
-}
-
-fn is_shared(words: &Words<'_>) -> bool
-    ensures { result ≡ is_shared words.now.words }
-{
-    is_text(b"SHARED", words.text(1)) && is_text(b"MSRs", words.text(2))
-}
-
-fn is_unique(words: &Words<'_>) -> bool
-    ensures { result ≡ is_unique words.now.words }
-{
-    is_text(b"UNIQUE", words.text(1))
-        && is_text(b"MSRs", words.text(2))
-        && is_text(b"(core", words.text(3))
-}
-
-fn turned_by(word: &[u8]) -> LineSays
-    ensures { result ≡ turned_by (before (codes ")") word.now) }
-{
-    match word.strip_suffix(b")") {
-        Some(digits) => turned_to(digits),
-        None => LineSays::Turns(Turn::Unread),
-    }
-}
-
-fn said_by_words(words: &Words<'_>) -> LineSays
-    ensures { result ≡ said_by_words words.now.number words.now.words }
-{
-    if is_register_line(words) {
-        return shows_one(
-            None,
-            prefixed_register(words.text(1)),
-            halves_value(words.text(3)),
-            words.place(3),
-        );
-    }
-    if is_shared(words) {
-        LineSays::Turns(Turn::To(0))
-    } else if is_unique(words) {
-        turned_by(words.text(4))
-    } else {
-        LineSays::Nothing
-    }
-}
+/// The lines of inteltool.
+#[rattlefmt::skip]
+pub const INTELTOOL: [Row<'static>; 4] = [
+    // `MSR 0x000000FE = 0x00000000:0x00000D08 (IA32_MTRRCAP)`
+    (&[(b"", SPACE), (b"MSR", BLANKS), (b"0", EX), (b"", HEX), (b"", BLANKS), (b"=", BLANKS), (b"0", EX), (b"", HEX_8), (b":0", EX), (b"", HEX_8)], Says::Halves),
+    // `SHARED MSRs (All Cores)`: they are read on processor 0.
+    (&[(b"", SPACE), (b"", WORD), (b"", BLANKS), (b"SHARED", BLANKS), (b"MSRs", Run::Nothing)], Says::TurnToFirst),
+    // `UNIQUE MSRs  (core N)`
+    (&[(b"", SPACE), (b"", WORD), (b"", BLANKS), (b"UNIQUE", BLANKS), (b"MSRs", BLANKS), (b"(core", BLANKS), (b"", DECIMAL), (b")", Run::Nothing)], Says::Turn(0)),
+    (&[(b"", SPACE), (b"", WORD), (b"", BLANKS), (b"UNIQUE", BLANKS), (b"MSRs", BLANKS), (b"(core", Run::Nothing)], Says::TurnToUnread),
+];
 
 /// What a line says.
 pub(crate) fn inteltool_said(line: &Line<'_>) -> LineSays
     ensures { result ≡ inteltool_said line.now.number line.now.bytes.now }
 {
-    said_by_words(&line.first_words())
+    said_in(&INTELTOOL, line)
 }

@@ -1,68 +1,32 @@
-ghost use Rattle.std.specs.Prelude.{◌≡◌, ◌≤◌, codes};
-ghost use Rattle.mt_text.specs.Number.{decimal_number};
-ghost use Rattle.mt_import.specs.X86info.{first_read, is_listed, is_name, is_size, is_sizes, named_register, register_from, said_by_words, sizes_by_words, sizes_said, turned_to, x86info_said};
+ghost use Rattle.std.specs.Prelude.{◌≡◌};
+ghost use Rattle.mt_import.specs.X86info.{is_listed, is_size, is_sizes, sizes_by_words, sizes_said, x86info_said};
 
-use crate::pieces::{VALUE_SIZE, is_text, prefixed_register, shows_one, shows_width, whole_number};
-use crate::{LineSays, Turn};
-use mt_text::{Line, Words, decimal, without_ending};
+use crate::LineSays;
+use crate::pieces::{is_text, shows_width};
+use crate::tables::{Row, Says, said_in};
+use mt_rows::{BLANKS, DECIMAL, EX, HEX, HEX_16, MARKS, Run, SPACE, WORD};
+use mt_text::{Line, Words, decimal};
 
-const PROCESSOR_LIMIT: u64 = 65_536;
-
-fn turned_to(digits: &[u8]) -> LineSays
-    ensures { result ≡ turned_to (decimal_number digits.now 65536) }
-{
-    match decimal(digits, PROCESSOR_LIMIT) {
-        Ok(number) if number > 0 => LineSays::Turns(Turn::To(number as u32 - 1)),
-        _ => LineSays::Turns(Turn::Unread),
-    }
-}
-
-fn named_register(word: &[u8]) -> Option<u32>
-    ensures { result ≡ named_register word.now }
-{
-    let number = match word.strip_prefix(b"(") {
-        Some(rest) => rest.strip_suffix(b"):"),
-        None => word.strip_suffix(b":"),
-    };
-    match number {
-        Some(number) => prefixed_register(number),
-        None => None,
-    }
-}
-
-fn is_name(word: &[u8]) -> bool
-    ensures { result ≡ is_name word.now }
-{
-    word.strip_prefix(b"MTRR").is_some()
-}
-
-fn register_from(first: usize, words: &Words<'_>) -> LineSays
-    requires { first ≤ 4 }
-    ensures { result ≡ register_from first words.now.number words.now.words }
-{
-    if !is_name(words.text(first)) {
-        return LineSays::Nothing;
-    }
-    shows_one(
-        None,
-        named_register(words.text(first + 1)),
-        whole_number(VALUE_SIZE, words.text(first + 2)),
-        words.place(first + 2),
-    )
-}
-
-fn first_read(words: &Words<'_>) -> usize
-    ensures first { result ≡ first_read words.now.words }
-    ensures small { result ≤ 4 }
-{
-    if is_name(words.text(4)) {
-        4
-    } else if is_name(words.text(2)) {
-        2
-    } else {
-        0
-    }
-}
+/// The lines of x86info that show a register. Up to two that it couldn't read may stand in front, without their values and without
+/// ends of their lines.
+#[rattlefmt::skip]
+pub const X86INFO: [Row<'static>; 8] = [
+    // `CPU #1:`, alone: processors are counted from 1.
+    (&[(b"CPU #", DECIMAL), (b":", Run::End)], Says::Turn(1)),
+    (&[(b"CPU #", MARKS)], Says::TurnToUnread),
+    // `MTRRphysBase0 (0x200): 0x0000000080000000 (..)`
+    (&[(b"", SPACE), (b"MTRR", MARKS), (b"", BLANKS), (b"(0", EX), (b"", HEX), (b"):", BLANKS), (b"0", EX), (b"", HEX_16)], Says::Register),
+    // `MTRRfix4K_D0000 0x26a: 0x0505050505050505`
+    (&[(b"", SPACE), (b"MTRR", MARKS), (b"", BLANKS), (b"0", EX), (b"", HEX), (b":", BLANKS), (b"0", EX), (b"", HEX_16)], Says::Register),
+    (&[(b"", SPACE), (b"MTRR", MARKS), (b"", BLANKS), (b"", WORD), (b"", BLANKS),
+       (b"MTRR", MARKS), (b"", BLANKS), (b"(0", EX), (b"", HEX), (b"):", BLANKS), (b"0", EX), (b"", HEX_16)], Says::Register),
+    (&[(b"", SPACE), (b"MTRR", MARKS), (b"", BLANKS), (b"", WORD), (b"", BLANKS),
+       (b"MTRR", MARKS), (b"", BLANKS), (b"0", EX), (b"", HEX), (b":", BLANKS), (b"0", EX), (b"", HEX_16)], Says::Register),
+    (&[(b"", SPACE), (b"MTRR", MARKS), (b"", BLANKS), (b"", WORD), (b"", BLANKS), (b"MTRR", MARKS), (b"", BLANKS), (b"", WORD), (b"", BLANKS),
+       (b"MTRR", MARKS), (b"", BLANKS), (b"(0", EX), (b"", HEX), (b"):", BLANKS), (b"0", EX), (b"", HEX_16)], Says::Register),
+    (&[(b"", SPACE), (b"MTRR", MARKS), (b"", BLANKS), (b"", WORD), (b"", BLANKS), (b"MTRR", MARKS), (b"", BLANKS), (b"", WORD), (b"", BLANKS),
+       (b"MTRR", MARKS), (b"", BLANKS), (b"0", EX), (b"", HEX), (b":", BLANKS), (b"0", EX), (b"", HEX_16)], Says::Register),
+];
 
 fn is_sizes(words: &Words<'_>) -> bool
     ensures { result ≡ is_sizes words.now.words }
@@ -109,21 +73,9 @@ fn sizes_by_words(words: &Words<'_>) -> LineSays
     }
 }
 
-fn said_by_words(words: &Words<'_>) -> LineSays
-    ensures { result ≡ said_by_words words.now.number words.now.words }
-{
-    register_from(first_read(words), words)
-}
-
 /// What a line says.
 pub(crate) fn x86info_said(line: &Line<'_>) -> LineSays
     ensures { result ≡ x86info_said line.now.number line.now.bytes.now }
 {
-    let Some(rest) = without_ending(line.bytes, b'\r').strip_prefix(b"CPU #") else {
-        return said_by_words(&line.first_words());
-    };
-    match rest.strip_suffix(b":") {
-        Some(digits) => turned_to(digits),
-        None => LineSays::Turns(Turn::Unread),
-    }
+    said_in(&X86INFO, line)
 }

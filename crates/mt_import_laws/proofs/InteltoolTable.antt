@@ -1,9 +1,10 @@
 -- What inteltool prints reads back.
-use Rattle.std.proofs.Common.{◌≡◌, ◌^◌, ◌<◌, ℕ, true, List, None, refl, subst, inl, inr, lit<}
+use Rattle.std.proofs.Common.{◌≡◌, ◌^◌, ◌<◌, ℕ, true, List, None, Some, refl, subst, inl, inr, lit<}
 use Rattle.std.specs.List.{AllByRecursion, list_all}
 use Rattle.mt_text.proofs.Plain.{is_plain}
 use Rattle.mt_regs.specs.RegisterFile.{RegisterFile}
 use Rattle.mt_import.specs.declared.format.Format.TheVariants.{Inteltool}
+use Rattle.mt_import.specs.Pieces.{shows_one}
 use Rattle.mt_import.specs.Shown.{said_of, tells}
 use Rattle.mt_import.specs.Supplied.{Supplied}
 use Rattle.mt_import_laws.specs.Origins.{IsAmong}
@@ -11,7 +12,7 @@ use Rattle.mt_import_laws.specs.FirstLine.{LinesTellFirst, only_turns}
 use Rattle.mt_import_laws.specs.Printed.{Key, TableReadsBack, number_at, value_in}
 use Rattle.mt_import_laws.specs.PrintedByInteltool.{Names, SuitsInteltool, inteltool_lines, line_of}
 use Rattle.mt_import_laws.proofs.Among.{all_map}
-use Rattle.mt_import_laws.proofs.InteltoolLines.{line_plain, place, register_said, told}
+use Rattle.mt_import_laws.proofs.InteltoolLines.{line_plain, register_said, told}
 use Rattle.mt_import_laws.proofs.KeyLines.{ShowsAlone, all_keys, among_all, has_line, in_file, lines_true, low}
 use Rattle.mt_import_laws.proofs.Keys.{IsKey}
 use Rattle.mt_import_laws.proofs.PrintedBack.{HasLine, IsInFile, fits, key_in_file, table_back}
@@ -28,15 +29,12 @@ module _ (names : Names) (file : RegisterFile) (supplied : Supplied) (suits : Su
   all_fit : (key : Key) → IsAmong key (all_keys file) → value_in file key < 2 ^ 64
   all_fit key among = fits file key suits.is_file suits.has_words (within key among)
 
+  said : (key : Key) → IsAmong key (all_keys file) → (number : ℕ)
+      → (column : ℕ) × (said_of Inteltool number (line_of names file key) ≡ shows_one None (Some (number_at key)) (Some (value_in file key)) (record { line = number; column = column }))
+  said key among = let named = suits.are_names key in register_said (number_at key) (value_in file key) (names key) named.0 named.1 (low key (are_keys key among)) (all_fit key among)
+
   shows : (key : Key) → IsAmong key (all_keys file) → ShowsAlone 0 file Inteltool key (line_of names file key)
-  shows key among =
-      let named = suits.are_names key in
-      record {
-        processor = None;
-        own = refl;
-        place = place (number_at key) (value_in file key) (names key) named.0 named.1;
-        said = λ number. register_said (number_at key) (value_in file key) (names key) named.0 named.1 number (low key (are_keys key among)) (all_fit key among);
-      }
+  shows key among = record { processor = None; own = refl; place = λ number. record { line = number; column = (said key among number).0 }; said = λ number. (said key among number).1 }
 
   table_true : (line : List ℕ) → IsAmong line (inteltool_lines names file) → (number : ℕ) → IsTrueSaid file any_bits 0 (said_of Inteltool number line)
   table_true line (inl same) number = subst (λ l. IsTrueSaid file any_bits 0 (said_of Inteltool number l)) same refl

@@ -19,6 +19,7 @@ mod FirstLine
 mod Reasons
 mod PrintedDigits
 mod LineWords
+mod RowLines
 mod Foreign
 mod Below
 mod Decimals

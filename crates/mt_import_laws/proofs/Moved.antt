@@ -1,7 +1,7 @@
 -- What a line says depends on its number by its places alone.
-use Rattle.std.proofs.Common.{◌≡◌, ◌∙◌, ◌+◌, ℕ, zero, suc, Bool, true, false, List, ◌∷◌, map, take, Option, Some, None, Result, Ok, Err, refl, sym, ap, codes}
+use Rattle.std.proofs.Common.{◌≡◌, ◌∙◌, ◌+◌, ℕ, zero, suc, Bool, true, false, List, [], ◌∷◌, map, take, Option, Some, None, Result, Ok, Err, refl, sym, ap}
 use Rattle.std.specs.Prelude.{if◌then◌else◌}
-use Rattle.mt_text.specs.Text.{without_return, words_of}
+use Rattle.mt_text.specs.Text.{words_of}
 use Rattle.mt_text.specs.declared.fault.NumberFault.{NumberFault}
 use Rattle.mt_text.specs.declared.place.Place.{Place}
 use Rattle.mt_import.specs.declared.format.Format.{Format}
@@ -9,16 +9,22 @@ use Rattle.mt_import.specs.declared.format.Format.TheVariants.{Rdmsr, X86info, I
 use Rattle.mt_import.specs.declared.reading.LineSays.{LineSays}
 use Rattle.mt_import.specs.declared.reading.LineSays.TheVariants.{Nothing, Announces, Value, Turns, Shows, Begins, FixedRanges, VariableRanges, Width, Warns, Long}
 use Rattle.mt_import.specs.declared.shape.Shown.{Shown}
-use Rattle.mt_import.specs.Pieces.{behind, shows_one, shows_width, value_at}
+use Rattle.mt_import.specs.Pieces.{register_in, shows_one, shows_width, value_at}
 use Rattle.mt_import.specs.Readings.{one_shown, two_shown}
 use Rattle.mt_import.specs.Coreboot.{flag_said, fixed_of, level_words, other_from, said_from, said_of_id, set_from, shows_pair as shows_set_pair, size_from}
 use Rattle.mt_import.specs.Edk2.{said_by_words as edk2_words, shows_pair}
-use Rattle.mt_import.specs.Inteltool.{said_by_words as inteltool_words, turned_by as turned_to_core, turned_to as turned_to_core_number}
+use Rattle.mt_import.specs.declared.inteltool.TheConstants.{INTELTOOL}
+use Rattle.mt_import.specs.declared.tables.Says.{Says}
+use Rattle.mt_import.specs.declared.tables.Says.TheVariants.{Halves, Register, Turn, TurnToFirst, TurnToUnread}
+use Rattle.mt_import.specs.Tables.{Row, halves_value, place_of, rows_in, said_in as said_in_rows, said_or, says_of}
+use Rattle.mt_rows.specs.declared.row.Fields.{Fields}
+use Rattle.mt_rows.specs.Scan.{scanned}
 use Rattle.mt_import.specs.Kernel.{addresses_said, all_fixed_shown, default_shown, disabled_said, fixed_run, fixed_said, fixed_shown, head_said, kernel_said, pair_said, run_said, types_said, variable_said}
 use Rattle.mt_import.specs.LineWords.{head_end, words_behind}
 use Rattle.mt_import.specs.Linux.{cleanup_said, count_said, is_map, linux_words_said, map_said, pair_shown, pat_changed, pat_said, region_said, size_shown}
 use Rattle.mt_import.specs.Rdmsr.{announced, call_behind, call_from, option_at, said_by_words as rdmsr_words, said_value}
-use Rattle.mt_import.specs.X86info.{said_by, said_by_words as x86info_words, sizes_by_words, turned_by as turned_to_cpu, turned_to as turned_to_number}
+use Rattle.mt_import.specs.X86info.{sizes_by_words}
+use Rattle.mt_import.specs.declared.x86info.TheConstants.{X86INFO}
 use Rattle.mt_import.specs.Shown.{chosen, format_told, is_telling, said_by_line, said_in, said_in_each, said_of, said_or_sizes, tells}
 use Rattle.mt_import_laws.specs.Spare.{moved_place}
 
@@ -102,36 +108,26 @@ module _ (move : ℕ → ℕ) where
 
   -- ---- x86info
 
-  cpu_number : (read : Result ℕ NumberFault) → moved_said (turned_to_number read) ≡ turned_to_number read
-  cpu_number (Ok number) = search if_said
-  cpu_number (Err fault) = refl
-
-  cpu : (digits : Option (List ℕ)) → moved_said (turned_to_cpu digits) ≡ turned_to_cpu digits
-  cpu None = refl
-  cpu (Some digits) = search cpu_number
-
-  by_x86info_words : (number : ℕ) (words : List (ℕ × List ℕ)) → moved_said (x86info_words number words) ≡ x86info_words (move number) words
-  by_x86info_words number words = search (if_said, one)
-
-  by_x86info : (found : Option (List ℕ)) (number : ℕ) (line : List ℕ) → moved_said (said_by found number line) ≡ said_by found (move number) line
-  by_x86info None number line = by_x86info_words number (take 7 (words_of line))
-  by_x86info (Some rest) number line = search cpu
-
   sizes : (number : ℕ) (words : List (ℕ × List ℕ)) → moved_said (sizes_by_words number words) ≡ sizes_by_words (move number) words
   sizes number words = search (if_said, width)
 
-  -- ---- inteltool
+  -- ---- rows
 
-  core_number : (read : Result ℕ NumberFault) → moved_said (turned_to_core_number read) ≡ turned_to_core_number read
-  core_number (Ok number) = refl
-  core_number (Err fault) = refl
+  of_says : (meaning : Says) (number : ℕ) (fields : Fields) → moved_said (says_of meaning number fields) ≡ says_of meaning (move number) fields
+  of_says Register number fields = one None (register_in (Ok fields.second_last.value)) (Some fields.last.value) (place_of number fields.last)
+  of_says Halves number fields = one None (register_in (Ok fields.third_last.value)) (halves_value fields.second_last.value fields.last.value) (place_of number fields.second_last)
+  of_says (Turn first) number fields = refl
+  of_says TurnToFirst number fields = refl
+  of_says TurnToUnread number fields = refl
 
-  core : (digits : Option (List ℕ)) → moved_said (turned_to_core digits) ≡ turned_to_core digits
-  core None = refl
-  core (Some digits) = search core_number
-
-  by_inteltool : (number : ℕ) (words : List (ℕ × List ℕ)) → moved_said (inteltool_words number words) ≡ inteltool_words (move number) words
-  by_inteltool number words = search (if_said, one, core)
+  by_rows : (rows : List Row) (number : ℕ) (line : List ℕ) → moved_said (said_in_rows rows number line) ≡ said_in_rows rows (move number) line
+  by_rows [] number line = refl
+  by_rows (row ∷ rows) number line = by (scanned row.0 line) (by_rows rows number line)
+    where
+      by : (read : Option Fields) → moved_said (said_in_rows rows number line) ≡ said_in_rows rows (move number) line
+          → moved_said (said_or row.1 number read (said_in_rows rows number line)) ≡ said_or row.1 (move number) read (said_in_rows rows (move number) line)
+      by None later = later
+      by (Some fields) later = of_says row.1 number fields
 
   -- ---- edk2
 
@@ -266,8 +262,8 @@ module _ (move : ℕ → ℕ) where
 
   by_line : (format : Format) (number : ℕ) (line : List ℕ) → moved_said (said_by_line format number line) ≡ said_by_line format (move number) line
   by_line Rdmsr number line = by_rdmsr number (words_of line)
-  by_line X86info number line = by_x86info (behind (codes "CPU #") (without_return line)) number line
-  by_line Inteltool number line = by_inteltool number (take 7 (words_of line))
+  by_line X86info number line = by_rows (rows_in X86INFO) number line
+  by_line Inteltool number line = by_rows (rows_in INTELTOOL) number line
   by_line Coreboot number line = by_coreboot (level_words (words_of line)) number (words_of line)
   by_line Edk2 number line = by_edk2 number (take 7 (words_of line))
   by_line Linux number line = by_linux number (words_behind (head_end (words_of line)) line)

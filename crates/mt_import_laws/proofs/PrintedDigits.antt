@@ -87,3 +87,9 @@ module _ (t : List ℕ) (are : IsDigits t) (value : ℕ) where
       digits_read (encode_with t (to_be_bytes w32 value)) (omega arith) (omega arith) eight_all
       ∙ ap Ok (pairs_value (encode_with t (to_be_bytes w32 value)) (to_be_bytes w32 value) 0 0 (decode_pairs-encode_with t are 0 (to_be_bytes w32 value) (four_fit value))
       ∙ sym (four_bytes (to_be_bytes w32 value) refl) ∙ from_be_bytes-to_be_bytes_4 value small)
+
+  pub eight_number : value < 2 ^ 32 → hex_number (encode_with t (to_be_bytes w32 value)) ≡ Ok value
+  eight_number small =
+      let size = eight_long in
+      hex_number-digits (encode_with t (to_be_bytes w32 value)) (omega arith) (omega arith) eight_all
+      ∙ sym (digits_read (encode_with t (to_be_bytes w32 value)) (omega arith) (omega arith) eight_all) ∙ eight_read small

@@ -12,13 +12,16 @@ use Rattle.mt_import.specs.declared.reading.LineSays.{LineSays}
 use Rattle.mt_import.specs.declared.reading.LineSays.TheVariants.{Nothing, Announces, Value, Turns, Shows, Begins, FixedRanges, VariableRanges, Width, Warns, Long}
 use Rattle.mt_import.specs.Coreboot.{level_words, said_from as coreboot_from}
 use Rattle.mt_import.specs.Edk2.{said_by_words as edk2_words}
-use Rattle.mt_import.specs.Inteltool.{said_by_words as inteltool_words}
+use Rattle.mt_import.specs.declared.inteltool.TheConstants.{INTELTOOL}
+use Rattle.mt_import.specs.Tables.{Row, rows_in, said_in as said_in_rows, said_or}
+use Rattle.mt_rows.specs.Scan.{read_by, scanned}
 use Rattle.mt_import.specs.Kernel.{is_warning_text, kernel_said}
 use Rattle.mt_import.specs.LineWords.{behind_stamp, head_end, kernel_end}
 use Rattle.mt_import.specs.Linux.{linux_words_said}
-use Rattle.mt_import.specs.Pieces.{behind, is_text}
+use Rattle.mt_import.specs.Pieces.{is_text}
 use Rattle.mt_import.specs.Rdmsr.{said_by_words as rdmsr_words}
-use Rattle.mt_import.specs.X86info.{said_by, said_by_words as x86info_words, sizes_by_words}
+use Rattle.mt_import.specs.X86info.{sizes_by_words}
+use Rattle.mt_import.specs.declared.x86info.TheConstants.{X86INFO}
 use Rattle.mt_import.specs.Readings.{starts}
 use Rattle.mt_import.specs.Shown.{chosen, context_behind, format_of, is_telling, said_by_line, said_in, said_in_each, said_of, said_or_sizes, tells}
 use Rattle.mt_import.specs.Supplied.{Supplied}
@@ -52,14 +55,15 @@ module _ (line : List ℕ) (without : without_return line ≡ line) (apart : len
   same_limit : is_too_long longer ≡ is_too_long line
   same_limit = one_longer (length line) (length longer) apart (length-append line (13 ∷ []))
 
-  by_x86info : (number : ℕ) (found : Option (List ℕ)) → said_by found number longer ≡ said_by found number line
-  by_x86info number None = ap (λ ws. x86info_words number (take 7 ws)) same_words
-  by_x86info number (Some rest) = refl
+  same_rows : (rows : List Row) (number : ℕ) → said_in_rows rows number longer ≡ said_in_rows rows number line
+  same_rows [] number = refl
+  same_rows (row ∷ rows) number =
+      ap (λ text. said_or row.1 number (read_by row.0 text) (said_in_rows rows number longer)) same_text ∙ ap (said_or row.1 number (scanned row.0 line)) (same_rows rows number)
 
   by_format : (format : Format) (number : ℕ) → said_by_line format number longer ≡ said_by_line format number line
   by_format Rdmsr number = ap (rdmsr_words number) same_words
-  by_format X86info number = ap (λ text. said_by (behind (codes "CPU #") text) number longer) same_text ∙ by_x86info number (behind (codes "CPU #") (without_return line))
-  by_format Inteltool number = ap (λ ws. inteltool_words number (take 7 ws)) same_words
+  by_format X86info number = same_rows (rows_in X86INFO) number
+  by_format Inteltool number = same_rows (rows_in INTELTOOL) number
   by_format Coreboot number = ap (λ ws. coreboot_from (level_words ws) number ws) same_words
   by_format Edk2 number = ap (λ ws. edk2_words number (take 7 ws)) same_words
   by_format Linux number = ap (λ ws. linux_words_said number (drop (head_end ws) ws)) same_words

@@ -3,11 +3,10 @@ use Rattle.std.proofs.Common.{◌≡◌, ℕ, true, List, drop, take, ap, codes}
 use Rattle.std.specs.Prelude.{if◌then◌else◌}
 use Rattle.mt_text.specs.Text.{words_of}
 use Rattle.mt_text.specs.Words.{text_of}
-use Rattle.mt_import.specs.declared.format.Format.TheVariants.{Coreboot, Edk2, Inteltool, Linux, Xen}
+use Rattle.mt_import.specs.declared.format.Format.TheVariants.{Coreboot, Edk2, Linux, Xen}
 use Rattle.mt_import.specs.declared.reading.LineSays.TheVariants.{Nothing}
 use Rattle.mt_import.specs.Coreboot.{level_words, said_from}
 use Rattle.mt_import.specs.Edk2.{said_by_words as edk2_words}
-use Rattle.mt_import.specs.Inteltool.{said_by_words as inteltool_words}
 use Rattle.mt_import.specs.Kernel.{kernel_said}
 use Rattle.mt_import.specs.LineWords.{behind_stamp, head_end}
 use Rattle.mt_import.specs.Linux.{linux_words_said}
@@ -30,7 +29,3 @@ module _ (number : ℕ) (line : List ℕ) (words : List (ℕ × List ℕ)) (are 
   pub edk2_by : tells Edk2 number line ≡ is_telling (edk2_words number (take 7 words))
   unfolding tells
   edk2_by = ap (λ ws. is_telling (edk2_words number (take 7 ws))) are
-
-  pub inteltool_by : tells Inteltool number line ≡ is_telling (inteltool_words number (take 7 words))
-  unfolding tells
-  inteltool_by = ap (λ ws. is_telling (inteltool_words number (take 7 ws))) are

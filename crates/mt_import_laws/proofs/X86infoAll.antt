@@ -1,9 +1,10 @@
 -- What x86info prints of all processors reads back.
-use Rattle.std.proofs.Common.{◌≡◌, ◌∙◌, ◌+◌, ◌<◌, ◌≤◌, ℕ, zero, suc, true, List, [], ◌∷◌, ◌++◌, length, None, Some, refl, sym, ap, subst, inl, inr, arith}
+use Rattle.std.proofs.Common.{◌≡◌, ◌∙◌, ◌+◌, ◌<◌, ◌≤◌, ℕ, zero, suc, true, not, List, [], ◌∷◌, ◌++◌, length, None, Some, refl, sym, ap, subst, inl, inr, arith}
 use Rattle.std.specs.Fmt.{digits}
 use Rattle.std.specs.Prelude.{◌⊎◌}
-use Rattle.std.specs.List.{AllByRecursion}
+use Rattle.std.specs.List.{AllByRecursion, list_all}
 use Rattle.std.proofs.lemmas.Bool.{cases_lt}
+use Rattle.mt_text.specs.Text.{is_line_end}
 use Rattle.mt_text.specs.declared.place.Place.{Place}
 use Rattle.mt_regs.specs.RegisterFile.{RegisterFile}
 use Rattle.mt_regs.specs.Words.{HasWords}
@@ -23,6 +24,8 @@ use Rattle.mt_import_laws.specs.Printed.{Agrees, Key, ReadsAs, dump_of_all}
 use Rattle.mt_import_laws.specs.PrintedByX86info.{Print, SuitsX86info, SuitsX86infoOfAll, cpu_line, cpu_lines, files_in, x86info_lines}
 use Rattle.mt_import_laws.proofs.Among.{join_among_first, join_among_second}
 use Rattle.mt_import_laws.proofs.Back.{HasWidth}
+use Rattle.mt_import_laws.proofs.Below.{passes}
+use Rattle.mt_import_laws.proofs.InteltoolLines.{turns_as, turns_to}
 use Rattle.mt_import_laws.proofs.PrintedBack.{HasLine, IsGiven, IsInFile, IsOneLine, WidthLine, one_lines_back, key_in_file, one_lines}
 use Rattle.mt_import_laws.proofs.Several.{are_alike, file_at, first_at, several_back}
 use Rattle.mt_import_laws.proofs.TableLines.{HasOwn, IsTrueSaid, all_join, facts_split, lines_format, lines_have_own, lines_show_width, lines_true, next_format, own_first, own_later}
@@ -33,43 +36,11 @@ use Rattle.mt_import_laws.proofs.X86infoTable.{capability_line, each_key, table_
 
 turns : (k number : ℕ) → k < 16 → said_of X86info number (cpu_line k) ≡ Turns (To k)
 unfolding digits
-turns zero number less = refl
-turns (suc zero) number less = refl
-turns (suc (suc zero)) number less = refl
-turns (suc (suc (suc zero))) number less = refl
-turns (suc (suc (suc (suc zero)))) number less = refl
-turns (suc (suc (suc (suc (suc zero))))) number less = refl
-turns (suc (suc (suc (suc (suc (suc zero)))))) number less = refl
-turns (suc (suc (suc (suc (suc (suc (suc zero))))))) number less = refl
-turns (suc (suc (suc (suc (suc (suc (suc (suc zero)))))))) number less = refl
-turns (suc (suc (suc (suc (suc (suc (suc (suc (suc zero))))))))) number less = refl
-turns (suc (suc (suc (suc (suc (suc (suc (suc (suc (suc zero)))))))))) number less = refl
-turns (suc (suc (suc (suc (suc (suc (suc (suc (suc (suc (suc zero))))))))))) number less = refl
-turns (suc (suc (suc (suc (suc (suc (suc (suc (suc (suc (suc (suc zero)))))))))))) number less = refl
-turns (suc (suc (suc (suc (suc (suc (suc (suc (suc (suc (suc (suc (suc zero))))))))))))) number less = refl
-turns (suc (suc (suc (suc (suc (suc (suc (suc (suc (suc (suc (suc (suc (suc zero)))))))))))))) number less = refl
-turns (suc (suc (suc (suc (suc (suc (suc (suc (suc (suc (suc (suc (suc (suc (suc zero))))))))))))))) number less = refl
-turns (suc (suc (suc (suc (suc (suc (suc (suc (suc (suc (suc (suc (suc (suc (suc (suc k)))))))))))))))) number less = absurd (omega (arith, less))
+turns k number less = turns_as k (said_of X86info number (cpu_line k)) (passes (λ j. turns_to j (said_of X86info number (cpu_line j))) 16 k refl less)
 
 one_cpu_line : (k : ℕ) → k < 16 → IsOneLine (cpu_line k)
 unfolding digits
-one_cpu_line zero less = refl
-one_cpu_line (suc zero) less = refl
-one_cpu_line (suc (suc zero)) less = refl
-one_cpu_line (suc (suc (suc zero))) less = refl
-one_cpu_line (suc (suc (suc (suc zero)))) less = refl
-one_cpu_line (suc (suc (suc (suc (suc zero))))) less = refl
-one_cpu_line (suc (suc (suc (suc (suc (suc zero)))))) less = refl
-one_cpu_line (suc (suc (suc (suc (suc (suc (suc zero))))))) less = refl
-one_cpu_line (suc (suc (suc (suc (suc (suc (suc (suc zero)))))))) less = refl
-one_cpu_line (suc (suc (suc (suc (suc (suc (suc (suc (suc zero))))))))) less = refl
-one_cpu_line (suc (suc (suc (suc (suc (suc (suc (suc (suc (suc zero)))))))))) less = refl
-one_cpu_line (suc (suc (suc (suc (suc (suc (suc (suc (suc (suc (suc zero))))))))))) less = refl
-one_cpu_line (suc (suc (suc (suc (suc (suc (suc (suc (suc (suc (suc (suc zero)))))))))))) less = refl
-one_cpu_line (suc (suc (suc (suc (suc (suc (suc (suc (suc (suc (suc (suc (suc zero))))))))))))) less = refl
-one_cpu_line (suc (suc (suc (suc (suc (suc (suc (suc (suc (suc (suc (suc (suc (suc zero)))))))))))))) less = refl
-one_cpu_line (suc (suc (suc (suc (suc (suc (suc (suc (suc (suc (suc (suc (suc (suc (suc zero))))))))))))))) less = refl
-one_cpu_line (suc (suc (suc (suc (suc (suc (suc (suc (suc (suc (suc (suc (suc (suc (suc (suc k)))))))))))))))) less = absurd (omega (arith, less))
+one_cpu_line k less = passes (λ j. list_all (λ byte. not (is_line_end byte)) (cpu_line j)) 16 k refl less
 
 -- ---- the lines, by the places of processors
 

@@ -1,43 +1,50 @@
 -- What a line of x86info is read as.
-use Rattle.std.proofs.Common.{◌≡◌, ◌∙◌, ◌+◌, ◌-◌, ◌*◌, ◌^◌, ◌<◌, ◌≤◌, ◌==◌, nat_eq, nat_lt, ℕ, suc, Bool, true, false, List, [], ◌∷◌, ◌++◌, length, drop, take, Option, Some, None, refl, sym, ap, inl, inr, arith, lit≤, length-append, codes, decimal}
+use Rattle.std.proofs.Common.{◌≡◌, ◌∙◌, ◌+◌, ◌-◌, ◌*◌, ◌^◌, ◌<◌, ◌≤◌, ◌==◌, nat_lt, ℕ, suc, Bool, true, false, List, [], ◌∷◌, ◌++◌, length, drop, take, get_or, map, Some, None, refl, sym, ap, inl, inr, arith, lit≤, append_assoc, length-append, codes, decimal}
 use Rattle.std.specs.Fmt.{digits}
 use Rattle.std.specs.Prelude.{if◌then◌else◌}
-use Rattle.std.specs.Cmp.Lexicographic.{pointwise}
 use Rattle.std.specs.List.{AllByRecursion, list_all}
 use Rattle.std.proofs.lemmas.Bool.{and_parts}
 use Rattle.std.proofs.lemmas.Bool.Decides.{nat_tests}
-use Rattle.std.proofs.Math.Seq.{drop-append_seam, take-append_seam}
 use Rattle.hex.specs.Hex.{lower_digits}
 use Rattle.hex.proofs.HexLemmas.{IsDigits-lower_digits}
-use Rattle.mt_text.specs.Text.{goes_on, is_blank, is_word_byte, lengthened, words_from, words_of}
+use Rattle.mt_text.specs.Text.{goes_on, is_word_byte, words_from, words_of}
 use Rattle.mt_text.specs.Words.{place_of, text_of}
 use Rattle.mt_text.specs.declared.place.Place.{Place}
-use Rattle.mt_text.proofs.Plain.{is_plain, plain_ending}
+use Rattle.mt_text.proofs.Plain.{is_plain}
 use Rattle.mt_dump.specs.Canon.{value_text}
+use Rattle.mt_rows.specs.declared.row.Kind.TheVariants.{Blank, Mark}
+use Rattle.mt_rows.specs.declared.row.Run.TheVariants as run
+use Rattle.mt_rows.specs.Printed.{fit, shown}
+use Rattle.mt_rows.specs.Scan.{Part, has, is_end, is_within, items, no_fields}
 use Rattle.mt_import.specs.declared.format.Format.TheVariants.{Coreboot, Edk2, Inteltool, Linux, X86info, Xen}
+use Rattle.mt_import.specs.declared.inteltool.TheConstants.{INTELTOOL}
 use Rattle.mt_import.specs.declared.reading.LineSays.{LineSays}
 use Rattle.mt_import.specs.declared.reading.LineSays.TheVariants.{Nothing, Warns, Width}
+use Rattle.mt_import.specs.declared.tables.Says.TheVariants.{TurnToUnread}
+use Rattle.mt_import.specs.declared.x86info.TheConstants.{X86INFO}
 use Rattle.mt_import.specs.Kernel.{is_warning_text}
 use Rattle.mt_import.specs.LineWords.{behind_stamp, is_iso, kernel_end}
 use Rattle.mt_import.specs.Linux.{linux_words_said}
-use Rattle.mt_import.specs.Pieces.{before, behind, is_text, shows_one, shows_width, whole_number}
+use Rattle.mt_import.specs.Pieces.{is_text, shows_one, shows_width}
 use Rattle.mt_import.specs.Shown.{format_told, is_telling, said_of, said_or_sizes, tells}
-use Rattle.mt_import.specs.X86info.{first_read, is_name, named_register, register_from, said_by, said_by_words, sizes_by_words, x86info_said}
+use Rattle.mt_import.specs.Tables.{Row, rows_in}
+use Rattle.mt_import.specs.X86info.{sizes_by_words, x86info_said}
 use Rattle.mt_import_laws.specs.FirstLine.{IsOfNoHost}
 use Rattle.mt_import_laws.specs.Printed.{Key, number_at}
 use Rattle.mt_import_laws.specs.PrintedByInteltool.{AreNames, Names, is_name_byte}
 use Rattle.mt_import_laws.specs.PrintedByRdmsr.{hex_text}
 use Rattle.mt_import_laws.specs.PrintedByX86info.{behind_names, is_bare, is_field_byte, number_text, size_line}
 use Rattle.mt_import_laws.proofs.Foreign.{and_left, and_right, if_nothing, if_off, kernel_none, linux_none, log_front}
-use Rattle.mt_import_laws.proofs.HexDigits.{hex_digits, hex_prefixed, hex_short, hex_some}
+use Rattle.mt_import_laws.proofs.HexDigits.{hex_alone, hex_digits, hex_short, hex_some}
 use Rattle.mt_import_laws.proofs.KeyLines.{low}
 use Rattle.mt_import_laws.proofs.Keys.{IsKey}
 use Rattle.mt_import_laws.proofs.LineWords.{AreWords, IsWord, all_append, are_apart, digits_are_word, length_of_pieces, line_with, pieces_plain, placed, size_of, word_append, words_of_pieces}
-use Rattle.mt_import_laws.proofs.PrintedDigits.{sixteen_all, sixteen_long, sixteen_read}
+use Rattle.mt_import_laws.proofs.PrintedDigits.{sixteen_all, sixteen_long, sixteen_number}
 use Rattle.mt_import_laws.proofs.Decimals.{decimals}
-use Rattle.mt_import_laws.proofs.Tells.{coreboot_by, edk2_by, inteltool_by, linux_by, xen_by}
+use Rattle.mt_import_laws.proofs.RowLines.{IsHexOf, no_others, register_says, row_reads, within}
+use Rattle.mt_import_laws.proofs.Tells.{coreboot_by, edk2_by, linux_by, xen_by}
 
--- ---- words that are no names
+-- ---- fields
 
 field_plain : (byte : ℕ) → is_field_byte byte ≡ true → is_plain byte ≡ true
 field_plain byte is = grind (arith, nat_tests)
@@ -48,56 +55,14 @@ fields_plain (byte ∷ fields) all =
     let parts = and_parts (is_field_byte byte) (list_all is_field_byte fields) all in
     rw (field_plain byte parts.0) (fields_plain fields parts.1)
 
-abbrev AreFieldWords : List (ℕ × List ℕ) → Type 0
-AreFieldWords = AllByRecursion (λ word. list_all is_field_byte word.1 ≡ true)
-
-first_longer : (start byte : ℕ) (words : List (ℕ × List ℕ)) → is_field_byte byte ≡ true → AreFieldWords words → AreFieldWords (lengthened start byte words)
-first_longer start byte [] is are = tt
-first_longer start byte (word ∷ words) is are = (rw is are.0, are.1)
-
-field_words : (offset : ℕ) (fields : List ℕ) → list_all is_field_byte fields ≡ true → AreFieldWords (words_from offset fields)
-field_words offset [] all = tt
-field_words offset (byte ∷ fields) all =
-    let parts = and_parts (is_field_byte byte) (list_all is_field_byte fields) all in
-    by parts.0 (field_words (offset + 1) fields parts.1) (is_blank byte) (goes_on fields)
-  where
-    by : is_field_byte byte ≡ true → AreFieldWords (words_from (offset + 1) fields) → (blank more : Bool)
-        → AreFieldWords (if blank then words_from (offset + 1) fields else if more then lengthened offset byte (words_from (offset + 1) fields) else (offset, byte ∷ []) ∷ words_from (offset + 1) fields)
-    by is later true more = later
-    by is later false true = first_longer offset byte (words_from (offset + 1) fields) is later
-    by is later false false = (rw is refl, later)
-
-no_name : (word : List ℕ) → list_all is_field_byte word ≡ true → is_name word ≡ false
-no_name [] all = refl
-no_name (byte ∷ bytes) all = rw (apart byte (and_parts (is_field_byte byte) (list_all is_field_byte bytes) all).0) refl
-  where
-    apart : (b : ℕ) → is_field_byte b ≡ true → nat_eq b 77 ≡ false
-    apart b is = grind (arith, nat_tests, is)
-
--- the second word behind a value
-second_word : (words : List (ℕ × List ℕ)) → AreFieldWords words → is_name (text_of (take 4 words) 1) ≡ false
-second_word [] are = refl
-second_word (word ∷ []) are = refl
-second_word (word ∷ second ∷ words) are = no_name second.1 are.1.0
-
 -- ---- a number
-
-pub before_tail : (xs tail : List ℕ) → pointwise nat_eq tail tail ≡ true → before tail (xs ++ tail) ≡ Some xs
-before_tail xs tail same =
-    let size = length-append xs tail in
-    let count : length (xs ++ tail) - length tail ≡ length xs = omega (arith, size) in
-    rw (count, drop-append_seam xs tail, take-append_seam xs tail, same) refl
-
-small_number : (number : ℕ) → number < 0x1000 → nat_lt number 0x1000 ≡ true
-small_number number small = grind (arith, nat_tests, small)
 
 module _ (number : ℕ) (small : number < 0x1000) where
   fits_64 : number < 2 ^ 64
   fits_64 = omega (arith, small)
 
-  number_read : (bare : Bool) → named_register (number_text bare number) ≡ Some number
-  number_read true = rw (before_tail (48 ∷ 120 ∷ hex_text number) (codes ":") refl, hex_prefixed number fits_64, small_number number small) refl
-  number_read false = rw (before_tail (48 ∷ 120 ∷ hex_text number) (codes "):") refl, hex_prefixed number fits_64, small_number number small) refl
+  number_hex : IsHexOf number (hex_text number)
+  number_hex = record { some = hex_some number; few = hex_short number fits_64; all = hex_digits number; is = hex_alone number fits_64 }
 
   number_word : (bare : Bool) → IsWord (number_text bare number)
   number_word true =
@@ -113,6 +78,15 @@ module _ (number : ℕ) (small : number < 0x1000) where
   number_short true = let size = length-append (hex_text number) (codes ":") in let few = hex_short number fits_64 in omega (arith, size, few)
   number_short false = let size = length-append (hex_text number) (codes "):") in let few = hex_short number fits_64 in omega (arith, size, few)
 
+-- in front of what follows
+abbrev opened : Bool → List ℕ → List ℕ → List ℕ
+opened true digits rest = codes "0x" ++ (digits ++ (codes ":" ++ rest))
+opened false digits rest = codes "(0x" ++ (digits ++ (codes "):" ++ rest))
+
+is_opened : (bare : Bool) (number : ℕ) (rest : List ℕ) → number_text bare number ++ rest ≡ opened bare (hex_text number) rest
+is_opened true number rest = ap (λ (l : List ℕ). codes "0x" ++ l) (append_assoc (hex_text number) (codes ":") rest)
+is_opened false number rest = ap (λ (l : List ℕ). codes "(0x" ++ l) (append_assoc (hex_text number) (codes "):") rest)
+
 -- ---- a value
 
 value_long : (value : ℕ) → length (value_text value) ≡ 16
@@ -124,8 +98,10 @@ value_word value =
     let word = digits_are_word (value_text value) (omega (arith, size)) (sixteen_all lower_digits IsDigits-lower_digits value) in
     word_append (codes "0x") (value_text value) (lit≤ tt, refl, refl) word.1 word.2
 
-value_read : (value : ℕ) → value < 2 ^ 64 → whole_number 18 (codes "0x" ++ value_text value) ≡ Some value
-value_read value fits = rw (sixteen_read lower_digits IsDigits-lower_digits value fits, value_long value) refl
+value_hex : (value : ℕ) → value < 2 ^ 64 → IsHexOf value (value_text value)
+value_hex value fits =
+    let size = value_long value in
+    record { some = omega (arith, size); few = omega (arith, size); all = sixteen_all lower_digits IsDigits-lower_digits value; is = sixteen_number lower_digits IsDigits-lower_digits value fits }
 
 -- ---- a name
 
@@ -139,6 +115,126 @@ name_bytes (byte ∷ name) all =
     let here = name_byte byte parts.0 in
     let later = name_bytes name parts.1 in
     (rw here.0 later.0, rw here.1 later.1)
+
+-- ---- the rows, by any texts
+
+abbrev rows : List Row
+rows = rows_in X86INFO
+
+abbrev row_at : ℕ → Row
+row_at i = get_or rows i ([], TurnToUnread)
+
+-- a name or a number that isn't read
+record IsMarks (least : ℕ) (text : List ℕ) : Type 0 where
+  some : least ≤ length text
+  few : length text ≤ 4096
+  all : list_all (has Mark) text ≡ true
+
+mark : (byte : ℕ) → is_word_byte byte ≡ true → is_plain byte ≡ true → has Mark byte ≡ true
+mark byte word plain = grind (arith, nat_tests, word, plain)
+
+marks : (text : List ℕ) → list_all is_word_byte text ≡ true → list_all is_plain text ≡ true → list_all (has Mark) text ≡ true
+marks [] words plain = refl
+marks (byte ∷ text) words plain =
+    let w = and_parts (is_word_byte byte) (list_all is_word_byte text) words in
+    let p = and_parts (is_plain byte) (list_all is_plain text) plain in
+    rw (mark byte w.0 p.0) (marks text w.1 p.1)
+
+-- names and numbers that aren't read, each in front of what follows
+abbrev before_it : List (List ℕ × List ℕ) → List ℕ → List ℕ
+before_it [] rest = rest
+before_it (pair ∷ pairs) rest = codes "MTRR" ++ (pair.0 ++ (codes " " ++ (pair.1 ++ (codes " " ++ before_it pairs rest))))
+
+abbrev AreUnread : List (List ℕ × List ℕ) → Type 0
+AreUnread = AllByRecursion (λ pair. IsMarks 0 pair.0 × IsMarks 1 pair.1)
+
+module _ (digits value_digits name tail : List ℕ) (register value number : ℕ) (is_register : IsHexOf register digits) (is_value : IsHexOf value value_digits) (long : length value_digits ≡ 16) (small : register < 0x1000)
+    (named : IsMarks 0 name) (ends : is_end tail ≡ true) (line : List ℕ) (plain : list_all is_plain line ≡ true) where
+  abbrev Read : Type 0
+  Read = (column : ℕ) × (x86info_said number line ≡ shows_one None (Some register) (Some value) (record { line = number; column = column }))
+
+  abbrev own_texts : List (List ℕ)
+  own_texts = name ∷ codes " " ∷ codes "x" ∷ digits ∷ codes " " ∷ codes "x" ∷ value_digits ∷ []
+
+  own_fit : fit (items (drop 1 (row_at 2).0)) own_texts ≡ true
+  own_fit =
+      rw (
+        named.all,
+        within 0 4096 (length name) named.some named.few,
+        is_register.all,
+        within 1 16 (length digits) is_register.some is_register.few,
+        is_register.is,
+        is_value.all,
+        within 16 16 (length value_digits) (omega (arith, long)) (omega (arith, long)),
+        is_value.is,
+      ) refl
+
+  unread_within : (pair : List ℕ × List ℕ) → IsMarks 0 pair.0 × IsMarks 1 pair.1 → (is_within 0 4096 (length pair.0) ≡ true) × (is_within 1 4096 (length pair.1) ≡ true)
+  unread_within pair are = (within 0 4096 (length pair.0) are.0.some are.0.few, within 1 4096 (length pair.1) are.1.some are.1.few)
+
+  read : (pairs : List (List ℕ × List ℕ)) → AreUnread pairs → length pairs ≤ 2 → (bare : Bool)
+      → line ≡ before_it pairs (codes "MTRR" ++ (name ++ (codes " " ++ opened bare digits (codes " 0x" ++ (value_digits ++ tail))))) → Read
+  read [] are few false is =
+      register_says (take 2 rows) (row_at 2) (drop 3 rows) ([] ∷ own_texts) tail number register value line plain is refl refl
+      own_fit ends refl
+      (rw (is_register.is, is_value.is) refl) (rw (is_register.is, is_value.is) refl) small
+  read [] are few true is =
+      register_says (take 3 rows) (row_at 3) (drop 4 rows) ([] ∷ own_texts) tail number register value line plain is refl refl
+      own_fit ends refl
+      (rw (is_register.is, is_value.is) refl) (rw (is_register.is, is_value.is) refl) small
+  read (a ∷ []) are few false is =
+      let w = unread_within a are.0 in
+      register_says (take 4 rows) (row_at 4) (drop 5 rows) ([] ∷ a.0 ∷ codes " " ∷ a.1 ∷ codes " " ∷ own_texts) tail number register value line plain is refl refl
+      (rw (are.0.0.all, w.0, are.0.1.all, w.1) own_fit) ends refl
+      (rw (is_register.is, is_value.is) refl) (rw (is_register.is, is_value.is) refl) small
+  read (a ∷ []) are few true is =
+      let w = unread_within a are.0 in
+      register_says (take 5 rows) (row_at 5) (drop 6 rows) ([] ∷ a.0 ∷ codes " " ∷ a.1 ∷ codes " " ∷ own_texts) tail number register value line plain is refl refl
+      (rw (are.0.0.all, w.0, are.0.1.all, w.1) own_fit) ends refl
+      (rw (is_register.is, is_value.is) refl) (rw (is_register.is, is_value.is) refl) small
+  read (a ∷ b ∷ []) are few false is =
+      let v = unread_within a are.0 in
+      let w = unread_within b are.1.0 in
+      register_says (take 6 rows) (row_at 6) (drop 7 rows) ([] ∷ a.0 ∷ codes " " ∷ a.1 ∷ codes " " ∷ b.0 ∷ codes " " ∷ b.1 ∷ codes " " ∷ own_texts) tail number register value line plain is refl refl
+      (rw (are.0.0.all, v.0, are.0.1.all, v.1, are.1.0.0.all, w.0, are.1.0.1.all, w.1) own_fit) ends refl
+      (rw (is_register.is, is_value.is) refl) (rw (is_register.is, is_value.is) refl) small
+  read (a ∷ b ∷ []) are few true is =
+      let v = unread_within a are.0 in
+      let w = unread_within b are.1.0 in
+      register_says (take 7 rows) (row_at 7) [] ([] ∷ a.0 ∷ codes " " ∷ a.1 ∷ codes " " ∷ b.0 ∷ codes " " ∷ b.1 ∷ codes " " ∷ own_texts) tail number register value line plain is refl refl
+      (rw (are.0.0.all, v.0, are.0.1.all, v.1, are.1.0.0.all, w.0, are.1.0.1.all, w.1) own_fit) ends refl
+      (rw (is_register.is, is_value.is) refl) (rw (is_register.is, is_value.is) refl) small
+  read (a ∷ b ∷ c ∷ pairs) are few bare is = absurd (omega (arith, few))
+
+-- the line of more names than two
+abbrev unread : List Part
+unread = one (one (one ((codes "MTRR", run.Of Mark 0 4096) ∷ [])))
+  where
+    one : List Part → List Part
+    one parts = (codes "MTRR", run.Of Mark 0 4096) ∷ ([], run.Of Blank 1 4096) ∷ ([], run.Of Mark 1 4096) ∷ ([], run.Of Blank 1 4096) ∷ parts
+
+unread_said : (a b c : List ℕ × List ℕ) (name tail : List ℕ) (number : ℕ) (line : List ℕ) → AreUnread (a ∷ b ∷ c ∷ []) → IsMarks 0 name → is_end tail ≡ true → list_all is_plain line ≡ true
+    → line ≡ before_it (a ∷ b ∷ c ∷ []) (codes "MTRR" ++ (name ++ tail)) → x86info_said number line ≡ Nothing
+unread_said a b c name tail number line are named ends plain is =
+    let texts = a.0 ∷ codes " " ∷ a.1 ∷ codes " " ∷ b.0 ∷ codes " " ∷ b.1 ∷ codes " " ∷ c.0 ∷ codes " " ∷ c.1 ∷ codes " " ∷ name ∷ [] in
+    let fits : fit (items unread) texts ≡ true =
+    rw (
+      are.0.0.all,
+      within 0 4096 (length a.0) are.0.0.some are.0.0.few,
+      are.0.1.all,
+      within 1 4096 (length a.1) are.0.1.some are.0.1.few,
+      are.1.0.0.all,
+      within 0 4096 (length b.0) are.1.0.0.some are.1.0.0.few,
+      are.1.0.1.all,
+      within 1 4096 (length b.1) are.1.0.1.some are.1.0.1.few,
+      are.1.1.0.0.all,
+      within 0 4096 (length c.0) are.1.1.0.0.some are.1.1.0.0.few,
+      are.1.1.0.1.all,
+      within 1 4096 (length c.1) are.1.1.0.1.some are.1.1.0.1.few,
+      named.all,
+      within 0 4096 (length name) named.some named.few,
+    ) refl in
+    no_others unread rows [] number line (shown (length line) (items unread) texts tail no_fields) refl (row_reads unread line texts tail plain is refl fits ends)
 
 -- ---- a line
 
@@ -155,13 +251,6 @@ no_warning false bare name register first second others = refl
 
 within_limit : (n : ℕ) → n ≤ 4000 → nat_lt 4096 n ≡ false
 within_limit n le = grind (arith, nat_tests, le)
-
--- a value that is none
-not_shown : (test : Bool) (register : Option ℕ) (place : Place) → shows_one None register (if test then None else None) place ≡ Nothing
-not_shown true None place = refl
-not_shown true (Some number) place = refl
-not_shown false None place = refl
-not_shown false (Some number) place = refl
 
 module _ (names : Names) (are : AreNames names) (key : Key) (is_key : IsKey key) (value : ℕ) (tail : List ℕ) (few : length tail ≤ 200) (ends : goes_on tail ≡ false) (all : list_all is_field_byte tail ≡ true) where
   abbrev name_of : Key → List ℕ
@@ -232,61 +321,70 @@ module _ (names : Names) (are : AreNames names) (key : Key) (is_key : IsKey key)
     words : words_of (text ks) ≡ placed 0 (first ks ∷ later ks) tail
     words = ap words_of (is_line ks) ∙ words_of_pieces (first ks) (later ks) tail text_words (later_apart ks) ends (fields_plain tail all)
 
-    no_processor : (rest : List Key) → behind (codes "CPU #") (text rest) ≡ None
-    no_processor [] = refl
-    no_processor (k ∷ rest) = refl
-
-    said_words : (number : ℕ) → x86info_said number (text ks) ≡ said_by_words number (take 7 (placed 0 (first ks ∷ later ks) tail))
-    said_words number =
-        ap (λ line. said_by (behind (codes "CPU #") line) number (text ks)) (plain_ending (text ks) text_plain)
-        ∙ ap (λ found. said_by found number (text ks)) (no_processor ks)
-        ∙ ap (λ ws. said_by_words number (take 7 ws)) words
-
-    read_as : (number : ℕ) (said : LineSays) → said_by_words number (take 7 (placed 0 (first ks ∷ later ks) tail)) ≡ said → said_or_sizes said number (text ks) ≡ said → said_of X86info number (text ks) ≡ said
-    read_as number said by same = rw short (ap (λ s. said_or_sizes s number (text ks)) (said_words number ∙ by) ∙ same)
+    read_as : (number : ℕ) (said : LineSays) → x86info_said number (text ks) ≡ said → said_or_sizes said number (text ks) ≡ said → said_of X86info number (text ks) ≡ said
+    read_as number said by same = rw short (ap (λ s. said_or_sizes s number (text ks)) by ∙ same)
 
   -- ---- behind two names at most the register is read
 
-  abbrev front : List Key → List (ℕ × List ℕ)
-  front ks = take 7 (placed 0 (first ks ∷ later ks) tail)
+  abbrev pair : Key → List ℕ × List ℕ
+  pair k = (names k, number_of k)
 
-  -- the number of the word that is the register's name
-  abbrev at : List Key → ℕ
-  at [] = 0
-  at (k ∷ []) = 2
-  at (k ∷ l ∷ ks) = 4
+  name_marks : (k : Key) → IsMarks 0 (names k)
+  name_marks k =
+      let bytes = name_bytes (names k) (are k).1 in
+      let size = (are k).0 in
+      record { some = omega arith; few = omega (arith, size); all = marks (names k) bytes.0 bytes.1 }
 
-  found : (ks : List Key) → length ks ≤ 2 → first_read (front ks) ≡ at ks
-  found [] two =
-      ap (λ test. if test then 4 else if is_name (text_of (front []) 2) then 2 else 0)
-      (second_word (words_from (0 + 0 + length (name_of key) + 1 + length (number_of key) + 1 + length (codes "0x" ++ value_text value)) tail)
-      (field_words (0 + 0 + length (name_of key) + 1 + length (number_of key) + 1 + length (codes "0x" ++ value_text value)) tail all))
-  found (k ∷ []) two = refl
-  found (k ∷ l ∷ []) two = refl
-  found (k ∷ l ∷ m ∷ ks) two = absurd (omega (arith, two))
+  unread_pair : (k : Key) → IsKey k → IsMarks 0 (names k) × IsMarks 1 (number_of k)
+  unread_pair k is =
+      let word = number_word (number_at k) (low k is) (is_bare k) in
+      let size = number_short (number_at k) (low k is) (is_bare k) in
+      (name_marks k, record { some = word.0; few = omega (arith, size); all = marks (number_of k) word.1 word.2 })
 
-  pub place : List Key → ℕ → Place
-  place ks number = place_of number (front ks) (at ks + 2)
+  unread_pairs : (ks : List Key) → AreKeys ks → AreUnread (map pair ks)
+  unread_pairs [] keys = tt
+  unread_pairs (k ∷ ks) keys = (unread_pair k keys.0, unread_pairs ks keys.1)
 
-  by_parts : (ks : List Key) (number : ℕ) → length ks ≤ 2 → value < 2 ^ 64
-      → register_from (at ks) number (front ks) ≡ shows_one None (named_register (number_of key)) (whole_number 18 (codes "0x" ++ value_text value)) (place ks number)
-  unfolding place
-  by_parts [] number two fits = refl
-  by_parts (k ∷ []) number two fits = refl
-  by_parts (k ∷ l ∷ []) number two fits = refl
-  by_parts (k ∷ l ∷ m ∷ ks) number two fits = absurd (omega (arith, two))
+  is_before : (ks : List Key) → text ks ≡ before_it (map pair ks) (codes "MTRR" ++ (names key ++ (codes " " ++ opened (is_bare key) (hex_text (number_at key)) (codes " 0x" ++ (value_text value ++ tail)))))
+  is_before [] = ap (λ (l : List ℕ). codes "MTRR" ++ (names key ++ (codes " " ++ l))) (is_opened (is_bare key) (number_at key) (codes " 0x" ++ (value_text value ++ tail)))
+  is_before (k ∷ ks) = ap (λ (l : List ℕ). codes "MTRR" ++ (names k ++ (codes " " ++ (number_of k ++ (codes " " ++ l))))) (is_before ks)
 
-  front_said : (ks : List Key) → length ks ≤ 2 → (number : ℕ) → value < 2 ^ 64 → said_by_words number (front ks) ≡ shows_one None (Some (number_at key)) (Some value) (place ks number)
-  front_said ks two number fits =
-      ap (λ at. register_from at number (front ks)) (found ks two)
-      ∙ by_parts ks number two fits
-      ∙ ap (λ r. shows_one None r (whole_number 18 (codes "0x" ++ value_text value)) (place ks number)) (number_read (number_at key) (low key is_key) (is_bare key))
-      ∙ ap (λ v. shows_one None (Some (number_at key)) v (place ks number)) (value_read value fits)
+  ends_row : (rest : List ℕ) → goes_on rest ≡ false → is_end rest ≡ true
+  ends_row [] none = refl
+  ends_row (byte ∷ rest) none = grind (arith, nat_tests, none)
 
-  pub register_said : (ks : List Key) → AreKeys ks → length ks ≤ 2 → (number : ℕ) → value < 2 ^ 64 → said_of X86info number (text ks) ≡ shows_one None (Some (number_at key)) (Some value) (place ks number)
-  register_said ks keys two number fits = read_as ks keys (omega (arith, two)) number (shows_one None (Some (number_at key)) (Some value) (place ks number)) (front_said ks two number fits) refl
+  pairs_long : (ks : List Key) → length (map pair ks) ≡ length ks
+  pairs_long [] = refl
+  pairs_long (k ∷ ks) = let later = pairs_long ks in omega (arith, later)
+
+  own_said : (ks : List Key) → AreKeys ks → length ks ≤ 2 → (number : ℕ) → value < 2 ^ 64
+      → (column : ℕ) × (x86info_said number (text ks) ≡ shows_one None (Some (number_at key)) (Some value) (record { line = number; column = column }))
+  own_said ks keys two number fits =
+      let small = low key is_key in
+      let size = pairs_long ks in
+      read (hex_text (number_at key)) (value_text value) (names key) tail (number_at key) value number (number_hex (number_at key) small) (value_hex value fits) (value_long value) small
+      (name_marks key) (ends_row tail ends) (text ks) (text_plain ks keys (omega (arith, two))) (map pair ks) (unread_pairs ks keys) (omega (arith, size, two)) (is_bare key) (is_before ks)
+
+  pub register_said : (ks : List Key) → AreKeys ks → length ks ≤ 2 → (number : ℕ) → value < 2 ^ 64
+      → (column : ℕ) × (said_of X86info number (text ks) ≡ shows_one None (Some (number_at key)) (Some value) (record { line = number; column = column }))
+  register_said ks keys two number fits =
+      let said = own_said ks keys two number fits in
+      (said.0, read_as ks keys (omega (arith, two)) number (shows_one None (Some (number_at key)) (Some value) (record { line = number; column = said.0 })) said.1 refl)
 
   -- ---- behind more it isn't
+
+  -- what stands behind the first name
+  abbrev behind_first : List Key → List ℕ
+  behind_first [] = codes " " ++ (number_of key ++ (codes " 0x" ++ (value_text value ++ tail)))
+  behind_first (k ∷ ks) = codes " " ++ (number_of k ++ (codes " " ++ text ks))
+
+  is_named : (ks : List Key) → text ks ≡ codes "MTRR" ++ (names (head ks) ++ behind_first ks)
+  is_named [] = refl
+  is_named (k ∷ ks) = refl
+
+  is_blank_behind : (ks : List Key) → is_end (behind_first ks) ≡ true
+  is_blank_behind [] = refl
+  is_blank_behind (k ∷ ks) = refl
 
   pub nothing_said : (ks : List Key) → AreKeys ks → 2 < length ks → length ks ≤ 30 → (number : ℕ) → said_of X86info number (text ks) ≡ Nothing
   nothing_said [] keys more size number = absurd (omega (arith, more))
@@ -294,9 +392,10 @@ module _ (names : Names) (are : AreNames names) (key : Key) (is_key : IsKey key)
   nothing_said (k ∷ l ∷ []) keys more size number = absurd (omega (arith, more))
   nothing_said (k ∷ l ∷ m ∷ ks) keys more size number =
       read_as (k ∷ l ∷ m ∷ ks) keys size number Nothing
-      (not_shown (length (name_of (head ks)) == 18) (named_register (number_of m)) (place_of number (front (k ∷ l ∷ m ∷ ks)) 6))
+      (unread_said (pair k) (pair l) (pair m) (names (head ks)) (behind_first ks) number (text (k ∷ l ∷ m ∷ ks)) (unread_pair k keys.0, (unread_pair l keys.1.0, (unread_pair m keys.1.1.0, tt)))
+      (name_marks (head ks)) (is_blank_behind ks) (text_plain (k ∷ l ∷ m ∷ ks) keys size) (ap (before_it (pair k ∷ pair l ∷ pair m ∷ [])) (is_named ks)))
       (ap (said_in_each_of number) (words (k ∷ l ∷ m ∷ ks) keys size)
-      ∙ ap (λ warns. if warns then Warns else sizes_by_words number (front (k ∷ l ∷ m ∷ ks))) (no_warning (is_iso (name_of k)) (is_bare k) (names k) (number_at k) 0 (0 + 0 + length (name_of k) + 1)
+      ∙ ap (λ warns. if warns then Warns else sizes_by_words number (take 7 (placed 0 (first (k ∷ l ∷ m ∷ ks) ∷ later (k ∷ l ∷ m ∷ ks)) tail))) (no_warning (is_iso (name_of k)) (is_bare k) (names k) (number_at k) 0 (0 + 0 + length (name_of k) + 1)
       (placed (0 + 0 + length (name_of k) + 1 + length (number_of k)) ((1, name_of l) ∷ later (l ∷ m ∷ ks)) tail)))
 
 -- ---- the line of 0FEH tells the format
@@ -348,13 +447,26 @@ module _ (names : Names) (are : AreNames names) (value : ℕ) (tail : List ℕ) 
 
   own : (number : ℕ) → value < 2 ^ 64 → tells X86info number line ≡ true
   unfolding tells
-  own number fits = ap is_telling (said_words names are None tt value tail few ends all [] tt (lit≤ tt) number ∙ front_said names are None tt value tail few ends all [] (lit≤ tt) number fits)
+  own number fits = ap is_telling (own_said names are None tt value tail few ends all [] tt (lit≤ tt) number fits).1
+
+  -- The row that reads it is apart from those of inteltool.
+  no_inteltool : (number : ℕ) → tells Inteltool number line ≡ false
+  unfolding tells
+  no_inteltool number =
+      let unread = unread_pair names are None tt value tail few ends all None tt in
+      let size = unread.1.few in
+      let texts = names None ∷ codes " " ∷ drop 1 (number_text false 0xfe) ∷ [] in
+      let front : List Part = (codes "MTRR", run.Of Mark 0 4096) ∷ ([], run.Of Blank 1 4096) ∷ (codes "(", run.Of Mark 0 4096) ∷ [] in
+      let behind = codes " 0x" ++ (value_text value ++ tail) in
+      let fits : fit (items front) texts ≡ true =
+      rw (unread.0.all, within 0 4096 (length (names None)) unread.0.some unread.0.few, unread.1.all, within 0 4096 (length (drop 1 (number_text false 0xfe))) (omega arith) (omega (arith, size))) refl in
+      ap is_telling (no_others front (rows_in INTELTOOL) [] number line (shown (length line) (items front) texts behind no_fields) refl
+      (row_reads front line texts behind (text_plain names are None tt value tail few ends all [] tt (lit≤ tt)) refl refl fits refl))
 
   pub told : (number : ℕ) → value < 2 ^ 64 → IsOfNoHost line → format_told number line ≡ Some X86info
   told number fits host =
       let xen : tells Xen number line ≡ false = xen_by number line line_words found_words in
-      let inteltool : tells Inteltool number line ≡ false = inteltool_by number line line_words found_words in
-      rw (short names are None tt value tail few ends all [] tt (lit≤ tt), xen, no_linux number host, no_coreboot number, no_edk2 number, inteltool, own number fits) refl
+      rw (short names are None tt value tail few ends all [] tt (lit≤ tt), xen, no_linux number host, no_coreboot number, no_edk2 number, no_inteltool number, own number fits) refl
 
 -- ---- the line on sizes
 
@@ -392,9 +504,10 @@ module _ (width virtual : ℕ) (wide : width < 65) (few : virtual < 65) where
   pub size_said : (number : ℕ) → said_of X86info number (size_line width virtual) ≡ Width width (size_place number)
   unfolding size_place
   size_said number =
+      let front : List Part = (codes "Address", run.Nothing) ∷ [] in
+      let behind = codes " sizes : " ++ (decimal width ++ (codes " bits physical, " ++ (decimal virtual ++ codes " bits virtual"))) in
       let own : x86info_said number (size_line width virtual) ≡ Nothing =
-      ap (λ line. said_by (behind (codes "CPU #") line) number (size_line width virtual)) (plain_ending (size_line width virtual) size_plain)
-      ∙ ap (λ ws. said_by_words number (take 7 ws)) size_found in
+      no_others front rows [] number (size_line width virtual) no_fields refl (row_reads front (size_line width virtual) [] behind size_plain refl refl refl refl) in
       rw size_short
       (ap (λ s. said_or_sizes s number (size_line width virtual)) own
       ∙ ap (said_in_each_of number) size_found

@@ -10,11 +10,12 @@ use Rattle.mt_regs.specs.declared.registers.Register.TheVariants.{PhysBase, Phys
 use Rattle.mt_regs.specs.RegisterFile.{RegisterFile, has_fixed}
 use Rattle.mt_regs.specs.Registers.{IsWithin, pair_registers}
 use Rattle.mt_import.specs.declared.format.Format.TheVariants.{X86info}
+use Rattle.mt_import.specs.Pieces.{shows_one}
 use Rattle.mt_import.specs.Shown.{said_of, tells}
 use Rattle.mt_import.specs.Supplied.{Supplied}
 use Rattle.mt_import_laws.specs.FirstLine.{IsOfNoHost, LinesTellFirst, only_turns, says_same}
 use Rattle.mt_import_laws.specs.Origins.{IsAmong}
-use Rattle.mt_import_laws.specs.Printed.{Key, TableReadsBack, value_in}
+use Rattle.mt_import_laws.specs.Printed.{Key, TableReadsBack, number_at, value_in}
 use Rattle.mt_import_laws.specs.PrintedByX86info.{Print, SuitsX86info, cpu_lines, first_behind, last_keys, later_fixed, line_behind, line_of, read_count, read_pairs, register_lines, size_line, size_lines, unread, unread_pairs, x86info_lines}
 use Rattle.mt_import_laws.proofs.Among.{all_map, among_join, among_map, each_among, join_among_first, join_among_second, map_among}
 use Rattle.mt_import_laws.proofs.KeyLines.{ShowsAlone, alone_shows, alone_true, has_line, lines_true}
@@ -22,7 +23,7 @@ use Rattle.mt_import_laws.proofs.Keys.{IsKey}
 use Rattle.mt_import_laws.proofs.PrintedBack.{HasLine, IsGiven, IsInFile, WidthLine, fits, key_in_file, table_back}
 use Rattle.mt_import_laws.proofs.TableLines.{IsTrueSaid, all_join}
 use Rattle.mt_import_laws.proofs.Whole.{any_bits}
-use Rattle.mt_import_laws.proofs.X86infoLines.{nothing_said, place, register_said, size_place, size_plain, size_said, text_plain, told}
+use Rattle.mt_import_laws.proofs.X86infoLines.{nothing_said, register_said, size_place, size_plain, size_said, text_plain, told}
 
 -- ---- the registers of pairs
 
@@ -181,14 +182,19 @@ module _ (at : ℕ) (print : Print) (file : RegisterFile) (supplied : Supplied) 
   is_key : (key : Key) → IsInFile file key → IsKey key
   is_key key within = key_in_file file key suits.is_file within
 
+  said : (unread : List Key) → AllByRecursion IsKey unread → length unread ≤ 2 → (key : Key) → IsInFile file key → (number : ℕ)
+      → (column : ℕ) × (said_of X86info number (line_behind print file unread key) ≡ shows_one None (Some (number_at key)) (Some (value_in file key)) (record { line = number; column = column }))
+  said unread keys two key within number =
+      let fields = suits.are_fields key in
+      register_said print.names suits.are_names key (is_key key within) (value_in file key) (print.fields key) fields.0 fields.1 fields.2 unread keys two number (fit key within)
+
   shows : (unread : List Key) → AllByRecursion IsKey unread → length unread ≤ 2 → (key : Key) → IsInFile file key → ShowsAlone at file X86info key (line_behind print file unread key)
   shows unread keys two key within =
-      let fields = suits.are_fields key in
       record {
         processor = None;
         own = refl;
-        place = place print.names suits.are_names key (is_key key within) (value_in file key) (print.fields key) fields.0 fields.1 fields.2 unread;
-        said = λ number. register_said print.names suits.are_names key (is_key key within) (value_in file key) (print.fields key) fields.0 fields.1 fields.2 unread keys two number (fit key within);
+        place = λ number. record { line = number; column = (said unread keys two key within number).0 };
+        said = λ number. (said unread keys two key within number).1;
       }
 
   plain : (unread : List Key) → AllByRecursion IsKey unread → length unread ≤ 30 → (key : Key) → IsInFile file key → list_all is_plain (line_behind print file unread key) ≡ true

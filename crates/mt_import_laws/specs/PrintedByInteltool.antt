@@ -1,12 +1,16 @@
 -- What inteltool prints of a processor's MTRRs with -M (coreboot 25.09 and 4.15, util/inteltool/cpu.c, `print_intel_msrs`).
 --     inteltool_lines names file      the lines of the registers of a file, behind those of the sections
-use Rattle.std.specs.Prelude.{ℕ, ◌≡◌, ◌≤◌, ◌/◌, ◌%◌, ◌&&◌, nat_lt, Bool, true, codes, List, ◌∷◌, ◌++◌, length, map, None, Some}
+use Rattle.std.specs.Prelude.{ℕ, ◌≡◌, ◌≤◌, ◌<◌, ◌/◌, ◌%◌, ◌&&◌, nat_lt, Bool, true, codes, decimal, List, ◌∷◌, ◌++◌, length, map, None, Some}
 use Rattle.std.specs.List.{list_all}
 use Rattle.std.specs.Int.{to_be_bytes, w32}
 use Rattle.hex.specs.Hex.{encode_upper}
 use Rattle.mt_regs.specs.RegisterFile.{IsRegisterFile, RegisterFile}
 use Rattle.mt_regs.specs.Registers.{writable}
 use Rattle.mt_regs.specs.Words.{HasWords}
+use Rattle.mt_import.specs.declared.format.Format.TheVariants.{Inteltool}
+use Rattle.mt_import.specs.declared.reading.LineSays.TheVariants.{Turns}
+use Rattle.mt_import.specs.declared.reading.Turn.TheVariants.{To, Unread}
+use Rattle.mt_import.specs.Shown.{said_of}
 use Rattle.mt_import.specs.Supplied.{Supplied}
 use Rattle.mt_import_laws.specs.Printed.{Agrees, Key, number_at, value_in}
 
@@ -33,6 +37,10 @@ line_of names file key = register_line (number_at key) (value_in file key) (name
 abbrev pub shared_header : List ℕ
 shared_header = codes "===================== SHARED MSRs (All Cores) ====================="
 
+-- `====================== UNIQUE MSRs  (core %d) ======================`
+abbrev pub core_line : ℕ → List ℕ
+core_line core = codes "====================== UNIQUE MSRs  (core " ++ (decimal core ++ codes ") ======================")
+
 abbrev pub unique_header : List ℕ
 unique_header = codes "====================== UNIQUE MSRs  (core 0) ======================"
 
@@ -54,3 +62,9 @@ pub record SuitsInteltool (names : Names) (file : RegisterFile) (supplied : Supp
   pub has_words : HasWords file
   pub agrees : Agrees supplied file
   pub width : supplied.width ≡ Some file.width
+
+-- The lines of the sections turn to the processors whose registers follow.
+pub record CoresTurn : Type 0 where
+  pub core : (core number : ℕ) → core < 65 → said_of Inteltool number (core_line core) ≡ Turns (To core)
+  pub shared : (number : ℕ) → said_of Inteltool number shared_header ≡ Turns (To 0)
+  pub unread : (number : ℕ) → said_of Inteltool number (codes "====================== UNIQUE MSRs  (core x) ======================") ≡ Turns Unread

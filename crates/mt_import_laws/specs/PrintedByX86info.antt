@@ -106,9 +106,9 @@ x86info_lines print file = codes "MTRR registers:" ∷ (register_lines print fil
 
 -- ---- the files that can be printed
 
--- a printed byte that begins neither a comment nor a name
+-- a printed byte that begins no comment
 abbrev pub is_field_byte : ℕ → Bool
-is_field_byte byte = nat_lt 31 byte && nat_lt byte 127 && not (byte == 35) && not (byte == 77)
+is_field_byte byte = nat_lt 31 byte && nat_lt byte 127 && not (byte == 35)
 
 -- each begins with a blank, if it isn't empty
 abbrev pub AreFields : (Key → List ℕ) → Type 0

@@ -10,7 +10,7 @@ ghost use Rattle.mt_import_laws.specs.FirstLine.{IsOfNoHost, LinesTellFirst};
 ghost use Rattle.mt_import_laws.specs.Printed.{ReadsAs, TableReadsBack, TableReadsInOrder, TellsNoMore, TextReadsAs, TextReadsBack, dump_of_all};
 ghost use Rattle.mt_import_laws.specs.PrintedByCoreboot.{SuitsCoreboot, Tails, coreboot_lines, line_of as coreboot_line};
 ghost use Rattle.mt_import_laws.specs.PrintedByEdk2.{SuitsEdk2, edk2_lines, pair_line};
-ghost use Rattle.mt_import_laws.specs.PrintedByInteltool.{Names, SuitsInteltool, inteltool_lines, line_of as inteltool_line};
+ghost use Rattle.mt_import_laws.specs.PrintedByInteltool.{CoresTurn, Names, SuitsInteltool, inteltool_lines, line_of as inteltool_line};
 ghost use Rattle.mt_import_laws.specs.PrintedByRdmsr.{SuitsRdmsr, SuitsRdmsrOfAll, all_line, call_line, hex_text, rdmsr_all_lines, rdmsr_lines, rdmsr_text};
 ghost use Rattle.mt_import_laws.specs.PrintedByX86info.{Print, SuitsX86info, SuitsX86infoOfAll, cpu_line, cpu_lines, files_in, line_of as x86info_line, size_line, x86info_lines};
 ghost use Rattle.mt_import_laws.specs.PrintedByLinux.{Log, SuitsLinux, linux_lines};
@@ -35,6 +35,11 @@ pub fn what_rdmsr_prints_of_all_reads_back()
 pub fn what_inteltool_prints_reads_back()
     ensures { (names : Names) (file : RegisterFile) (supplied : Supplied) → SuitsInteltool names file supplied
         → TableReadsBack Inteltool (inteltool_lines names file) supplied file }
+{}
+
+/// What inteltool prints in front of a core's registers turns to this core.
+pub fn what_inteltool_prints_of_a_core_turns_to_it()
+    ensures { CoresTurn }
 {}
 
 /// What x86info prints of a register file reads back as the file, if words supply what it doesn't print, and what stands behind

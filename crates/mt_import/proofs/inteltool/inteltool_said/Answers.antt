@@ -1,7 +1,0 @@
-use Rattle.std.proofs.Common.{◌∙◌, ap}
-use Rattle.mt_text.specs.Words.{FirstWords}
-use Rattle.mt_import.specs.Inteltool.{said_by_words}
-use Rattle.mt_import.proofs.inteltool.inteltool_said.Goals as goal
-
-pub returns : goal.returns
-returns c = c.said_by_words.ensures ∙ ap (λ (w : FirstWords). said_by_words w.number w.words) c.first_words.ensures
