@@ -13,6 +13,7 @@ pub mod Xen
 pub mod Edk2
 pub mod Shown
 pub mod Supplied
+pub mod Digits
 pub mod Values
 pub mod Outcome
 pub mod Reader

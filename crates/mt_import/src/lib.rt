@@ -2,6 +2,7 @@
 #![tactic(auto)]
 
 mod coreboot;
+mod digits;
 mod dumping;
 mod edk2;
 mod fault;
@@ -28,6 +29,7 @@ mod writing;
 mod x86info;
 mod xen;
 
+pub use digits::rows_have_their_digits;
 pub use fault::{ImportFault, Rival};
 pub use format::{Choice, Format};
 pub use inteltool::INTELTOOL;

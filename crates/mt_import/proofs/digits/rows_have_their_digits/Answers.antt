@@ -1,0 +1,8 @@
+use Rattle.std.proofs.Common.{refl}
+use Rattle.mt_import.proofs.digits.rows_have_their_digits.Goals as goal
+
+pub returns-clause-inteltool : goal.returns-clause-inteltool
+returns-clause-inteltool c = (refl, (refl, (refl, (refl, tt))))
+
+pub returns-clause-x86info : goal.returns-clause-x86info
+returns-clause-x86info c = (refl, (refl, (refl, (refl, (refl, (refl, (refl, (refl, tt))))))))
