@@ -1,8 +1,10 @@
-ghost use Rattle.std.specs.Prelude.{◌≡◌, ℕ, ◌<◌, ◌+◌, ◌-◌, ◌^◌, nat_lt, true, slice_index_or, if◌then◌else◌};
+ghost use Rattle.std.specs.Prelude.{◌≡◌, ◌<◌, ◌+◌, ◌-◌, ◌/◌, ◌^◌, [], nat_lt, false, true, slice_index_or, if◌then◌else◌};
 ghost use Rattle.std.specs.List.{list_all};
 ghost use Rattle.mt_kinds.specs.Bits.{is_bit_set};
-ghost use Rattle.mt_regs.specs.RegisterFile.{RegisterFile};
 ghost use Rattle.mt_regs.specs.Registers.{writable};
+ghost use Rattle.mt_cache.specs.Lines.{change_line, clean_word};
+ghost use Rattle.mt_machine.specs.Memory.{word_of};
+ghost use Rattle.mt_machine.specs.Bus.{with_lines};
 ghost use Rattle.mt_machine.specs.Machine.{FitsGoal, after_drop, after_flush, flush_tlb, own_step, with_goal, without_enable, write_back_event, write_back_or_drop};
 ghost use Rattle.mt_list_machine.specs.Calls.{HasPlace};
 
@@ -146,7 +148,7 @@ pub(crate) fn put_phase(cpu: &mut Cpu, phase: Phase)
 }
 
 fn set_no_fill(cpu: &mut Cpu)
-    ensures { (goal : RegisterFile) → cpu.new ≡ own_step goal Event.SetNoFill cpu.old }
+    ensures { cpu.new ≡ record cpu.old { cache_disabled = true; phase = Phase.NoFill } }
 {
     cpu.cd = true;
     cpu.phase = Phase::NoFill;
@@ -154,28 +156,28 @@ fn set_no_fill(cpu: &mut Cpu)
 
 // The word at an address is clean.
 fn clean(cpu: &mut Cpu, address: u64)
-    ensures { (goal : RegisterFile) (value : ℕ) → cpu.new ≡ own_step goal (Event.WriteBack address value) cpu.old }
+    ensures { cpu.new ≡ with_lines (change_line (address / 64) (clean_word (word_of address))) cpu.old }
 {
     let word = (address % LINE_BYTES / WORD_BYTES) as u8;
     lines::clean_word(cpu.lines.as_mut_slice(), address / LINE_BYTES, word);
 }
 
 fn drop_lines(cpu: &mut Cpu)
-    ensures { (goal : RegisterFile) → cpu.new ≡ own_step goal Event.DropLines cpu.old }
+    ensures { cpu.new ≡ record cpu.old { lines = []; phase = after_drop cpu.old.phase } }
 {
     cpu.lines.clear();
     cpu.phase = after_drop(cpu.phase);
 }
 
 fn set_normal(cpu: &mut Cpu)
-    ensures { (goal : RegisterFile) → cpu.new ≡ own_step goal Event.SetNormal cpu.old }
+    ensures { cpu.new ≡ record cpu.old { cache_disabled = false; phase = Phase.Normal } }
 {
     cpu.cd = false;
     cpu.phase = Phase::Normal;
 }
 
 fn restore_pge(cpu: &mut Cpu)
-    ensures { (goal : RegisterFile) → cpu.new ≡ own_step goal Event.RestorePge cpu.old }
+    ensures { cpu.new ≡ record cpu.old { page_global = cpu.old.remembered_global; remembered_global = false; phase = Phase.Restored } }
 {
     cpu.pge = cpu.had_pge;
     cpu.had_pge = false;
@@ -184,7 +186,7 @@ fn restore_pge(cpu: &mut Cpu)
 
 fn release(cpu: &mut Cpu)
     requires { cpu.old.era < 2 ^ 64 - 1 }
-    ensures { (goal : RegisterFile) → cpu.new ≡ own_step goal Event.Release cpu.old }
+    ensures { cpu.new ≡ record cpu.old { phase = Phase.Running; era = cpu.old.era + 1 } }
 {
     cpu.phase = Phase::Running;
     cpu.era += 1;
