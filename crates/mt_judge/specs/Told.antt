@@ -8,7 +8,7 @@ use Rattle.mt_machine.specs.System.{Processor}
 use Rattle.mt_procedure.specs.Dues.{IsDue, is_unfinished}
 use Rattle.mt_search.specs.Listed.{wrongs_in}
 use Rattle.mt_judge.specs.Ordered.{AreRightSteps, AreWhole, IsWhole, ordered, part_of}
-use Rattle.mt_procedure.specs.Runs.{Case, IsRun, State, due_of, may_go, moved, next_move, phase_in, procedure_order, run, step_at}
+use Rattle.mt_procedure.specs.Runs.{Case, IsRun, State, may_go, moved, next_move, phase_in, procedure_order, run, step_at, told_due}
 use Rattle.mt_search.specs.Wrongs.{fault_of}
 use Rattle.mt_procedure.specs.declared.moves.Move.{Move}
 use Rattle.mt_judge.specs.declared.one_run.JudgedRun.{JudgedRun}
