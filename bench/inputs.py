@@ -1,6 +1,7 @@
 #!/usr/bin/env python3
-"""The inputs of bench/run and of tools/nightly: dumps and scripts, the same on each machine.
-    bench/inputs.py NAME [BYTES]    writes one to standard output, cut to whole rounds of at most so many bytes
+"""The inputs of bench/run and of tools/counts: dumps and scripts, the same on each machine.
+    bench/inputs.py NAME [BYTES]    writes one to standard output: a dump of so many bytes, from 42 on, or as many whole rounds as so many bytes
+                                    have room for, behind a script's machine, which is written in any case
     bench/inputs.py                 the names"""
 import random
 import sys
