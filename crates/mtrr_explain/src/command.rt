@@ -37,11 +37,11 @@ pub enum Question {
 
 /// What the words of a command line ask for, but for the files.
 #[derive(Clone, Copy)]
-pub struct Asked {
+pub struct Asked<'a> {
     pub question: Question,
     pub form: Form,
-    /// Whether each word is UTF-8.
-    pub is_text: bool,
+    /// The words that aren't UTF-8, with U+FFFD for what isn't.
+    pub garbled: &'a [String],
 }
 
 fn positional<'a>(alloc: Global, name: &'static str, help: &'static str) -> Arg<'a> {
@@ -168,7 +168,11 @@ fn question_of(name: &str, matches: &ArgMatches<'_>) -> Result<Question> {
 }
 
 /// What a command and its words ask for.
-pub fn asked_of(name: &str, matches: &ArgMatches<'_>, is_text: bool) -> Result<Asked> {
+pub fn asked_of<'a>(
+    name: &str,
+    matches: &ArgMatches<'_>,
+    garbled: &'a [String],
+) -> Result<Asked<'a>> {
     let form = if matches.get_flag("json") {
         Form::Json
     } else {
@@ -177,6 +181,6 @@ pub fn asked_of(name: &str, matches: &ArgMatches<'_>, is_text: bool) -> Result<A
     Ok(Asked {
         question: question_of(name, matches)?,
         form,
-        is_text,
+        garbled,
     })
 }

@@ -51,10 +51,10 @@ fn print_answer<R: Print + Eprint>(rt: &R, answer: &Answer) -> Option<Verdict> {
 // Reads a dump, and names the file if there is trouble.
 fn read_named<R: Files + Input + AllocGlobal>(
     rt: &R,
-    asked: &Asked,
+    asked: &Asked<'_>,
     file: &str,
 ) -> Result<GivenDump> {
-    match read(rt, file, asked.is_text) {
+    match read(rt, file, asked.garbled) {
         Ok(given) => Ok(given),
         Err(error) => bail!("{file}: {error:#}"),
     }
@@ -62,7 +62,7 @@ fn read_named<R: Files + Input + AllocGlobal>(
 
 fn diff_of_files<R: Files + Input + AllocGlobal>(
     rt: &R,
-    asked: &Asked,
+    asked: &Asked<'_>,
     old: &str,
     new: &str,
 ) -> Result<Answer> {
@@ -81,7 +81,7 @@ fn diff_of_files<R: Files + Input + AllocGlobal>(
 
 fn diff_of_cpus<R: Files + Input + AllocGlobal>(
     rt: &R,
-    asked: &Asked,
+    asked: &Asked<'_>,
     file: &str,
     cpus: (u32, u32),
 ) -> Result<Answer> {
@@ -98,7 +98,7 @@ fn diff_of_cpus<R: Files + Input + AllocGlobal>(
 
 fn diff<R: Files + Input + AllocGlobal>(
     rt: &R,
-    asked: &Asked,
+    asked: &Asked<'_>,
     cpus: Option<(u32, u32)>,
     files: &[&str],
 ) -> Result<Answer> {
@@ -110,9 +110,9 @@ fn diff<R: Files + Input + AllocGlobal>(
 }
 
 // The answer about one of the files.
-fn about<R: Files + Input + AllocGlobal>(rt: &R, asked: &Asked, file: &str) -> Result<Answer> {
+fn about<R: Files + Input + AllocGlobal>(rt: &R, asked: &Asked<'_>, file: &str) -> Result<Answer> {
     let alloc = rt.alloc();
-    let given = read(rt, file, asked.is_text)?;
+    let given = read(rt, file, asked.garbled)?;
     let dump = Named {
         file,
         given: &given,
@@ -127,7 +127,7 @@ fn about<R: Files + Input + AllocGlobal>(rt: &R, asked: &Asked, file: &str) -> R
 // Answers for each file. One without an answer doesn't keep the others from theirs.
 fn tell_each<R: Files + Input + Print + Eprint + AllocGlobal>(
     rt: &R,
-    asked: &Asked,
+    asked: &Asked<'_>,
     files: &[&str],
 ) -> Verdict {
     let mut verdict = Verdict::Nothing;
@@ -149,7 +149,7 @@ fn tell_each<R: Files + Input + Print + Eprint + AllocGlobal>(
 fn tell<R: Files + Input + Print + Eprint + AllocGlobal>(
     rt: &R,
     matches: &ArgMatches<'_>,
-    is_text: bool,
+    garbled: &[String],
 ) -> Result<Verdict> {
     let Some((name, matches)) = matches.subcommand() else {
         return Ok(Verdict::Trouble);
@@ -157,7 +157,7 @@ fn tell<R: Files + Input + Print + Eprint + AllocGlobal>(
     let Some(files) = matches.get_strs("FILE") else {
         return Ok(Verdict::Trouble);
     };
-    let asked = asked_of(name, matches, is_text)?;
+    let asked = asked_of(name, matches, garbled)?;
     match asked.question {
         Question::Diff { cpus } => {
             let answer = diff(rt, &asked, cpus, files)?;
@@ -170,7 +170,7 @@ fn tell<R: Files + Input + Print + Eprint + AllocGlobal>(
 fn answer<R: Env + Files + Input + Print + Eprint + AllocGlobal>(rt: &R) -> Result<Verdict> {
     let words = words_of(rt)?;
     match command(rt.alloc())?.try_get_matches_from(words.words.as_slice()) {
-        Ok(matches) => tell(rt, &matches, words.are_text),
+        Ok(matches) => tell(rt, &matches, words.garbled.as_slice()),
         Err(error) => {
             let is_help = !error.use_stderr();
             Ok(if is_written(rt, error.print(rt)) && is_help {
