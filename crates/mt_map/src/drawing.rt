@@ -1,57 +1,115 @@
-ghost use Rattle.std.specs.Prelude.{◌≡◌};
+ghost use Rattle.std.specs.Prelude.{◌≡◌, ◌<◌};
 ghost use Rattle.mt_map.specs.Bands.{is_different};
 ghost use Rattle.mt_map.specs.Shapes.{label};
 
+use crate::drawing::Part::{Decimal, Hex, Text};
 use crate::{Band, Rect};
+use itoa::Buffer;
+use mt_dump::value_text;
 use mt_regs::{PageType, same_page_type};
 use std::alloc::AllocError;
 
-fn append_place(text: &mut String, x: u64, y: u64) -> Result<(), AllocError> {
-    write!(text, "' x='{x}' y='{y}")
+/// A part of a text: bytes, or a number behind bytes.
+#[derive(Clone, Copy)]
+pub(crate) enum Part<'a> {
+    Text(&'a [u8]),
+    Decimal(&'a [u8], u64),
+    Hex(&'a [u8], u64),
 }
 
-/// Adds a width and a height.
-pub(crate) fn append_extent(text: &mut String, width: u64, height: u64) -> Result<(), AllocError> {
-    write!(text, "' width='{width}' height='{height}")
+fn append_decimal(text: &mut Vec<u8>, n: u64) -> Result<(), AllocError> {
+    let mut buffer = Buffer::new();
+    text.extend_from_slice(buffer.format(n).as_bytes())
+}
+
+// The place of the first digit that isn't 0, or of the last one.
+fn first_digit(digits: &[u8; 16]) -> usize
+    ensures { result < 16 }
+{
+    for i in 0..15 {
+        if digits[i] != b'0' {
+            return i;
+        }
+    }
+    15
+}
+
+fn append_hex(text: &mut Vec<u8>, n: u64) -> Result<(), AllocError> {
+    let digits = value_text(n);
+    text.extend_from_slice(&digits[first_digit(&digits)..])
+}
+
+fn append_part(text: &mut Vec<u8>, part: Part<'_>) -> Result<(), AllocError> {
+    match part {
+        Text(bytes) => text.extend_from_slice(bytes),
+        Decimal(front, n) => {
+            text.extend_from_slice(front)?;
+            append_decimal(text, n)
+        }
+        Hex(front, n) => {
+            text.extend_from_slice(front)?;
+            append_hex(text, n)
+        }
+    }
+}
+
+/// Adds parts, in their order.
+pub(crate) fn append(text: &mut Vec<u8>, parts: &[Part<'_>]) -> Result<(), AllocError> {
+    'parts: for part in parts {
+        append_part(text, *part)?;
+    }
+    Ok(())
 }
 
 /// Adds a rectangle of a class, filled with a pattern.
-pub(crate) fn append_box(
-    text: &mut String,
-    class: &str,
-    fill: &str,
+pub(crate) fn append_box<'x>(
+    text: &mut Vec<u8>,
+    class: &'x [u8],
+    fill: &'x [u8],
     r: &Rect,
 ) -> Result<(), AllocError> {
-    text.push_str("<rect class='")?;
-    text.push_str(class)?;
-    append_place(text, r.x, r.y)?;
-    append_extent(text, r.width, r.height)?;
-    text.push_str("' fill='url(#")?;
-    text.push_str(fill)?;
-    text.push_str(")'/>\n")?;
-    Ok(())
+    let parts = [
+        Text(b"<rect class='"),
+        Text(class),
+        Decimal(b"' x='", r.x),
+        Decimal(b"' y='", r.y),
+        Decimal(b"' width='", r.width),
+        Decimal(b"' height='", r.height),
+        Text(b"' fill='url(#"),
+        Text(fill),
+        Text(b")'/>\n"),
+    ];
+    append(text, &parts)
 }
 
 /// Adds a text of a class.
 pub(crate) fn append_label(
-    text: &mut String,
-    class: &str,
+    text: &mut Vec<u8>,
+    class: &[u8],
     x: u64,
     y: u64,
-    content: &str,
+    content: &[Part<'_>],
 ) -> Result<(), AllocError> {
-    text.push_str("<text class='")?;
-    text.push_str(class)?;
-    append_place(text, x, y)?;
-    text.push_str("'>")?;
-    text.push_str(content)?;
-    text.push_str("</text>\n")?;
-    Ok(())
+    let head = [
+        Text(b"<text class='"),
+        Text(class),
+        Decimal(b"' x='", x),
+        Decimal(b"' y='", y),
+        Text(b"'>"),
+    ];
+    append(text, &head)?;
+    append(text, content)?;
+    text.extend_from_slice(b"</text>\n")
 }
 
 /// Adds a thin line from the left edge on.
-pub(crate) fn append_rule(text: &mut String, y: u64, width: u64) -> Result<(), AllocError> {
-    write!(text, "<path class='rule' d='M12 {y}h{width}'/>\n")
+pub(crate) fn append_rule(text: &mut Vec<u8>, y: u64, width: u64) -> Result<(), AllocError> {
+    let parts = [
+        Decimal(b"<path class='rule' d='M12 ", y),
+        Decimal(b"h", width),
+        Text(b"'/>\n"),
+    ];
+    append(text, &parts)
 }
 
 /// The name of a type, which is also that of its pattern.

@@ -4,16 +4,17 @@ ghost use Rattle.mt_map.specs.Bands.{is_different};
 ghost use Rattle.mt_ranges.specs.Match.{is_valid};
 ghost use Rattle.mt_regs.specs.Registers.{HasThreeDigits};
 
-use crate::drawing::{append_box, append_label, append_rule, is_different};
+use crate::drawing::Part::{Decimal, Text};
+use crate::drawing::{Part, append_label, append_rule, is_different};
 use crate::labels::escaped;
 use crate::layout::Layout;
 use crate::names::{first_name, second_name};
 use crate::ranges::are_fixed_on;
 use crate::shaping::default_of;
-use crate::{Band, Legend, Names, Rect};
+use crate::{Band, Legend, Names};
 use mt_output::{accepted_line, dump_refused_line};
 use mt_ranges::is_valid;
-use mt_regs::{Fault, RegFile};
+use mt_regs::RegFile;
 use std::alloc::{AllocError, Global};
 
 fn different_count(bands: &[Band]) -> usize
@@ -22,39 +23,23 @@ fn different_count(bands: &[Band]) -> usize
     bands.iter().filter(|band| is_different(band)).count()
 }
 
-fn compared_text(alloc: Global, count: usize) -> Result<String, AllocError> {
-    if count == 0 {
-        String::from_str(alloc, "Memory types, the same on every page")
-    } else {
-        format!(in alloc; "Memory types; bands that differ: {count}")
-    }
-}
-
-// The line that every picture has. A title that the user gives is its caption.
-fn headline(alloc: Global, others: &[RegFile], bands: &[Band]) -> Result<String, AllocError> {
-    match others {
-        [] => String::from_str(alloc, "Memory types"),
-        [_, ..] => compared_text(alloc, different_count(bands)),
-    }
-}
-
-/// Adds the headline.
+/// Adds the line that every picture has. A title that the user gives is its caption.
 pub(crate) fn append_headline(
-    alloc: Global,
-    text: &mut String,
+    text: &mut Vec<u8>,
     others: &[RegFile],
     bands: &[Band],
 ) -> Result<(), AllocError> {
-    let headline = headline(alloc, others, bands)?;
-    append_label(text, "title", 12, 28, headline.as_str())
-}
-
-fn accepted_text(alloc: Global) -> Result<Vec<u8>, AllocError> {
-    let mut text = Vec::new(alloc);
-    text.extend_from_slice(b"<text class='accepted' x='12' y='50'>")?;
-    text.extend_from_slice(accepted_line())?;
-    text.extend_from_slice(b"</text>\n")?;
-    Ok(text)
+    if others.is_empty() {
+        return append_label(text, b"title", 12, 28, &[Text(b"Memory types")]);
+    }
+    let count = different_count(bands) as u64;
+    if count == 0 {
+        let same = [Text(b"Memory types, the same on every page")];
+        append_label(text, b"title", 12, 28, &same)
+    } else {
+        let compared = [Decimal(b"Memory types; bands that differ: ", count)];
+        append_label(text, b"title", 12, 28, &compared)
+    }
 }
 
 // What stands in front of the line of a fault, and the version of that line. With two files it names no processor.
@@ -66,42 +51,39 @@ fn refused_as(legend: &Legend<'_>, k: u32) -> (&'static [u8], u8) {
     }
 }
 
-fn refused_text(
-    alloc: Global,
-    legend: &Legend<'_>,
-    k: u32,
-    fault: &Fault,
-) -> Result<Vec<u8>, AllocError>
-    requires { HasThreeDigits fault.now.msr }
-{
-    let (name, version) = refused_as(legend, k);
-    let mut text = Vec::new(alloc);
-    text.extend_from_slice(b"<text class='refused' x='12' y='50'>")?;
-    text.extend_from_slice(name)?;
-    text.extend_from_slice(dump_refused_line(version, k, fault).as_slice())?;
-    text.extend_from_slice(b"</text>\n")?;
-    Ok(text)
-}
-
-/// That the files are accepted, or what is refused.
-pub(crate) fn verdict_text(alloc: Global, legend: &Legend<'_>) -> Result<Vec<u8>, AllocError>
+/// Adds that the files are accepted, or what is refused.
+pub(crate) fn append_verdict(text: &mut Vec<u8>, legend: &Legend<'_>) -> Result<(), AllocError>
     requires short { IfSome legend.now.refusal (λ found. HasThreeDigits found.1.msr) }
 {
     match legend.refusal {
-        None => accepted_text(alloc),
-        Some((k, fault)) => refused_text(alloc, legend, k, &fault),
+        None => append_label(text, b"accepted", 12, 50, &[Text(accepted_line())]),
+        Some((k, fault)) => {
+            let (name, version) = refused_as(legend, k);
+            let line = dump_refused_line(version, k, &fault);
+            append_label(
+                text,
+                b"refused",
+                12,
+                50,
+                &[Text(name), Text(line.as_slice())],
+            )
+        }
     }
 }
 
-/// The caption above a picture, if it has one.
-pub(crate) fn caption_text(alloc: Global, title: Option<&[u8]>) -> Result<Vec<u8>, AllocError> {
-    let mut text = Vec::new(alloc);
-    if let Some(title) = title {
-        text.extend_from_slice(b"<text class='title' x='12' y='4'>")?;
-        text.extend_from_slice(escaped(alloc, title)?.as_slice())?;
-        text.extend_from_slice(b"</text>\n")?;
+/// Adds the caption above a picture, if it has one.
+pub(crate) fn append_caption(
+    alloc: Global,
+    text: &mut Vec<u8>,
+    title: Option<&[u8]>,
+) -> Result<(), AllocError> {
+    match title {
+        None => Ok(()),
+        Some(title) => {
+            let caption = escaped(alloc, title)?;
+            append_label(text, b"title", 12, 4, &[Text(caption.as_slice())])
+        }
     }
-    Ok(text)
 }
 
 fn valid_count(f: &RegFile) -> usize
@@ -114,132 +96,99 @@ fn valid_count(f: &RegFile) -> usize
         .count()
 }
 
-fn fixed_text(is_on: bool) -> &'static str {
-    if is_on {
-        ", fixed ranges on"
-    } else {
-        ", fixed ranges off"
-    }
-}
-
-fn state_text(alloc: Global, f: &RegFile) -> Result<String, AllocError> {
+// What is said of a file's default type and fixed ranges.
+fn state_of(f: &RegFile) -> [Part<'static>; 3] {
     let Some(kind) = default_of(f) else {
-        return String::from_str(alloc, ", MTRRs off: each page is UC");
+        return [Text(b", MTRRs off: each page is UC"), Text(b""), Text(b"")];
     };
-    let mut text = String::new(alloc);
-    text.push_str(", default type ")?;
-    text.push_str(kind.name())?;
-    text.push_str(fixed_text(are_fixed_on(f)))?;
-    Ok(text)
+    let fixed = if are_fixed_on(f) {
+        Text(b", fixed ranges on")
+    } else {
+        Text(b", fixed ranges off")
+    };
+    [
+        Text(b", default type "),
+        Text(kind.name().as_bytes()),
+        fixed,
+    ]
 }
 
-fn append_width(text: &mut String, name: &str, width: u8) -> Result<(), AllocError> {
-    write!(text, "{name}: {width} address bits, ")
-}
-
-fn append_valid(text: &mut String, valid: usize, count: usize) -> Result<(), AllocError> {
-    write!(text, "{valid} of {count} pairs valid")
-}
-
-fn file_text(alloc: Global, name: &str, f: &RegFile) -> Result<String, AllocError> {
-    let mut text = String::new(alloc);
-    append_width(&mut text, name, f.maxphy)?;
-    append_valid(&mut text, valid_count(f), f.pairs.len())?;
-    text.push_str(state_text(alloc, f)?.as_str())?;
-    Ok(text)
+fn append_file(
+    text: &mut Vec<u8>,
+    y: u64,
+    name: Part<'static>,
+    f: &RegFile,
+) -> Result<(), AllocError> {
+    let [state, kind, fixed] = state_of(f);
+    let said = [
+        name,
+        Decimal(b": ", f.maxphy as u64),
+        Decimal(b" address bits, ", valid_count(f) as u64),
+        Decimal(b" of ", f.pairs.len() as u64),
+        Text(b" pairs valid"),
+        state,
+        kind,
+        fixed,
+    ];
+    append_label(text, b"file", 12, y, &said)
 }
 
 /// Adds what is said of each file.
 pub(crate) fn append_files(
-    alloc: Global,
-    text: &mut String,
+    text: &mut Vec<u8>,
     names: Names,
     f: &RegFile,
     others: &[RegFile],
 ) -> Result<(), AllocError> {
-    let first = file_text(alloc, first_name(names), f)?;
-    append_label(text, "file", 12, 68, first.as_str())?;
+    append_file(text, 68, first_name(names), f)?;
     match others {
         [] => Ok(()),
-        [other, ..] => {
-            let name = second_name(alloc, names)?;
-            let second = file_text(alloc, name.as_str(), other)?;
-            append_label(text, "file", 12, 86, second.as_str())?;
-            Ok(())
-        }
+        [other, ..] => append_file(text, 86, second_name(names), other),
     }
 }
 
-fn append_key(text: &mut String, x: u64, fill: &str, name: &str) -> Result<(), AllocError>
-    requires { x ≤ 1000 }
-{
-    let swatch = Rect {
-        x,
-        y: 98,
-        width: 26,
-        height: 18,
-    };
-    append_box(text, "on", fill, &swatch)?;
-    append_label(text, "key", x + 34, 112, name)?;
-    Ok(())
-}
-
-/// Adds the pattern and the name of each type, and those of the fixed ranges' bar.
-pub(crate) fn append_keys(text: &mut String) -> Result<(), AllocError> {
-    append_key(text, 12, "WB", "WB")?;
-    append_key(text, 102, "UC", "UC")?;
-    append_key(text, 192, "WC", "WC")?;
-    append_key(text, 282, "WT", "WT")?;
-    append_key(text, 372, "WP", "WP")?;
-    append_key(text, 462, "undefined", "undefined")?;
-    append_key(text, 572, "fixed", "fixed ranges")?;
-    Ok(())
-}
-
-fn append_pairs_head(text: &mut String, x: u64, name: &str) -> Result<(), AllocError> {
-    write!(
-        text,
-        "<text class='head' x='{x}' y='140'>pairs, {name}</text>\n"
-    )
+fn append_pairs_head(text: &mut Vec<u8>, x: u64, name: Part<'static>) -> Result<(), AllocError> {
+    append_label(text, b"head", x, 140, &[Text(b"pairs, "), name])
 }
 
 // Adds the heads of the columns of two files.
-fn append_both_heads(
-    alloc: Global,
-    text: &mut String,
-    layout: &Layout,
-    names: Names,
-) -> Result<(), AllocError> {
+fn append_both_heads(text: &mut Vec<u8>, layout: &Layout, names: Names) -> Result<(), AllocError> {
     let first = first_name(names);
-    let second = second_name(alloc, names)?;
-    append_label(text, "type", 372, 140, first)?;
-    append_label(text, "type", 496, 140, second.as_str())?;
+    let second = second_name(names);
+    append_label(text, b"type", 372, 140, &[first])?;
+    append_label(text, b"type", 496, 140, &[second])?;
     append_pairs_head(text, layout.first_bar, first)?;
-    append_pairs_head(text, layout.second_bar, second.as_str())?;
-    Ok(())
+    append_pairs_head(text, layout.second_bar, second)
 }
 
 // Adds the heads of the columns of one file.
-fn append_type_heads(text: &mut String, layout: &Layout) -> Result<(), AllocError> {
-    append_label(text, "type", 372, 140, "type")?;
-    append_label(text, "head", layout.first_bar, 140, "pairs")
+fn append_type_heads(text: &mut Vec<u8>, layout: &Layout) -> Result<(), AllocError> {
+    append_label(text, b"type", 372, 140, &[Text(b"type")])?;
+    append_label(text, b"head", layout.first_bar, 140, &[Text(b"pairs")])
 }
 
-/// Adds the heads of the columns.
+// Adds the heads of the lines below the rows.
+fn append_lower_heads(text: &mut Vec<u8>, layout: &Layout) -> Result<(), AllocError> {
+    append_rule(text, layout.bottom + 150, layout.width - 24)?;
+    append_label(
+        text,
+        b"head",
+        12,
+        layout.bottom + 171,
+        &[Text(b"default type")],
+    )?;
+    append_label(text, b"head", 12, layout.bottom + 196, &[Text(b"values")])
+}
+
+/// Adds the heads of the columns that depend on the files, and those below the rows.
 pub(crate) fn append_heads(
-    alloc: Global,
-    text: &mut String,
+    text: &mut Vec<u8>,
     layout: &Layout,
     names: Option<Names>,
 ) -> Result<(), AllocError> {
-    append_label(text, "head", 12, 140, "addresses")?;
-    append_label(text, "head size", 310, 140, "size")?;
     match names {
         None => append_type_heads(text, layout)?,
-        Some(names) => append_both_heads(alloc, text, layout, names)?,
+        Some(names) => append_both_heads(text, layout, names)?,
     }
-    append_rule(text, layout.bottom + 150, layout.width - 24)?;
-    append_label(text, "head", 12, layout.bottom + 171, "default type")?;
-    append_label(text, "head", 12, layout.bottom + 196, "values")?;
-    Ok(())
+    append_lower_heads(text, layout)
 }

@@ -1,4 +1,4 @@
-use std::alloc::{AllocError, Global};
+use crate::drawing::Part;
 
 /// What a picture calls its two files.
 #[derive(Clone, Copy)]
@@ -10,17 +10,17 @@ pub enum Names {
 }
 
 /// What the first file is called.
-pub(crate) fn first_name(names: Names) -> &'static str {
+pub(crate) fn first_name(names: Names) -> Part<'static> {
     match names {
-        Names::Cpus(_) => "cpu 0",
-        Names::Files => "before",
+        Names::Cpus(_) => Part::Decimal(b"cpu ", 0),
+        Names::Files => Part::Text(b"before"),
     }
 }
 
 /// What the file beside it is called.
-pub(crate) fn second_name(alloc: Global, names: Names) -> Result<String, AllocError> {
+pub(crate) fn second_name(names: Names) -> Part<'static> {
     match names {
-        Names::Cpus(k) => format!(in alloc; "cpu {k}"),
-        Names::Files => String::from_str(alloc, "after"),
+        Names::Cpus(k) => Part::Decimal(b"cpu ", k as u64),
+        Names::Files => Part::Text(b"after"),
     }
 }

@@ -6,14 +6,12 @@ ghost use Rattle.mt_map.specs.Bands.{IsPlaced};
 ghost use Rattle.mt_map.specs.Shapes.{AreRowsOf, shapes_of};
 
 use crate::edges::cuts;
-use crate::heading::{
-    append_files, append_headline, append_heads, append_keys, caption_text, verdict_text,
-};
+use crate::heading::{append_caption, append_files, append_headline, append_heads, append_verdict};
 use crate::layout::{Layout, layout_of};
 use crate::rows::append_rows;
 use crate::shaping::shapes;
 use crate::stack::{Stack, bands};
-use crate::style::head_text;
+use crate::style::{KEYS, append_head};
 use crate::writing::append_shapes;
 use crate::{Names, Shape};
 use mt_ports::NoMemory;
@@ -56,38 +54,25 @@ pub struct Legend<'a> {
     pub refusal: Option<(u32, Fault)>,
 }
 
-// The text behind the verdict.
-fn body_text(
-    alloc: Global,
+// Adds what stands behind the verdict.
+fn append_body(
+    text: &mut Vec<u8>,
     names: Names,
     files: (&RegFile, &[RegFile]),
     layout: &Layout,
     picture: &Picture,
-) -> Result<String, AllocError>
+) -> Result<(), AllocError>
     requires placed { All IsPlaced picture.now.stack.bands.items }
 {
     let (f, others) = files;
     let rows = picture.stack.bands.as_slice();
     let heads = if others.is_empty() { None } else { Some(names) };
-    let mut text = String::new(alloc);
-    append_files(alloc, &mut text, names, f, others)?;
-    append_keys(&mut text)?;
-    append_heads(alloc, &mut text, layout, heads)?;
-    append_rows(alloc, &mut text, layout.width, rows)?;
-    append_shapes(&mut text, layout, rows, picture.shapes.as_slice())?;
-    text.push_str("</svg>\n")?;
-    Ok(text)
-}
-
-// The headline, in front of the verdict.
-fn headline_text(
-    alloc: Global,
-    others: &[RegFile],
-    picture: &Picture,
-) -> Result<String, AllocError> {
-    let mut text = String::new(alloc);
-    append_headline(alloc, &mut text, others, picture.stack.bands.as_slice())?;
-    Ok(text)
+    append_files(text, names, f, others)?;
+    text.extend_from_slice(KEYS)?;
+    append_heads(text, layout, heads)?;
+    append_rows(text, layout.width, rows)?;
+    append_shapes(text, layout, rows, picture.shapes.as_slice())?;
+    text.extend_from_slice(b"</svg>\n")
 }
 
 /// The text of the picture of a file beside a second one, if there is one.
@@ -103,11 +88,11 @@ pub fn picture_text(
     requires placed { All IsPlaced picture.now.stack.bands.items }
 {
     let layout = layout_of(f, others, legend.title, picture.stack.bottom);
-    let body = body_text(alloc, legend.names, (f, others), &layout, picture)?;
-    let mut text = head_text(alloc, &layout)?.into_bytes();
-    text.extend_from_slice(caption_text(alloc, legend.title)?.as_slice())?;
-    text.extend_from_slice(headline_text(alloc, others, picture)?.as_bytes())?;
-    text.extend_from_slice(verdict_text(alloc, legend)?.as_slice())?;
-    text.extend_from_slice(body.as_bytes())?;
+    let mut text = Vec::new(alloc);
+    append_head(&mut text, &layout)?;
+    append_caption(alloc, &mut text, legend.title)?;
+    append_headline(&mut text, others, picture.stack.bands.as_slice())?;
+    append_verdict(&mut text, legend)?;
+    append_body(&mut text, legend.names, (f, others), &layout, picture)?;
     Ok(text)
 }

@@ -1,7 +1,9 @@
 ghost use Rattle.std.specs.Prelude.{◌≡◌, ◌≤◌, ◌<◌, ◌+◌, ◌*◌, ◌^◌, true, false};
 ghost use Rattle.mt_map.specs.Sizes.{IsNear, IsShort, kilobytes};
 
-use std::alloc::{AllocError, Global};
+use crate::drawing::Part::{Decimal, Text};
+use crate::drawing::append_label;
+use std::alloc::AllocError;
 
 /// The units in which a picture tells sizes, each 1,024 of the one before it.
 #[derive(Clone, Copy, Debug, PartialEq, Eq)]
@@ -84,28 +86,27 @@ pub fn page_size(pages: u64) -> Size
     }
 }
 
-fn unit_name(unit: Unit) -> &'static str {
+fn unit_name(unit: Unit) -> &'static [u8] {
     match unit {
-        Unit::Kilobyte => " KB",
-        Unit::Megabyte => " MB",
-        Unit::Gigabyte => " GB",
-        Unit::Terabyte => " TB",
+        Unit::Kilobyte => b" KB",
+        Unit::Megabyte => b" MB",
+        Unit::Gigabyte => b" GB",
+        Unit::Terabyte => b" TB",
     }
 }
 
-/// The size of so many pages, with the sign for "almost equal" in front of one that is rounded.
-pub(crate) fn size_text(alloc: Global, pages: u64) -> Result<String, AllocError>
+/// Adds the size of so many pages at height `y`, with the sign for "almost equal" in front of one that is rounded.
+pub(crate) fn append_size(text: &mut Vec<u8>, y: u64, pages: u64) -> Result<(), AllocError>
     requires few { pages ≤ 2 ^ 40 }
 {
     let size = page_size(pages);
-    let mut text = String::new(alloc);
-    if size.is_rounded {
-        text.push_str("&#8776; ")?;
-    }
-    write!(text, "{}", size.count)?;
+    let sign: &[u8] = if size.is_rounded { b"&#8776; " } else { b"" };
+    let count = Decimal(sign, size.count);
+    let unit = Text(unit_name(size.unit));
     if size.tenths > 0 {
-        write!(text, ".{}", size.tenths)?;
+        let parts = [count, Decimal(b".", size.tenths), unit];
+        append_label(text, b"size", 310, y, &parts)
+    } else {
+        append_label(text, b"size", 310, y, &[count, unit])
     }
-    text.push_str(unit_name(size.unit))?;
-    Ok(text)
 }

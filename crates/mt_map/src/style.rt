@@ -1,8 +1,9 @@
-use crate::drawing::append_extent;
+use crate::drawing::Part::{Decimal, Text};
+use crate::drawing::append;
 use crate::layout::Layout;
-use std::alloc::{AllocError, Global};
+use std::alloc::AllocError;
 
-const STYLE: &str = "<style>
+const STYLE: &[u8] = b"<style>
 text{font:12px 'DejaVu Sans',Verdana,Arial,sans-serif;fill:#111}
 .from,.to,.bar{font-family:'DejaVu Sans Mono',Menlo,Consolas,monospace}
 .from,.size{text-anchor:end}.type,.bar,.mark{text-anchor:middle}
@@ -14,7 +15,7 @@ rect.on,rect.off{stroke:#222}rect.off{fill-opacity:.25;stroke-dasharray:3 2}.rul
 ";
 
 // One pattern for each type, so that they differ without colours too.
-const PATTERNS: &str = "<defs>
+const PATTERNS: &[u8] = b"<defs>
 <pattern id='UC' width='7' height='7' patternUnits='userSpaceOnUse'><rect width='7' height='7' fill='#d6d6d6'/><path d='M0 7L7 0' stroke='#8f8f8f'/></pattern>
 <pattern id='WC' width='8' height='8' patternUnits='userSpaceOnUse'><rect width='8' height='8' fill='#f7c27a'/><circle cx='4' cy='4' r='1.3' fill='#a35c00'/></pattern>
 <pattern id='WT' width='6' height='6' patternUnits='userSpaceOnUse'><rect width='6' height='6' fill='#a5dab8'/><path d='M0 3H6' stroke='#2e7d4f'/></pattern>
@@ -26,33 +27,53 @@ const PATTERNS: &str = "<defs>
 </defs>
 ";
 
+/// The pattern and the name of each type, and those of the fixed ranges' bar, and the heads of the columns that each picture has.
+pub(crate) const KEYS: &[u8] =
+    b"<rect class='on' x='12' y='98' width='26' height='18' fill='url(#WB)'/>
+<text class='key' x='46' y='112'>WB</text>
+<rect class='on' x='102' y='98' width='26' height='18' fill='url(#UC)'/>
+<text class='key' x='136' y='112'>UC</text>
+<rect class='on' x='192' y='98' width='26' height='18' fill='url(#WC)'/>
+<text class='key' x='226' y='112'>WC</text>
+<rect class='on' x='282' y='98' width='26' height='18' fill='url(#WT)'/>
+<text class='key' x='316' y='112'>WT</text>
+<rect class='on' x='372' y='98' width='26' height='18' fill='url(#WP)'/>
+<text class='key' x='406' y='112'>WP</text>
+<rect class='on' x='462' y='98' width='26' height='18' fill='url(#undefined)'/>
+<text class='key' x='496' y='112'>undefined</text>
+<rect class='on' x='572' y='98' width='26' height='18' fill='url(#fixed)'/>
+<text class='key' x='606' y='112'>fixed ranges</text>
+<text class='head' x='12' y='140'>addresses</text>
+<text class='head size' x='310' y='140'>size</text>
+";
+
 // Where a picture begins: above 0 if it has a caption.
-fn origin(layout: &Layout) -> &'static str {
-    if layout.has_caption { "-24" } else { "0" }
+fn origin(layout: &Layout) -> &'static [u8] {
+    if layout.has_caption { b"-24" } else { b"0" }
 }
 
-fn ground(layout: &Layout) -> &'static str {
+fn ground(layout: &Layout) -> &'static [u8] {
     if layout.has_caption {
-        "<rect y='-24' width='100%' height='100%' fill='#fff'/>\n"
+        b"<rect y='-24' width='100%' height='100%' fill='#fff'/>\n"
     } else {
-        "<rect width='100%' height='100%' fill='#fff'/>\n"
+        b"<rect width='100%' height='100%' fill='#fff'/>\n"
     }
 }
 
-fn append_view(text: &mut String, layout: &Layout) -> Result<(), AllocError> {
+/// Adds all that stands in front of the caption and the headline.
+pub(crate) fn append_head(text: &mut Vec<u8>, layout: &Layout) -> Result<(), AllocError> {
     let Layout { width, height, .. } = *layout;
-    let origin = origin(layout);
-    write!(text, "' viewBox='0 {origin} {width} {height}'>\n")
-}
-
-/// All that stands in front of the caption and the headline.
-pub(crate) fn head_text(alloc: Global, layout: &Layout) -> Result<String, AllocError> {
-    let mut text = String::new(alloc);
-    text.push_str("<svg xmlns='http://www.w3.org/2000/svg")?;
-    append_extent(&mut text, layout.width, layout.height)?;
-    append_view(&mut text, layout)?;
-    text.push_str(STYLE)?;
-    text.push_str(PATTERNS)?;
-    text.push_str(ground(layout))?;
-    Ok(text)
+    let head = [
+        Decimal(b"<svg xmlns='http://www.w3.org/2000/svg' width='", width),
+        Decimal(b"' height='", height),
+        Text(b"' viewBox='0 "),
+        Text(origin(layout)),
+        Decimal(b" ", width),
+        Decimal(b" ", height),
+        Text(b"'>\n"),
+        Text(STYLE),
+        Text(PATTERNS),
+        Text(ground(layout)),
+    ];
+    append(text, &head)
 }

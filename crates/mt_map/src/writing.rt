@@ -1,5 +1,6 @@
 ghost use Rattle.std.specs.Prelude.{◌<◌, ◌≤◌, ◌^◌};
 
+use crate::drawing::Part::{Hex, Text};
 use crate::drawing::{append_box, append_label, name_of_kind};
 use crate::layout::Layout;
 use crate::stack::top_of;
@@ -52,48 +53,45 @@ fn rect_over(layout: &Layout, rows: &[Band], x: u64, width: u64, pages: (u64, u6
 
 // Adds a filled rectangle with a label in its middle.
 fn append_labelled(
-    text: &mut String,
+    text: &mut Vec<u8>,
     place: &Rect,
     fill: &str,
-    class: &str,
+    class: &[u8],
     label: &str,
 ) -> Result<(), AllocError>
     requires few { (place.now.x < 2 ^ 60) × (place.now.y < 2 ^ 60) × (place.now.height < 2 ^ 60) }
     requires narrow { place.now.width ≤ 100 }
 {
-    append_box(text, "on", fill, place)?;
+    append_box(text, b"on", fill.as_bytes(), place)?;
     let y = place.y + place.height / 2 + 4;
-    append_label(text, class, place.x + place.width / 2, y, label)?;
-    Ok(())
+    let label = [Text(label.as_bytes())];
+    append_label(text, class, place.x + place.width / 2, y, &label)
 }
 
-fn bar_fill(bar: &Bar) -> &'static str {
+fn bar_fill(bar: &Bar) -> &'static [u8] {
     match bar.kind {
-        None => "fixed",
-        Some(kind) => kind.name(),
+        None => b"fixed",
+        Some(kind) => kind.name().as_bytes(),
     }
 }
 
-fn bar_end(bar: &Bar) -> &'static str {
+fn bar_end(bar: &Bar) -> &'static [u8] {
     match bar.kind {
-        None => "26f",
-        Some(kind) => kind.name(),
+        None => b"26f",
+        Some(kind) => kind.name().as_bytes(),
     }
 }
 
-fn bar_class(bar: &Bar) -> &'static str {
-    if bar.is_on { "on" } else { "off" }
+fn bar_class(bar: &Bar) -> &'static [u8] {
+    if bar.is_on { b"on" } else { b"off" }
 }
 
-fn append_number(text: &mut String, x: u64, y: u64, number: u32) -> Result<(), AllocError> {
-    write!(
-        text,
-        "<text class='bar' x='{x}' y='{y}'>{number:x}</text>\n"
-    )
+fn append_number(text: &mut Vec<u8>, x: u64, y: u64, number: u32) -> Result<(), AllocError> {
+    append_label(text, b"bar", x, y, &[Hex(b"", number as u64)])
 }
 
 fn append_bar(
-    text: &mut String,
+    text: &mut Vec<u8>,
     layout: &Layout,
     rows: &[Band],
     side: Side,
@@ -103,45 +101,40 @@ fn append_bar(
     let place = rect_over(layout, rows, x, 26, (bar.first, bar.end));
     append_box(text, bar_class(bar), bar_fill(bar), &place)?;
     append_number(text, place.x + 13, place.y + 11, bar.number)?;
-    append_label(text, "bar", place.x + 13, place.y + 22, bar_end(bar))?;
-    Ok(())
-}
-
-fn append_place(text: &mut String, x: u64, y: u64) -> Result<(), AllocError> {
-    write!(text, "<text class='to' x='{x}' y='{y}'>")
-}
-
-fn append_pair(text: &mut String, bar: &Bar) -> Result<(), AllocError> {
-    write!(
+    append_label(
         text,
-        "{:x} base {:x} mask {:x} ",
-        bar.number, bar.base, bar.mask
+        b"bar",
+        place.x + 13,
+        place.y + 22,
+        &[Text(bar_end(bar))],
     )
 }
 
 // Adds the values of the registers of a bar, in a line below the rows.
 fn append_values(
-    text: &mut String,
+    text: &mut Vec<u8>,
     layout: &Layout,
     side: Side,
     bar: &Bar,
 ) -> Result<(), AllocError> {
+    let x = values_of(side);
     let y = layout.bottom + 212 + 16 * bar.place as u64;
-    append_place(text, values_of(side), y)?;
-    match bar.kind {
-        None => text.push_str("250-26f fixed ranges")?,
-        Some(kind) => {
-            append_pair(text, bar)?;
-            text.push_str(kind.name())?;
-        }
-    }
-    text.push_str("</text>\n")?;
-    Ok(())
+    let Some(kind) = bar.kind else {
+        return append_label(text, b"to", x, y, &[Text(b"250-26f fixed ranges")]);
+    };
+    let values = [
+        Hex(b"", bar.number as u64),
+        Hex(b" base ", bar.base),
+        Hex(b" mask ", bar.mask),
+        Text(b" "),
+        Text(kind.name().as_bytes()),
+    ];
+    append_label(text, b"to", x, y, &values)
 }
 
 // Adds the default type of a file, below its bands.
 fn append_default(
-    text: &mut String,
+    text: &mut Vec<u8>,
     layout: &Layout,
     side: Side,
     kind: MemType,
@@ -152,11 +145,11 @@ fn append_default(
         width: 92,
         height: 22,
     };
-    append_labelled(text, &place, kind.name(), "type", kind.name())
+    append_labelled(text, &place, kind.name(), b"type", kind.name())
 }
 
 fn append_shape(
-    text: &mut String,
+    text: &mut Vec<u8>,
     layout: &Layout,
     rows: &[Band],
     shape: &Shape,
@@ -166,7 +159,7 @@ fn append_shape(
             let pages = (run.first, run.first.saturating_add(run.count));
             let place = rect_over(layout, rows, column_of(side), 92, pages);
             let name = name_of_kind(run.kind);
-            append_labelled(text, &place, name, "type", name)
+            append_labelled(text, &place, name, b"type", name)
         }
         Shape::Bar(side, bar) => {
             append_bar(text, layout, rows, side, &bar)?;
@@ -176,14 +169,14 @@ fn append_shape(
         Shape::Mark(pages) => {
             let pages = (pages.first, pages.first.saturating_add(pages.count));
             let place = rect_over(layout, rows, 424, 20, pages);
-            append_labelled(text, &place, "differs", "mark", "&#8800;")
+            append_labelled(text, &place, "differs", b"mark", "&#8800;")
         }
     }
 }
 
 /// Adds shapes, in their order.
 pub(crate) fn append_shapes(
-    text: &mut String,
+    text: &mut Vec<u8>,
     layout: &Layout,
     rows: &[Band],
     shapes: &[Shape],
