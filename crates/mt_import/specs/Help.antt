@@ -1,12 +1,12 @@
 -- The texts of `--help` and `--version` (own).
 --     own_text words      the text of these words, where they are one of the two
-use Rattle.std.specs.Prelude.{ℕ, List, [], ◌∷◌, codes, flat_map, if◌then◌else◌, Option, Some, None}
+use Rattle.std.specs.Prelude.{ℕ, List, [], ◌∷◌, codes, flat_map, Option}
 use Rattle.mt_output.specs.Lines.{line}
-use Rattle.mt_import.specs.Pieces.{is_text}
+use Rattle.mt_shell.specs.Own.{own_text as text_of_words}
 
 abbrev pub help_lines : List (List ℕ)
 help_lines =
-    codes "usage: mtrr-import FORMAT [WORD ..] < LOG > DUMP"
+    codes "usage: mtrr-import FORMAT [WORD ..] [LOG] > DUMP"
     ∷ codes ""
     ∷ codes "Makes a dump for mtrr of another program's log. Writes what is missing or"
     ∷ codes "wrong to standard error."
@@ -16,10 +16,11 @@ help_lines =
     ∷ codes "  maxphyaddr=N    supplies the bits of a physical address, 32 to 52"
     ∷ codes "  assume=NAME     assumes what no line and no word says: capabilities, masks,"
     ∷ codes "                  pairs, pat, width or all; a comment names what was assumed"
-    ∷ codes "  --help          this text"
+    ∷ codes "  LOG             names the log; without it, or if it is -, standard input is read"
+    ∷ codes "  -h, --help      this text"
     ∷ codes "  --version       the version"
     ∷ codes ""
-    ∷ codes "--help and --version read nothing."
+    ∷ codes "-h, --help and --version read nothing."
     ∷ codes ""
     ∷ codes "Exit status:"
     ∷ codes "  0  done"
@@ -38,13 +39,5 @@ help_text = flat_map line help_lines
 unfoldable pub version_text : List ℕ
 version_text = line (codes "mtrr-import 1.0.0")
 
-abbrev pub own_text_of : List ℕ → Option (List ℕ)
-own_text_of word =
-    if is_text (codes "--help") word then Some help_text
-    else if is_text (codes "--version") word then Some version_text
-    else None
-
 abbrev pub own_text : List (List ℕ) → Option (List ℕ)
-own_text [] = None
-own_text (word ∷ []) = own_text_of word
-own_text (word ∷ second ∷ more) = None
+own_text words = text_of_words words help_text version_text

@@ -2,15 +2,16 @@
 --     log_outcome choice supplied text      the texts and the status for a log
 --     outcome_of words bytes      the same for a command line
 --     output_of words bytes      one text and the status: the dump, or else the reasons
-use Rattle.std.specs.Prelude.{ℕ, ◌≡◌, ◌<◌, ◌⊎◌, ◌++◌, codes, List, [], length, if◌then◌else◌, Option, Some, None, ⊤}
+use Rattle.std.specs.Prelude.{ℕ, ◌≡◌, ◌≢◌, ◌<◌, ◌⊎◌, ◌↔◌, ◌++◌, Bool, List, [], length, if◌then◌else◌, Option, Some, None, is_some, IsSome, ⊤}
 use Rattle.std.specs.Io.KnownBytes.{Appends}
 use Rattle.mt_text.specs.Text.{longest_input}
-use Rattle.mt_ports.specs.Causes.{Rose}
+use Rattle.mt_text.specs.Feed.{GaveTooMuch}
+use Rattle.mt_ports.specs.Causes.{Rose, StatusHasCause}
 use Rattle.mt_ports.specs.Puts.{AppendsFront}
 use Rattle.mt_ports.specs.declared.status.Status.{Status}
 use Rattle.mt_ports.specs.declared.status.Status.TheVariants.{Done, Refused, Usage, BadText, ReadFault, WriteFault, NoMemory, TooLong, TooFew, Disabled}
-use Rattle.mt_output.specs.Lines.{line}
-use Rattle.mt_output.specs.Ports.{Change, Held, Port}
+use Rattle.mt_output.specs.Lines.{usage_line}
+use Rattle.mt_output.specs.Ports.{Change, Held, Port, SinkRun, SourceRun, change, held, port}
 use Rattle.mt_output.specs.Written.{Writes}
 use Rattle.mt_import.specs.declared.format.Choice.{Choice}
 use Rattle.mt_import.specs.Shown.{format_of, is_auto, shown}
@@ -25,7 +26,7 @@ abbrev pub own_outcome : List ℕ → Outcome
 own_outcome text = record { notes = []; dump = text; reasons = []; status = Done }
 
 abbrev pub usage_outcome : Outcome
-usage_outcome = record { notes = []; dump = []; reasons = line (codes "usage"); status = Usage }
+usage_outcome = record { notes = []; dump = []; reasons = usage_line; status = Usage }
 
 abbrev pub outcome_by : Option (List ℕ) → Option (Choice × Supplied) → List ℕ → Outcome
 outcome_by (Some text) command bytes = own_outcome text
@@ -91,15 +92,6 @@ pub data ImportsApart (words : List (List ℕ)) (source : Held) (out errors : Po
   told : source.left ≡ Some (left_of words source.bytes) → WritesApart (outcome_of words source.bytes) out errors result → ImportsApart words source out errors result
   unread : out.new ≡ out.old → errors.new ≡ errors.old → IsUnread source.bytes result → ImportsApart words source out errors result
 
--- the same where the arguments may have found no memory: then nothing is read or written
-abbrev pub RunsImport : List (List ℕ) → Held → Port → Port → Status → Type 0
-RunsImport words source out errors result =
-    ImportsApart words source out errors result ⊎ ((result ≡ NoMemory) × (source.left ≡ Some source.bytes) × (out.new ≡ out.old) × (errors.new ≡ errors.old))
-
--- A source and two sinks are as before.
-abbrev pub AreUnused : {S K E : Type 0} → Change S → Change K → Change E → Type 0
-AreUnused source out errors = (source.new ≡ source.old) × (out.new ≡ out.old) × (errors.new ≡ errors.old)
-
 -- One of two sinks failed, once, where the status is `WriteFault`; else none did. Each sink is given by its count of faults.
 abbrev pub OneFailed : Change ℕ → Change ℕ → Type 0
 OneFailed out errors = (Rose out.old out.new × (errors.new ≡ errors.old)) ⊎ ((out.new ≡ out.old) × Rose errors.old errors.new)
@@ -107,3 +99,21 @@ OneFailed out errors = (Rose out.old out.new × (errors.new ≡ errors.old)) ⊎
 pub record HaveCause (out errors : Change ℕ) (status : Status) : Type 0 where
   pub one : status ≡ WriteFault → OneFailed out errors
   pub neither : (status ≡ WriteFault → ⊥) → (out.new ≡ out.old) × (errors.new ≡ errors.old)
+
+-- the words that are a format with what is supplied
+abbrev pub reads_log : List (List ℕ) → Bool
+reads_log words = is_some (command_of words)
+
+-- A run for words, over a source, a sink for the dump, and standard error.
+pub record IsImportRun {S K E : Type 0} (words : List (List ℕ)) (source : SourceRun S) (out : SinkRun K) (errors : SinkRun E) (status : Status) : Type 0 where
+  pub imports : (bytes : List ℕ) → source.left source.old ≡ Some bytes
+      → ImportsApart words (held bytes (source.left source.new)) (port out.taken out.old out.new) (port errors.taken errors.old errors.new) status
+  -- Without a command nothing is read, nor for the program's own texts.
+  pub unread : command_of words ≡ None → source.new ≡ source.old
+  pub own : IsSome (own_text words) → source.new ≡ source.old
+  -- At statuses such as 1, 2 and 3 nothing is written to the sink of the dump. Nothing is allocated.
+  pub alone : status ≢ Done → status ≢ WriteFault → out.new ≡ out.old
+  pub memory : status ≢ NoMemory
+  pub read_fault : StatusHasCause ReadFault (source.faults source.old) (source.faults source.new) status
+  pub write_fault : HaveCause (change (out.faults out.old) (out.faults out.new)) (change (errors.faults errors.old) (errors.faults errors.new)) status
+  pub too_long : (status ≡ TooLong) ↔ GaveTooMuch (source.given source.old) (source.given source.new)

@@ -1,14 +1,12 @@
 ghost use Rattle.std.specs.Prelude.{◌≡◌, ◌≤◌, Some, None, IfSome, MatchOption, length, map, string_bytes};
-ghost use Rattle.mt_import.specs.Help.{help_text, own_text, own_text_of, version_text};
-
-use crate::pieces::is_text;
+ghost use Rattle.mt_import.specs.Help.{help_text, own_text, version_text};
 
 /// What `--help` writes.
 fn help_text() -> &'static [u8]
     ensures text { result.now ≡ help_text }
     ensures short { length result.now ≤ 0x8000 }
 {
-    b"usage: mtrr-import FORMAT [WORD ..] < LOG > DUMP
+    b"usage: mtrr-import FORMAT [WORD ..] [LOG] > DUMP
 
 Makes a dump for mtrr of another program's log. Writes what is missing or
 wrong to standard error.
@@ -18,10 +16,11 @@ wrong to standard error.
   maxphyaddr=N    supplies the bits of a physical address, 32 to 52
   assume=NAME     assumes what no line and no word says: capabilities, masks,
                   pairs, pat, width or all; a comment names what was assumed
-  --help          this text
+  LOG             names the log; without it, or if it is -, standard input is read
+  -h, --help      this text
   --version       the version
 
---help and --version read nothing.
+-h, --help and --version read nothing.
 
 Exit status:
   0  done
@@ -43,26 +42,10 @@ fn version_text() -> &'static [u8]
     b"mtrr-import 1.0.0\n"
 }
 
-fn own_text_of(word: &[u8]) -> Option<&'static [u8]>
-    ensures text { MatchOption result (own_text_of word.now ≡ None) (λ text. own_text_of word.now ≡ Some text.now) }
-    ensures short { IfSome result (λ text. length text.now ≤ 0x8000) }
-{
-    if is_text(b"--help", word) {
-        Some(help_text())
-    } else if is_text(b"--version", word) {
-        Some(version_text())
-    } else {
-        None
-    }
-}
-
-/// The text that these words ask for, where they are `--help` or `--version` alone.
+/// The text that these words ask for, where they are `--help`, `-h` or `--version` alone.
 pub(crate) fn own_text(words: &[String]) -> Option<&'static [u8]>
     ensures text { MatchOption result (own_text (map string_bytes words.now) ≡ None) (λ text. own_text (map string_bytes words.now) ≡ Some text.now) }
     ensures short { IfSome result (λ text. length text.now ≤ 0x8000) }
 {
-    match words {
-        [word] => own_text_of(word.as_str().as_bytes()),
-        _ => None,
-    }
+    mt_shell::own_text(words, help_text(), version_text())
 }

@@ -3,26 +3,25 @@
 --     title_in words      the caption that they give to a picture
 --     has_files words     whether they say that the sections of a dump are files
 --     own_text asked      the text of `--help` and of `--version`
-use Rattle.std.specs.Prelude.{ℕ, nat_eq, nat_le, nat_lt, Bool, true, false, not, ◌&&◌, ◌||◌, List, [], ◌∷◌, codes, drop, take, length, flat_map, map, if◌then◌else◌, Option, Some, None, Result, Ok, Err, String, string_bytes}
+use Rattle.std.specs.Prelude.{ℕ, nat_eq, nat_le, nat_lt, Bool, true, false, not, ◌&&◌, ◌||◌, List, [], ◌∷◌, codes, drop, take, length, flat_map, if◌then◌else◌, Option, Some, None}
 use Rattle.std.specs.Cmp.Lexicographic.{pointwise}
-use Rattle.std.specs.Vec.Iter.{into_iter_items}
-use Rattle.std.specs.declared.vec.IntoIter.{IntoIter}
 use Rattle.mt_output.specs.Lines.{line}
 use Rattle.mt_map.specs.declared.asked.Asked.{Asked}
 use Rattle.mt_map.specs.declared.asked.Asked.TheVariants.{Picture, Help, Version}
 
 abbrev pub help_lines : List (List ℕ)
 help_lines =
-    codes "usage: mtrr-map [title=TEXT] [files] < DUMP > PICTURE"
+    codes "usage: mtrr-map [title=TEXT] [files] [DUMP] > PICTURE"
     ∷ codes ""
     ∷ codes "Draws the memory types that a dump of registers gives, as an SVG picture."
     ∷ codes ""
     ∷ codes "  title=TEXT  a caption of 1 to 80 bytes, without control characters"
     ∷ codes "  files       the two sections are files, named before and after"
-    ∷ codes "  --help      this text"
+    ∷ codes "  DUMP        names the dump; without it, or if it is -, standard input is read"
+    ∷ codes "  -h, --help  this text"
     ∷ codes "  --version   the version"
     ∷ codes ""
-    ∷ codes "--help and --version read nothing."
+    ∷ codes "-h, --help and --version read nothing."
     ∷ codes ""
     ∷ codes "Exit status:"
     ∷ codes "  0  done"
@@ -110,7 +109,7 @@ has_files (word ∷ second ∷ more) = is_files word || is_files second
 
 abbrev pub asked_by_one : List ℕ → Option Asked
 asked_by_one word =
-    if pointwise nat_eq word (codes "--help") then Some Help
+    if pointwise nat_eq word (codes "--help") || pointwise nat_eq word (codes "-h") then Some Help
     else if pointwise nat_eq word (codes "--version") then Some Version
     else if has_title (title_of word) || is_files word then Some Picture
     else None
@@ -125,10 +124,11 @@ asked_by (word ∷ []) = asked_by_one word
 asked_by (word ∷ second ∷ []) = if are_labels word second then Some Picture else None
 asked_by (word ∷ second ∷ third ∷ more) = None
 
--- arguments that are no text are wrong usage
-abbrev pub asked_in : {A B E : Type 0} → Result (IntoIter (String A) B) E → Option Asked
-asked_in (Ok args) = asked_by (map string_bytes (drop 1 (into_iter_items args)))
-asked_in (Err error) = None
+abbrev pub is_picture : Option Asked → Bool
+is_picture None = false
+is_picture (Some Picture) = true
+is_picture (Some Help) = false
+is_picture (Some Version) = false
 
 abbrev pub own_text : Option Asked → Option (List ℕ)
 own_text None = None

@@ -3,12 +3,14 @@
 --     MapOf dump text status      the picture of a dump, or the line of the fault for which there is none
 --     Output asked bytes text status      what is written for what the words ask and for an input
 --     Maps asked source sink result      what a run leaves in the source and the sink
-use Rattle.std.specs.Prelude.{ℕ, ◌≡◌, ◌<◌, ◌⊎◌, codes, List, [], ◌∷◌, length, Option, Some, None, slice_get}
+use Rattle.std.specs.Prelude.{ℕ, ◌≡◌, ◌≢◌, ◌<◌, ◌⊎◌, ◌↔◌, Bool, List, [], ◌∷◌, length, Option, Some, None, slice_get}
 use Rattle.std.specs.List.{All}
 use Rattle.mt_text.specs.Text.{longest_input}
+use Rattle.mt_text.specs.Feed.{GaveTooMuch}
+use Rattle.mt_ports.specs.Causes.{StatusHasCause}
 use Rattle.mt_ports.specs.declared.status.Status.{Status}
-use Rattle.mt_output.specs.Ports.{Held, Port}
-use Rattle.mt_ports.specs.declared.status.Status.TheVariants.{Done, Refused, Usage, BadText, ReadFault, NoMemory, TooLong}
+use Rattle.mt_output.specs.Ports.{Held, Port, SinkRun, SourceRun, held, port}
+use Rattle.mt_ports.specs.declared.status.Status.TheVariants.{Done, Refused, Usage, BadText, ReadFault, WriteFault, NoMemory, TooLong}
 use Rattle.mt_regs.specs.declared.fault.Fault.{Fault}
 use Rattle.mt_regs.specs.RegisterFile.{RegisterFile}
 use Rattle.mt_regs.specs.Faults.{register_fault}
@@ -17,11 +19,11 @@ use Rattle.mt_dump.specs.Dumps.{Dump, first_file}
 use Rattle.mt_dump.specs.Dump.{Shown}
 use Rattle.mt_dump.specs.Reader.{dump_offence}
 use Rattle.mt_dump.specs.declared.fault.DumpFault.{DumpFault}
-use Rattle.mt_output.specs.Lines.{bad_text_line, dump_refused_line, line}
+use Rattle.mt_output.specs.Lines.{bad_text_line, dump_refused_line, usage_line}
 use Rattle.mt_output.specs.Written.{Writes}
 use Rattle.mt_map.specs.declared.asked.Asked.{Asked}
 use Rattle.mt_map.specs.declared.asked.Asked.TheVariants.{Picture}
-use Rattle.mt_map.specs.Asked.{left_of, own_text}
+use Rattle.mt_map.specs.Asked.{asked_by, is_picture, left_of, own_text}
 
 -- ---- which files are drawn
 
@@ -57,7 +59,7 @@ pub data MapOf (dump : Dump) : List ℕ → Status → Type 0 where
   not_drawn : (k : ℕ) (fault : Fault) → (CanBeDrawn dump → ⊥) → first_refusal dump.files ≡ Some (k, fault) → MapOf dump (dump_refused_line dump.version k fault) Refused
 
 pub data Output (asked : Option Asked) (bytes : List ℕ) : List ℕ → Status → Type 0 where
-  usage : asked ≡ None → Output asked bytes (line (codes "usage")) Usage
+  usage : asked ≡ None → Output asked bytes usage_line Usage
   printed : (text : List ℕ) → own_text asked ≡ Some text → Output asked bytes text Done
   bad_text : (fault : DumpFault) → asked ≡ Some Picture → dump_offence bytes ≡ Some fault → Output asked bytes (bad_text_line fault) BadText
   mapped : (dump : Dump) (text : List ℕ) (status : Status) → asked ≡ Some Picture → Shown bytes dump → MapOf dump text status → Output asked bytes text status
@@ -74,6 +76,16 @@ pub data Maps (asked : Option Asked) (source : Held) (sink : Port) (result : Sta
   told : source.left ≡ Some (left_of asked source.bytes) → TellsOutput (Output asked source.bytes) sink.old sink.new result → Maps asked source sink result
   unread : sink.new ≡ sink.old → (result ≡ ReadFault) ⊎ ((result ≡ TooLong) × (longest_input < length source.bytes)) → Maps asked source sink result
 
--- the same where the arguments may have found no memory: then nothing is read or written
-abbrev pub IsMapRun : Option Asked → Held → Port → Status → Type 0
-IsMapRun asked source sink result = Maps asked source sink result ⊎ ((result ≡ NoMemory) × (source.left ≡ Some source.bytes) × (sink.new ≡ sink.old))
+-- the words that ask for a picture
+abbrev pub reads_dump : List (List ℕ) → Bool
+reads_dump words = is_picture (asked_by words)
+
+-- A run for words, over a source and a sink. Standard error stays as it is.
+pub record IsMapRun {S K E : Type 0} (words : List (List ℕ)) (source : SourceRun S) (sink : SinkRun K) (errors : SinkRun E) (status : Status) : Type 0 where
+  pub maps : (bytes : List ℕ) → source.left source.old ≡ Some bytes
+      → Maps (asked_by words) (held bytes (source.left source.new)) (port sink.taken sink.old sink.new) status
+  pub unread : asked_by words ≢ Some Picture → source.new ≡ source.old
+  pub read_fault : StatusHasCause ReadFault (source.faults source.old) (source.faults source.new) status
+  pub write_fault : StatusHasCause WriteFault (sink.faults sink.old) (sink.faults sink.new) status
+  pub too_long : (status ≡ TooLong) ↔ GaveTooMuch (source.given source.old) (source.given source.new)
+  pub errors_stay : errors.new ≡ errors.old

@@ -17,7 +17,7 @@ pub enum Asked {
 fn asked_by_one(word: &[u8]) -> Option<Asked>
     ensures { result ≡ asked_by_one word.now }
 {
-    if word == b"--help".as_slice() {
+    if word == b"--help".as_slice() || word == b"-h".as_slice() {
         Some(Asked::Help)
     } else if word == b"--version".as_slice() {
         Some(Asked::Version)
@@ -57,16 +57,17 @@ pub fn asked_by(words: &[String]) -> Option<Asked>
 pub(crate) fn help_text() -> &'static [u8]
     ensures { result.now ≡ help_text }
 {
-    b"usage: mtrr-map [title=TEXT] [files] < DUMP > PICTURE
+    b"usage: mtrr-map [title=TEXT] [files] [DUMP] > PICTURE
 
 Draws the memory types that a dump of registers gives, as an SVG picture.
 
   title=TEXT  a caption of 1 to 80 bytes, without control characters
   files       the two sections are files, named before and after
-  --help      this text
+  DUMP        names the dump; without it, or if it is -, standard input is read
+  -h, --help  this text
   --version   the version
 
---help and --version read nothing.
+-h, --help and --version read nothing.
 
 Exit status:
   0  done

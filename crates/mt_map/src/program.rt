@@ -1,67 +1,64 @@
-ghost use Rattle.std.specs.Prelude.{◌≡◌, ◌↔◌, ℕ, List, Some, IfErr};
+ghost use Rattle.std.specs.Prelude.{◌≡◌, IfErr};
 ghost use Rattle.std.specs.IoError.{error_kind};
 ghost use Rattle.std.specs.Process.{exit_status};
-ghost use Rattle.mt_ports.specs.Causes.{StatusHasCause};
 ghost use Rattle.mt_ports.specs.Exit.{code};
-ghost use Rattle.mt_text.specs.Feed.{GaveTooMuch};
+ghost use Rattle.mt_output.specs.Ports.{sink_run, source_run};
 ghost use Rattle.mt_output.specs.Program.{Exits};
-ghost use Rattle.mt_output.specs.Ports.{held, port};
-ghost use Rattle.mt_map.specs.Asked.{asked_in};
-ghost use Rattle.mt_map.specs.Map.{IsMapRun};
+ghost use Rattle.mt_shell.specs.Runs.{IsProgramRun, given_words};
+ghost use Rattle.mt_map.specs.Map.{IsMapRun, reads_dump};
 
-use crate::{Labels, asked_by, labels_of, map};
-use mt_output::{exit_code, words_behind_name};
+use crate::{Asked, asked_by, labels_of, map};
 use mt_ports::{Sink, Source, Status};
+use mt_shell::{CommandLines, FileSource, Program, run_program};
 use std::env::Args;
+use std::fs::Files;
 use std::io::{self, ErrorKind};
 use std::process::ExitCode;
 
-// Arguments that are no text are wrong usage, and arguments that find no memory end the program before the run.
-fn run<R: AllocGlobal, S: Source, K: Sink>(
-    rt: &R,
-    args: io::Result<Args>,
-    source: &mut S,
-    sink: &mut K,
-) -> Status
-    ensures runs { (bytes : List ℕ) → S.left source.old ≡ Some bytes →
-        IsMapRun (asked_in args) (held bytes (S.left source.new)) (port K.taken sink.old sink.new) result }
-    ensures read_fault { StatusHasCause Status.ReadFault (S.faults source.old) (S.faults source.new) result }
-    ensures write_fault { StatusHasCause Status.WriteFault (K.faults sink.old) (K.faults sink.new) result }
-    ensures too_long { (result ≡ Status.TooLong) ↔ GaveTooMuch (S.given source.old) (S.given source.new) }
-    ensures no_memory { IfErr args (λ error. error_kind error ≡ ErrorKind.OutOfMemory → result ≡ Status.NoMemory) }
-{
-    match args {
-        Ok(args) => match words_behind_name(rt.alloc(), args) {
-            Ok(words) => map(
-                rt.alloc(),
-                asked_by(&words),
-                labels_of(&words),
-                source,
-                sink,
-            ),
-            Err(_) => Status::NoMemory,
-        },
-        Err(error) if error.kind() == ErrorKind::OutOfMemory => Status::NoMemory,
-        Err(_) => map(rt.alloc(), None, Labels::default(), source, sink),
+// The program, over any ports.
+struct Mapper;
+
+impl CommandLines for Mapper {
+    ghost is_reading = { reads_dump };
+
+    fn name(&self) -> &'static str {
+        "mtrr-map"
+    }
+
+    fn reads(&self, words: &[String]) -> bool {
+        matches!(asked_by(words), Some(Asked::Picture))
     }
 }
 
-/// Does all that the program does with its arguments, and returns what it ends with: the number of
-/// the status. The words of the command line are the arguments but the first.
-pub fn program_status<R: AllocGlobal, S: Source, K: Sink>(
+impl<R: AllocGlobal, S: Source, K: Sink, E: Sink> Program<R, S, K, E> for Mapper {
+    ghost ends = { IsMapRun };
+
+    fn run(
+        &self,
+        rt: &R,
+        words: &[String],
+        source: &mut S,
+        sink: &mut K,
+        _errors: &mut E,
+    ) -> Status {
+        map(rt.alloc(), asked_by(words), labels_of(words), source, sink)
+    }
+}
+
+/// Does all that the program does with its arguments, and returns its exit code. `run_program` of mt_shell says which words
+/// may name the dump.
+pub fn program_status<R: Files + AllocGlobal, S: FileSource<R::File>, K: Sink, E: Sink>(
     rt: &R,
     args: io::Result<Args>,
     source: &mut S,
     sink: &mut K,
+    errors: &mut E,
 ) -> ExitCode
-    ensures runs { (bytes : List ℕ) → S.left source.old ≡ Some bytes →
-        Exits result (IsMapRun (asked_in args) (held bytes (S.left source.new)) (port K.taken sink.old sink.new)) }
-    ensures read_fault { Exits result (StatusHasCause Status.ReadFault (S.faults source.old) (S.faults source.new)) }
-    ensures write_fault { Exits result (StatusHasCause Status.WriteFault (K.faults sink.old) (K.faults sink.new)) }
-    ensures too_long { Exits result (λ status. (status ≡ Status.TooLong) ↔ GaveTooMuch (S.given source.old) (S.given source.new)) }
+    ensures ends { Exits result (IsProgramRun reads_dump IsMapRun (given_words args) (source_run S.left S.faults S.given source.old source.new)
+        (sink_run K.taken K.faults sink.old sink.new) (sink_run E.taken E.faults errors.old errors.new)) }
 
     // Where the arguments find no memory nothing is run.
     ensures no_memory { IfErr args (λ error. error_kind error ≡ ErrorKind.OutOfMemory → exit_status result ≡ code Status.NoMemory) }
 {
-    exit_code(run(rt, args, source, sink))
+    run_program(&Mapper, rt, args, source, sink, errors)
 }

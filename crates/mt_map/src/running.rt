@@ -13,7 +13,7 @@ use crate::picture::{Legend, picture_of_files, picture_text};
 use crate::{Asked, Labels, Names};
 use arrayvec::ArrayVec;
 use mt_dump::{Dump, read_dump_from};
-use mt_output::{bad_text_line, dump_refused_line, written};
+use mt_output::{bad_text_line, dump_refused_line, written, wrong_usage};
 use mt_ports::{NoMemory, Sink, Source, Status};
 use mt_regs::{Fault, RegFile, first_difference, first_refusal};
 use mt_text::FeedFault;
@@ -166,7 +166,7 @@ pub fn map<S: Source, K: Sink>(
     ensures too_long { (result ≡ Status.TooLong) ↔ GaveTooMuch (S.given source.old) (S.given source.new) }
 {
     match asked {
-        None => written(sink, b"usage\n", Status::Usage),
+        None => wrong_usage(sink),
         Some(Asked::Help) => written(sink, help_text(), Status::Done),
         Some(Asked::Version) => written(sink, version_text(), Status::Done),
         Some(Asked::Picture) => draw_input(alloc, labels, source, sink),

@@ -1,17 +1,15 @@
 //! Reads a log of another program, and writes the dump that it shows.
 #![tactic(auto)]
 
-mod errors;
-
-use errors::StdErrors;
 use mt_import::program_status;
 use mt_ports::{StdSink, StdSource};
+use mt_shell::Input;
 use std::env;
 use std::process::ExitCode;
 
 fn main(rt: HostRuntime) -> ExitCode {
-    let mut source = StdSource::new(rt.stdin());
+    let mut source = StdSource::new(Input::standard(rt.stdin()));
     let mut sink = StdSink::new(rt.stdout());
-    let mut errors = StdErrors::new(rt.stderr());
+    let mut errors = StdSink::new(rt.stderr());
     program_status(&rt, env::args(&rt), &mut source, &mut sink, &mut errors)
 }

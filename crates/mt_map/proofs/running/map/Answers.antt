@@ -8,14 +8,14 @@ use Rattle.mt_map.proofs.Telling.{told_help, told_usage, told_version}
 use Rattle.mt_map.proofs.running.map.Goals as goal
 
 pub returns-in-None-clause-maps : goal.returns-in-None-clause-maps
-returns-in-None-clause-maps g c bytes is = told_usage c.args.asked bytes _ _ _ _ c.in-None.is is c.written.ensures.bytes
+returns-in-None-clause-maps g c bytes is = told_usage c.args.asked bytes _ _ _ _ c.in-None.is is c.wrong_usage.ensures.bytes
 
 pub returns-in-Some-Help-clause-maps : goal.returns-in-Some-Help-clause-maps
 returns-in-Some-Help-clause-maps g c bytes is =
     let old = g.K.Sink.taken c.args.sink.now in
-    let new = g.K.Sink.taken c.written-in-Some-Help.new.sink in
+    let new = g.K.Sink.taken c.written.new.sink in
     told_help c.args.asked bytes _ _ _ _ (c.in-Some-Help.is ∙ ap Some (rw c.in-Some-Help.is at c.in-Some-Help.field-0-is)) is
-    (subst (λ (text : List ℕ). Writes text Done old new c.written-in-Some-Help.result) c.help_text.ensures c.written-in-Some-Help.ensures.bytes)
+    (subst (λ (text : List ℕ). Writes text Done old new c.written.result) c.help_text.ensures c.written.ensures.bytes)
 
 pub returns-in-Some-Version-clause-maps : goal.returns-in-Some-Version-clause-maps
 returns-in-Some-Version-clause-maps g c bytes is =
