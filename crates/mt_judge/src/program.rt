@@ -1,28 +1,36 @@
-ghost use Rattle.mt_judge.specs.Verdicts.{IsStatusOf};
+ghost use Rattle.std.specs.Prelude.{◌≡◌, IfErr};
+ghost use Rattle.std.specs.IoError.{error_kind};
+ghost use Rattle.std.specs.Process.{exit_status};
+ghost use Rattle.mt_ports.specs.Exit.{code};
+ghost use Rattle.mt_output.specs.Ports.{sink_run, source_run};
+ghost use Rattle.mt_output.specs.Program.{Exits};
+ghost use Rattle.mt_shell.specs.Runs.{IsProgramRun, given_words};
+ghost use Rattle.mt_judge.specs.Verdicts.{IsJudgeRun, IsStatusOf, reads_case};
 
 use crate::judging::{Verdict, judge};
 use crate::telling::verdict_text;
 use mt_case::{Trouble, read_input};
-use mt_output::{bad_text, exit_code, words_behind_name, written};
+use mt_output::{bad_text, written, wrong_usage};
 use mt_ports::{Sink, Source, Status};
 use mt_procedure::Case;
+use mt_shell::{CommandLines, FileSource, Program, own_text, run_program};
+use mt_text::LONGEST_INPUT;
 use std::alloc::Global;
 use std::env::Args;
+use std::fs::Files;
 use std::io::{self, ErrorKind};
 use std::process::ExitCode;
 
-/// The bytes of the longest input that isn't too long.
-const LONGEST: usize = 1 << 24;
-
-const HELP: &[u8] = b"usage: mtrr-judge < CASE > VERDICT
+const HELP: &[u8] = b"usage: mtrr-judge [CASE] > VERDICT
 
 Judges a procedure that changes memory type registers. Runs the steps of
 each processor on the machine of mtrr, and writes what they leave wrong.
 
-  --help     this text
-  --version  the version
+  CASE        names the case; without it, or if it is -, standard input is read
+  -h, --help  this text
+  --version   the version
 
---help and --version read nothing.
+-h, --help and --version read nothing.
 
 Exit status:
   0  nothing is wrong
@@ -44,7 +52,7 @@ fn take_more<S: Source>(bytes: &mut Vec<u8>, source: &mut S) -> Result<bool, Sta
     let Ok(count) = source.take(&mut buffer) else {
         return Err(Status::ReadFault);
     };
-    if count > LONGEST.saturating_sub(bytes.len()) {
+    if count > LONGEST_INPUT.saturating_sub(bytes.len()) {
         return Err(Status::TooLong);
     }
     match bytes.extend_from_slice(&buffer[..count]) {
@@ -54,7 +62,7 @@ fn take_more<S: Source>(bytes: &mut Vec<u8>, source: &mut S) -> Result<bool, Sta
 }
 
 fn take_all<S: Source>(bytes: &mut Vec<u8>, source: &mut S) -> Result<(), Status> {
-    for _ in 0..=LONGEST {
+    for _ in 0..=LONGEST_INPUT {
         if !take_more(bytes, source)? {
             return Ok(());
         }
@@ -110,34 +118,57 @@ fn judge_input<R: Eprint + AllocGlobal, S: Source, K: Sink>(
     }
 }
 
-fn run<R: Eprint + AllocGlobal, S: Source, K: Sink>(
-    rt: &R,
-    args: io::Result<Args>,
-    source: &mut S,
-    sink: &mut K,
-) -> Status {
-    let words = match args {
-        Ok(args) => words_behind_name(rt.alloc(), args),
-        Err(error) if error.kind() == ErrorKind::OutOfMemory => return Status::NoMemory,
-        Err(_) => return written(sink, b"usage\n", Status::Usage),
-    };
-    match words {
-        Ok(words) => match words.as_slice() {
-            [] => judge_input(rt, source, sink),
-            [word] if word.as_str() == "--help" => written(sink, HELP, Status::Done),
-            [word] if word.as_str() == "--version" => written(sink, VERSION, Status::Done),
-            _ => written(sink, b"usage\n", Status::Usage),
-        },
-        Err(_) => Status::NoMemory,
+// The program, over any ports.
+struct Judging;
+
+impl CommandLines for Judging {
+    ghost is_reading = { reads_case };
+
+    fn name(&self) -> &'static str {
+        "mtrr-judge"
+    }
+
+    fn reads(&self, words: &[String]) -> bool {
+        words.is_empty()
     }
 }
 
-/// Does all that the program does with its arguments, and returns its exit status.
-pub fn program_status<R: Eprint + AllocGlobal, S: Source, K: Sink>(
+impl<R: Eprint + AllocGlobal, S: Source, K: Sink, E: Sink> Program<R, S, K, E> for Judging {
+    ghost ends = { IsJudgeRun };
+
+    fn run(
+        &self,
+        rt: &R,
+        words: &[String],
+        source: &mut S,
+        sink: &mut K,
+        _errors: &mut E,
+    ) -> Status {
+        if let Some(text) = own_text(words, HELP, VERSION) {
+            return written(sink, text, Status::Done);
+        }
+        if words.is_empty() {
+            judge_input(rt, source, sink)
+        } else {
+            wrong_usage(sink)
+        }
+    }
+}
+
+/// Does all that the program does with its arguments, and returns its exit code. `run_program` of mt_shell says which words
+/// may name the case.
+pub fn program_status<R: Files + Eprint + AllocGlobal, S: FileSource<R::File>, K: Sink, E: Sink>(
     rt: &R,
     args: io::Result<Args>,
     source: &mut S,
     sink: &mut K,
-) -> ExitCode {
-    exit_code(run(rt, args, source, sink))
+    errors: &mut E,
+) -> ExitCode
+    ensures ends { Exits result (IsProgramRun reads_case IsJudgeRun (given_words args) (source_run S.left S.faults S.given source.old source.new)
+        (sink_run K.taken K.faults sink.old sink.new) (sink_run E.taken E.faults errors.old errors.new)) }
+
+    // If the arguments can't be allocated nothing is read or written.
+    ensures no_memory { IfErr args (λ error. error_kind error ≡ ErrorKind.OutOfMemory → exit_status result ≡ code Status.NoMemory) }
+{
+    run_program(&Judging, rt, args, source, sink, errors)
 }
