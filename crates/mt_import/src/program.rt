@@ -8,7 +8,7 @@ ghost use Rattle.mt_shell.specs.Runs.{IsProgramRun, given_words};
 ghost use Rattle.mt_import.specs.Import.{IsImportRun, reads_log};
 
 use crate::{command_of, import_apart};
-use mt_dump::read_dump;
+use mt_dump::read_given;
 use mt_ports::{Sink, Source, Status};
 use mt_shell::{CommandLines, FileSource, Program, run_program};
 use std::env::Args;
@@ -31,9 +31,9 @@ impl CommandLines for Importer {
     }
 
     fn hint(&self, front: &[u8]) -> Option<&'static str> {
-        match read_dump(front) {
-            Ok(_) => Some("this is a dump already"),
-            Err(_) => None,
+        match read_given(front) {
+            Ok(given) if given.has_width => Some("this is a dump already"),
+            _ => None,
         }
     }
 }
