@@ -1,8 +1,8 @@
-use Rattle.std.proofs.Common.{◌≡◌, ◌∙◌, ◌∷◌, ℕ, List, [], None, Option, ap, map, rules, string_bytes, subst, sym}
+use Rattle.std.proofs.Common.{◌≡◌, ◌∙◌, ◌∷◌, ℕ, List, [], None, Option, ap, rules, subst, sym}
 use Rattle.std.specs.Option.{unwrap_or}
 use Rattle.mt_output.specs.Ports.{sink_run, source_run}
 use Rattle.mt_output.specs.Program.{texts_of}
-use Rattle.mt_shell.specs.Runs.{IsProgramRun, given_words}
+use Rattle.mt_shell.specs.Runs.{IsProgramRun}
 use Rattle.mt_shell.proofs.program.run.Goals as goal
 
 pub returns-in-Err-NoText-clause-ends : goal.returns-in-Err-NoText-clause-ends

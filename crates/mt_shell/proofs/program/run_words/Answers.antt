@@ -1,6 +1,5 @@
-use Rattle.std.proofs.Common.{◌≡◌, ◌∙◌, ◌++◌, ◌∷◌, ℕ, Bool, List, [], ap, map, refl, rules, string_bytes, subst, sym, false, true}
+use Rattle.std.proofs.Common.{◌∙◌, ◌∷◌, [], ap, map, refl, rules, string_bytes, subst}
 use Rattle.std.proofs.lemmas.List.{map-append}
-use Rattle.mt_ports.specs.declared.status.Status.{Status}
 use Rattle.mt_output.specs.Ports.{sink_run, source_run}
 use Rattle.mt_shell.specs.Runs.{IsToldRun, over_file, unopened}
 use Rattle.mt_shell.proofs.program.run_words.Goals as goal
