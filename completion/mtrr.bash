@@ -44,13 +44,28 @@ _mtrr_import() {
     local word=${COMP_WORDS[COMP_CWORD]}
     COMPREPLY=()
     if [ "$COMP_CWORD" -eq 1 ]; then
-        COMPREPLY=($(compgen -W 'auto coreboot edk2 inteltool linux rdmsr x86info xen --help --version' -- "$word"))
+        COMPREPLY=($(compgen -W 'auto coreboot edk2 inteltool linux rdmsr x86info xen -h --help --version' -- "$word"))
     else
         _mtrr_supply "$word" maxphyaddr assume 0fe 268 277 2ff
+        _mtrr_files "$word"
     fi
 }
 
-# A title, `files`, or one of the words that stand alone.
+# The files that a word may name.
+_mtrr_files() {
+    local files=($(compgen -f -- "$1"))
+    COMPREPLY+=("${files[@]}")
+    [ ${#files[@]} -eq 0 ] || compopt -o filenames
+}
+
+# A case, or one of the words that stand alone.
+_mtrr_judge() {
+    local word=${COMP_WORDS[COMP_CWORD]}
+    COMPREPLY=($(compgen -W '-h --help --version' -- "$word"))
+    _mtrr_files "$word"
+}
+
+# A title, `files`, a dump, or one of the words that stand alone.
 _mtrr_map() {
     local word=${COMP_WORDS[COMP_CWORD]}
     _mtrr_supply "$word" title
@@ -58,7 +73,8 @@ _mtrr_map() {
     *' files '*) return ;;
     esac
     COMPREPLY+=($(compgen -W files -- "$word"))
-    [ "$COMP_CWORD" -ne 1 ] || COMPREPLY+=($(compgen -W '--help --version' -- "$word"))
+    _mtrr_files "$word"
+    [ "$COMP_CWORD" -ne 1 ] || COMPREPLY+=($(compgen -W '-h --help --version' -- "$word"))
     [[ ${COMPREPLY[*]} == 'title=' ]] || compopt +o nospace
 }
 
@@ -83,5 +99,5 @@ _mtrr_explain() {
 complete -F _mtrr mtrr
 complete -F _mtrr_import mtrr-import
 complete -F _mtrr_map mtrr-map
-complete -W '--help --version' mtrr-judge
+complete -F _mtrr_judge mtrr-judge
 complete -F _mtrr_explain mtrr-explain
