@@ -2,7 +2,7 @@
 --     log_outcome choice supplied text      the texts and the status for a log
 --     outcome_of words bytes      the same for a command line
 --     output_of words bytes      one text and the status: the dump, or else the reasons
-use Rattle.std.specs.Prelude.{ℕ, ◌≡◌, ◌≢◌, ◌<◌, ◌⊎◌, ◌↔◌, ◌++◌, Bool, List, [], length, if◌then◌else◌, Option, Some, None, is_some, IsSome, ⊤}
+use Rattle.std.specs.Prelude.{ℕ, ◌≡◌, ◌≢◌, ◌<◌, ◌⊎◌, ◌↔◌, ◌++◌, Bool, List, [], codes, length, if◌then◌else◌, Option, Some, None, is_some, IsSome, ⊤}
 use Rattle.std.specs.Io.KnownBytes.{Appends}
 use Rattle.mt_text.specs.Text.{longest_input}
 use Rattle.mt_text.specs.Feed.{GaveTooMuch}
@@ -13,6 +13,7 @@ use Rattle.mt_ports.specs.declared.status.Status.TheVariants.{Done, Refused, Usa
 use Rattle.mt_output.specs.Lines.{usage_line}
 use Rattle.mt_output.specs.Ports.{Change, Held, Port, SinkRun, SourceRun, change, held, port}
 use Rattle.mt_output.specs.Written.{Writes}
+use Rattle.mt_shell.specs.Runs.{Commands}
 use Rattle.mt_import.specs.declared.format.Choice.{Choice}
 use Rattle.mt_import.specs.Shown.{format_of, is_auto, shown}
 use Rattle.mt_import.specs.Help.{own_text}
@@ -103,6 +104,9 @@ pub record HaveCause (out errors : Change ℕ) (status : Status) : Type 0 where
 -- the words that are a format with what is supplied
 abbrev pub reads_log : List (List ℕ) → Bool
 reads_log words = is_some (command_of words)
+
+abbrev pub commands : Commands
+commands = record { name = codes "mtrr-import"; reads = reads_log; hint = Some (codes "this is a dump already") }
 
 -- A run for words, over a source, a sink for the dump, and standard error.
 pub record IsImportRun {S K E : Type 0} (words : List (List ℕ)) (source : SourceRun S) (out : SinkRun K) (errors : SinkRun E) (status : Status) : Type 0 where

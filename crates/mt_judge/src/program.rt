@@ -1,11 +1,13 @@
-ghost use Rattle.std.specs.Prelude.{◌≡◌, IfErr};
+ghost use Rattle.std.specs.Prelude.{◌≡◌, ◌≢◌, ◌⊎◌, [], ◌∷◌, IfErr, None};
 ghost use Rattle.std.specs.IoError.{error_kind};
 ghost use Rattle.std.specs.Process.{exit_status};
+ghost use Rattle.mt_ports.specs.Causes.{StatusHasCause};
 ghost use Rattle.mt_ports.specs.Exit.{code};
 ghost use Rattle.mt_output.specs.Ports.{sink_run, source_run};
-ghost use Rattle.mt_output.specs.Program.{Exits};
-ghost use Rattle.mt_shell.specs.Runs.{IsProgramRun, given_words};
-ghost use Rattle.mt_judge.specs.Verdicts.{IsJudgeRun, IsStatusOf, reads_case};
+ghost use Rattle.mt_output.specs.Program.{Exits, texts_of};
+ghost use Rattle.mt_shell.specs.Runs.{HasReadCause, IsProgramRun, IsToldRun, given_words};
+ghost use Rattle.mt_judge.specs.Help.{help_text, version_text};
+ghost use Rattle.mt_judge.specs.Verdicts.{IsJudgeRun, IsStatusOf, IsTaken, commands};
 
 use crate::judging::{Verdict, judge};
 use crate::telling::verdict_text;
@@ -17,11 +19,13 @@ use mt_shell::{CommandLines, FileSource, Program, own_text, run_program};
 use mt_text::LONGEST_INPUT;
 use std::alloc::Global;
 use std::env::Args;
-use std::fs::Files;
 use std::io::{self, ErrorKind};
 use std::process::ExitCode;
 
-const HELP: &[u8] = b"usage: mtrr-judge [CASE] > VERDICT
+fn help_text() -> &'static [u8]
+    ensures { result.now ≡ help_text }
+{
+    b"usage: mtrr-judge [CASE] > VERDICT
 
 Judges a procedure that changes memory type registers. Runs the steps of
 each processor on the machine of mtrr, and writes what they leave wrong.
@@ -42,12 +46,19 @@ Exit status:
   5  writing failed
   6  out of memory
   7  the input has more than 16,777,216 bytes
-";
+"
+}
 
-const VERSION: &[u8] = b"mtrr-judge 1.0.0\n";
+fn version_text() -> &'static [u8]
+    ensures { result.now ≡ version_text }
+{
+    b"mtrr-judge 1.0.0\n"
+}
 
 // Adds the next bytes of a source. False if there are no more.
-fn take_more<S: Source>(bytes: &mut Vec<u8>, source: &mut S) -> Result<bool, Status> {
+fn take_more<S: Source>(bytes: &mut Vec<u8>, source: &mut S) -> Result<bool, Status>
+    ensures { IsTaken result (S.faults source.old) (S.faults source.new) }
+{
     let mut buffer = [0; 8192];
     let Ok(count) = source.take(&mut buffer) else {
         return Err(Status::ReadFault);
@@ -61,8 +72,10 @@ fn take_more<S: Source>(bytes: &mut Vec<u8>, source: &mut S) -> Result<bool, Sta
     }
 }
 
-fn take_all<S: Source>(bytes: &mut Vec<u8>, source: &mut S) -> Result<(), Status> {
-    for _ in 0..=LONGEST_INPUT {
+fn take_all<S: Source>(bytes: &mut Vec<u8>, source: &mut S) -> Result<(), Status>
+    ensures { IsTaken result (S.faults source.old) (S.faults source.new) }
+{
+    'pieces: for _ in 0..=LONGEST_INPUT {
         if !take_more(bytes, source)? {
             return Ok(());
         }
@@ -71,7 +84,9 @@ fn take_all<S: Source>(bytes: &mut Vec<u8>, source: &mut S) -> Result<(), Status
 }
 
 // All bytes of a source.
-fn read_all<S: Source>(alloc: Global, source: &mut S) -> Result<Vec<u8>, Status> {
+fn read_all<S: Source>(alloc: Global, source: &mut S) -> Result<Vec<u8>, Status>
+    ensures { IsTaken result (S.faults source.old) (S.faults source.new) }
+{
     let mut bytes = Vec::new(alloc);
     take_all(&mut bytes, source)?;
     Ok(bytes)
@@ -79,7 +94,8 @@ fn read_all<S: Source>(alloc: Global, source: &mut S) -> Result<Vec<u8>, Status>
 
 // Writes a verdict.
 fn print<K: Sink>(alloc: Global, case: &Case, verdict: &Verdict, sink: &mut K) -> Status
-    ensures { IsStatusOf verdict.now result }
+    ensures status { IsStatusOf verdict.now result }
+    ensures write_fault { StatusHasCause Status.WriteFault (K.faults sink.old) (K.faults sink.new) result }
 {
     let status = if verdict.wrong {
         Status::Refused
@@ -93,7 +109,10 @@ fn print<K: Sink>(alloc: Global, case: &Case, verdict: &Verdict, sink: &mut K) -
 }
 
 // Writes the verdict on a text.
-fn answer<R: Eprint + AllocGlobal, K: Sink>(rt: &R, text: &[u8], sink: &mut K) -> Status {
+fn answer<R: Eprint + AllocGlobal, K: Sink>(rt: &R, text: &[u8], sink: &mut K) -> Status
+    ensures answered { (result ≢ Status.Usage) × (result ≢ Status.ReadFault) }
+    ensures write_fault { StatusHasCause Status.WriteFault (K.faults sink.old) (K.faults sink.new) result }
+{
     match read_input(rt.alloc(), text) {
         Ok(input) => match judge(rt, &input) {
             Ok(verdict) => print(rt.alloc(), &input.case, &verdict, sink),
@@ -111,7 +130,11 @@ fn judge_input<R: Eprint + AllocGlobal, S: Source, K: Sink>(
     rt: &R,
     source: &mut S,
     sink: &mut K,
-) -> Status {
+) -> Status
+    ensures judged { result ≢ Status.Usage }
+    ensures read_fault { StatusHasCause Status.ReadFault (S.faults source.old) (S.faults source.new) result }
+    ensures write_fault { StatusHasCause Status.WriteFault (K.faults sink.old) (K.faults sink.new) result }
+{
     match read_all(rt.alloc(), source) {
         Ok(bytes) => answer(rt, bytes.as_slice(), sink),
         Err(status) => status,
@@ -122,7 +145,7 @@ fn judge_input<R: Eprint + AllocGlobal, S: Source, K: Sink>(
 struct Judging;
 
 impl CommandLines for Judging {
-    ghost is_reading = { reads_case };
+    ghost commands = { commands };
 
     fn name(&self) -> &'static str {
         "mtrr-judge"
@@ -144,7 +167,7 @@ impl<R: Eprint + AllocGlobal, S: Source, K: Sink, E: Sink> Program<R, S, K, E> f
         sink: &mut K,
         _errors: &mut E,
     ) -> Status {
-        if let Some(text) = own_text(words, HELP, VERSION) {
+        if let Some(text) = own_text(words, help_text(), version_text()) {
             return written(sink, text, Status::Done);
         }
         if words.is_empty() {
@@ -157,15 +180,20 @@ impl<R: Eprint + AllocGlobal, S: Source, K: Sink, E: Sink> Program<R, S, K, E> f
 
 /// Does all that the program does with its arguments, and returns its exit code. `run_program` of mt_shell says which words
 /// may name the case.
-pub fn program_status<R: Files + Eprint + AllocGlobal, S: FileSource<R::File>, K: Sink, E: Sink>(
+pub fn program_status<R: Eprint + AllocGlobal, S: FileSource<R>, K: Sink, E: Sink>(
     rt: &R,
     args: io::Result<Args>,
     source: &mut S,
     sink: &mut K,
     errors: &mut E,
 ) -> ExitCode
-    ensures ends { Exits result (IsProgramRun reads_case IsJudgeRun (given_words args) (source_run S.left S.faults S.given source.old source.new)
+    ensures ends { Exits result (IsProgramRun commands S.opens IsJudgeRun (given_words args) (source_run S.left S.faults S.given source.old source.new)
         (sink_run K.taken K.faults sink.old sink.new) (sink_run E.taken E.faults errors.old errors.new)) }
+    ensures read_fault { Exits result (HasReadCause commands S.opens (given_words args) (source_run S.left S.faults S.given source.old source.new)) }
+
+    // An argument that is no text is wrong usage, as an empty word is.
+    ensures no_text { texts_of args ≡ None → Exits result (λ status. (status ≡ Status.NoMemory) ⊎ IsToldRun commands IsJudgeRun ([] ∷ [])
+        (source_run S.left S.faults S.given source.old source.new) (sink_run K.taken K.faults sink.old sink.new) (sink_run E.taken E.faults errors.old errors.new) status) }
 
     // If the arguments can't be allocated nothing is read or written.
     ensures no_memory { IfErr args (λ error. error_kind error ≡ ErrorKind.OutOfMemory → exit_status result ≡ code Status.NoMemory) }

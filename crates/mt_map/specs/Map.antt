@@ -3,7 +3,7 @@
 --     MapOf dump text status      the picture of a dump, or the line of the fault for which there is none
 --     Output asked bytes text status      what is written for what the words ask and for an input
 --     Maps asked source sink result      what a run leaves in the source and the sink
-use Rattle.std.specs.Prelude.{ℕ, ◌≡◌, ◌≢◌, ◌<◌, ◌⊎◌, ◌↔◌, Bool, List, [], ◌∷◌, length, Option, Some, None, slice_get}
+use Rattle.std.specs.Prelude.{ℕ, ◌≡◌, ◌≢◌, ◌<◌, ◌⊎◌, ◌↔◌, Bool, List, [], ◌∷◌, codes, length, Option, Some, None, slice_get}
 use Rattle.std.specs.List.{All}
 use Rattle.mt_text.specs.Text.{longest_input}
 use Rattle.mt_text.specs.Feed.{GaveTooMuch}
@@ -21,6 +21,7 @@ use Rattle.mt_dump.specs.Reader.{dump_offence}
 use Rattle.mt_dump.specs.declared.fault.DumpFault.{DumpFault}
 use Rattle.mt_output.specs.Lines.{bad_text_line, dump_refused_line, usage_line}
 use Rattle.mt_output.specs.Written.{Writes}
+use Rattle.mt_shell.specs.Runs.{Commands}
 use Rattle.mt_map.specs.declared.asked.Asked.{Asked}
 use Rattle.mt_map.specs.declared.asked.Asked.TheVariants.{Picture}
 use Rattle.mt_map.specs.Asked.{asked_by, is_picture, left_of, own_text}
@@ -79,6 +80,9 @@ pub data Maps (asked : Option Asked) (source : Held) (sink : Port) (result : Sta
 -- the words that ask for a picture
 abbrev pub reads_dump : List (List ℕ) → Bool
 reads_dump words = is_picture (asked_by words)
+
+abbrev pub commands : Commands
+commands = record { name = codes "mtrr-map"; reads = reads_dump; hint = None }
 
 -- A run for words, over a source and a sink. Standard error stays as it is.
 pub record IsMapRun {S K E : Type 0} (words : List (List ℕ)) (source : SourceRun S) (sink : SinkRun K) (errors : SinkRun E) (status : Status) : Type 0 where

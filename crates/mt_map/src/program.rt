@@ -1,17 +1,16 @@
-ghost use Rattle.std.specs.Prelude.{◌≡◌, IfErr};
+ghost use Rattle.std.specs.Prelude.{◌≡◌, ◌⊎◌, [], ◌∷◌, IfErr, None};
 ghost use Rattle.std.specs.IoError.{error_kind};
 ghost use Rattle.std.specs.Process.{exit_status};
 ghost use Rattle.mt_ports.specs.Exit.{code};
 ghost use Rattle.mt_output.specs.Ports.{sink_run, source_run};
-ghost use Rattle.mt_output.specs.Program.{Exits};
-ghost use Rattle.mt_shell.specs.Runs.{IsProgramRun, given_words};
-ghost use Rattle.mt_map.specs.Map.{IsMapRun, reads_dump};
+ghost use Rattle.mt_output.specs.Program.{Exits, texts_of};
+ghost use Rattle.mt_shell.specs.Runs.{HasReadCause, IsProgramRun, IsToldRun, given_words};
+ghost use Rattle.mt_map.specs.Map.{IsMapRun, commands};
 
 use crate::{Asked, asked_by, labels_of, map};
 use mt_ports::{Sink, Source, Status};
 use mt_shell::{CommandLines, FileSource, Program, run_program};
 use std::env::Args;
-use std::fs::Files;
 use std::io::{self, ErrorKind};
 use std::process::ExitCode;
 
@@ -19,7 +18,7 @@ use std::process::ExitCode;
 struct Mapper;
 
 impl CommandLines for Mapper {
-    ghost is_reading = { reads_dump };
+    ghost commands = { commands };
 
     fn name(&self) -> &'static str {
         "mtrr-map"
@@ -47,15 +46,20 @@ impl<R: AllocGlobal, S: Source, K: Sink, E: Sink> Program<R, S, K, E> for Mapper
 
 /// Does all that the program does with its arguments, and returns its exit code. `run_program` of mt_shell says which words
 /// may name the dump.
-pub fn program_status<R: Files + AllocGlobal, S: FileSource<R::File>, K: Sink, E: Sink>(
+pub fn program_status<R: AllocGlobal, S: FileSource<R>, K: Sink, E: Sink>(
     rt: &R,
     args: io::Result<Args>,
     source: &mut S,
     sink: &mut K,
     errors: &mut E,
 ) -> ExitCode
-    ensures ends { Exits result (IsProgramRun reads_dump IsMapRun (given_words args) (source_run S.left S.faults S.given source.old source.new)
+    ensures ends { Exits result (IsProgramRun commands S.opens IsMapRun (given_words args) (source_run S.left S.faults S.given source.old source.new)
         (sink_run K.taken K.faults sink.old sink.new) (sink_run E.taken E.faults errors.old errors.new)) }
+    ensures read_fault { Exits result (HasReadCause commands S.opens (given_words args) (source_run S.left S.faults S.given source.old source.new)) }
+
+    // An argument that is no text is wrong usage, as an empty word is.
+    ensures no_text { texts_of args ≡ None → Exits result (λ status. (status ≡ Status.NoMemory) ⊎ IsToldRun commands IsMapRun ([] ∷ [])
+        (source_run S.left S.faults S.given source.old source.new) (sink_run K.taken K.faults sink.old sink.new) (sink_run E.taken E.faults errors.old errors.new) status) }
 
     // Where the arguments find no memory nothing is run.
     ensures no_memory { IfErr args (λ error. error_kind error ≡ ErrorKind.OutOfMemory → exit_status result ≡ code Status.NoMemory) }

@@ -1,14 +1,20 @@
-ghost use Rattle.std.specs.Prelude.{◌≡◌};
+ghost use Rattle.std.specs.Prelude.{◌≡◌, ℕ, List, MatchResult, None, Option, Some, ⊤};
 
 use arrayvec::ArrayVec;
 use mt_dump::{TextBuffer, append_text};
 use mt_ports::{Source, StdSource};
+use std::fs::{File, Files};
 use std::io::{self, Read, Stdin};
 
 /// A source that can go on with a file.
-pub trait FileSource<F>: Source {
-    /// Goes on with the bytes of this file, in place of those that are left. The counts stay.
-    fn go_on_with(&mut self, file: F)
+pub trait FileSource<R>: Source {
+    /// What opening a file comes to, by its name and the source before: the source that goes on with it, or none.
+    ghost opens: { List ℕ → Self → Option Self → Type 0 };
+
+    /// Opens a file, and goes on with its bytes in place of those that are left. The counts stay.
+    fn go_on_with(&mut self, rt: &R, name: &str) -> io::Result<()>
+        ensures opens { MatchResult result (λ _. opens name.now self.old (Some self.new)) (λ _. opens name.now self.old None) }
+        ensures unopened { MatchResult result (λ _. ⊤) (λ _. self.new ≡ self.old) }
         ensures faults { Self.faults self.new ≡ Self.faults self.old }
         ensures given { Self.given self.new ≡ Self.given self.old };
 
@@ -58,9 +64,14 @@ impl<F: Read> Read for Input<F> {
     }
 }
 
-impl<F: Read + Drop> FileSource<F> for StdSource<Input<F>> {
-    fn go_on_with(&mut self, file: F) {
+// Files and standard input tell no bytes.
+impl<R: Files> FileSource<R> for StdSource<Input<R::File>> {
+    ghost opens = { λ _ _ _. ⊤ };
+
+    fn go_on_with(&mut self, rt: &R, name: &str) -> io::Result<()> {
+        let file = File::open(rt, name)?;
         self.go_on(Input::file(file));
+        Ok(())
     }
 
     fn front(&self) -> &[u8] {

@@ -4,8 +4,8 @@ use Rattle.mt_map.specs.declared.asked.Asked.{Asked}
 use Rattle.mt_map.specs.Map.{Maps}
 use Rattle.mt_map.proofs.program.MapperProgram.run.Goals as goal
 
-pub returns : goal.returns
-returns g c =
+pub returns-clause-ends : goal.returns-clause-ends
+returns-clause-ends g c =
     let left = g.S.Source.left c.map.new.source in
     let old = g.K.Sink.taken c.args.sink.now in
     let new = g.K.Sink.taken c.map.new.sink in
