@@ -6,7 +6,7 @@ import { tmpdir } from 'node:os';
 import { FORMATS, OTHERS, QUESTIONS, dumps, explainProgram, logs, program, randomDump, scriptInNode, top } from './programs.mjs';
 
 const SUPPLIED = ['maxphyaddr=36', '0fe=d08', '277=7040600070406', '268=505050505050505', '2ff=c00'];
-const PICTURES = [[], ['--help'], ['--version'], ['more'], ['files'], ['title=<b>&\u00e9'], ['files', 'title=x'], ['title='], ['title=\ufffe']];
+const PICTURES = [[], ['--help'], ['--version'], ['-h'], ['more='], ['files'], ['title=<b>&\u00e9'], ['files', 'title=x'], ['title='], ['title=\ufffe']];
 const ADDRESSES = ['0', 'a0000', 'c0000000', 'fee00000', 'ffffffffffffffff'];
 const MOST = 1 << 24;
 const long = Buffer.alloc(MOST, '# a comment of thirty-two bytes\n');
