@@ -12,10 +12,10 @@ use Rattle.mt_text.specs.declared.place.Place.{Place}
 use Rattle.mt_dump.specs.Line.{Reading, fault_at}
 use Rattle.mt_dump.specs.Dumps.{Dump}
 use Rattle.mt_dump.specs.Dump.{given, widths, versions, section_numbers, section_count, times, is_given, value_given, is_writable, is_spoken, version_of, is_later, is_outside, first_section, first_width, up_to_section, behind_first, behind_sections, sections_of, ShowsSection, ShowsFirst, ShowsLater, ShowAll, ShowAllLater, ShownBy, count_from, offence_of}
-use Rattle.mt_dump.specs.Reader.{IsSane, IsClean, dump_in, file_in, files_in, onto, read_from}
+use Rattle.mt_dump.specs.Reader.{IsSane, IsClean, dump_in, file_in, files_in, onto, read_from, done_in}
 use Rattle.mt_dump.specs.declared.said.Said.TheVariants.{Nothing, Version, Section, Width, Register}
 use Rattle.mt_dump.proofs.Readings.{times-onto, length-onto, given-onto, widths-onto, versions-onto, numbers-onto, good_rest, all_rest, all_before, value_given-stands}
-use Rattle.mt_dump.proofs.Sections.{behind_unspoken, behind_spoken, clean_versions, first_early, early_present, up_to_all, up_to-onto, done_in, no_sections_done, sections_split}
+use Rattle.mt_dump.proofs.Sections.{behind_unspoken, behind_spoken, clean_versions, first_early, early_present, up_to_all, up_to-onto, no_sections_done, sections_split}
 use Rattle.mt_dump.proofs.Present.{Leads, clean_stands}
 use Rattle.mt_dump.proofs.Stands.{Shows, clean_closed, clean_shown, none_given, one_first, first_gives, shown_given, shown_once}
 use Rattle.mt_dump.specs.declared.fault.DumpFault.{DumpFault}

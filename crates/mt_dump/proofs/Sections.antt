@@ -6,7 +6,7 @@ use Rattle.std.proofs.lemmas.Bool.Decides.{nat_tests}
 use Rattle.mt_text.specs.declared.place.Place.{Place}
 use Rattle.mt_dump.specs.Line.{Reading}
 use Rattle.mt_dump.specs.Dump.{given, widths, versions, section_numbers, section_count, version_of, is_given, is_writable, value_given, is_spoken, is_later, is_outside, first_section, first_width, up_to_section, behind_first, behind_sections, sections_in, sections_of, count_from, offence_of}
-use Rattle.mt_dump.specs.Reader.{IsClean, onto}
+use Rattle.mt_dump.specs.Reader.{IsClean, done_in, done_next, onto}
 use Rattle.mt_dump.specs.declared.fault.DumpFault.{DumpFault}
 use Rattle.mt_dump.specs.declared.said.Said.TheVariants.{Nothing, Version, Section, Width, Register}
 use Rattle.mt_dump.proofs.Readings.{given-onto, widths-onto, versions-onto}
@@ -334,20 +334,6 @@ nothing_inside (Ok (Section number place) ∷ before) rest clean some = by (sect
 nothing_inside (Ok (Width width first second) ∷ before) rest clean some = nothing_inside before (Ok (Width width first second) ∷ rest) clean.2 some
 nothing_inside (Ok (Register number value first second) ∷ before) rest clean some = nothing_inside before (Ok (Register number value first second) ∷ rest) clean.2 some
 nothing_inside (Err fault ∷ before) rest clean some = nothing_inside before (Err fault ∷ rest) clean.2 some
-
--- the sections behind the present one, in order
-abbrev pub done_next : List ℕ → List (List Reading) → List Reading → List (List Reading)
-done_next [] done section = []
-done_next (n ∷ ns) done section = done ++ section ∷ []
-
-abbrev pub done_in : List Reading → List (List Reading)
-done_in [] = []
-done_in (Ok (Section number place) ∷ before) = done_next (section_numbers before) (done_in before) (onto (up_to_section before) [])
-done_in (Ok Nothing ∷ before) = done_in before
-done_in (Ok (Version version place) ∷ before) = done_in before
-done_in (Ok (Width width first second) ∷ before) = done_in before
-done_in (Ok (Register number value first second) ∷ before) = done_in before
-done_in (Err fault ∷ before) = done_in before
 
 abbrev pub joined : List ℕ → List (List Reading) → List Reading → List (List Reading) → List (List Reading)
 joined [] done section more = more

@@ -12,10 +12,10 @@ use Rattle.mt_text.specs.declared.place.Place.{Place}
 use Rattle.mt_dump.specs.Line.{Reading}
 use Rattle.mt_dump.specs.Dumps.{Dump, IsDump, dump_of, first_of}
 use Rattle.mt_dump.specs.Dump.{given, widths, versions, section_numbers, section_count, times, is_given, value_given, width_of, version_of, is_later, first_section, first_width, behind_first, up_to_section, behind_sections, sections_in, sections_of, ShowsSection, ShowsFirst, ShowsLater, ShowAll, ShowAllLater, ShownBy, count_from}
-use Rattle.mt_dump.specs.Reader.{IsSane, IsClean, file_in, files_in, dump_in, with_width, onto}
+use Rattle.mt_dump.specs.Reader.{IsSane, IsClean, file_in, files_in, dump_in, with_width, onto, done_in, done_next}
 use Rattle.mt_dump.specs.declared.said.Said.TheVariants.{Nothing, Version, Section, Width, Register}
 use Rattle.mt_dump.proofs.Readings.{times-onto, given-onto, widths-onto, numbers-onto, good_onto, all_onto, clean_good, value_given-stands}
-use Rattle.mt_dump.proofs.Sections.{section_passed, nothing_outside, sections_are_told, known_version, same_version, clean_first, clean_numbers, numbers_up, first_early, first_late, early_present, same_given, same_widths, section_counts, nothing_inside, done_in, done_next, sections_whole}
+use Rattle.mt_dump.proofs.Sections.{section_passed, nothing_outside, sections_are_told, known_version, same_version, clean_first, clean_numbers, numbers_up, first_early, first_late, early_present, same_given, same_widths, section_counts, nothing_inside, sections_whole}
 use Rattle.mt_dump.proofs.Present.{StandsNow, Leads, Widths, clean_stands, clean_widths}
 pub use Rattle.mt_dump.proofs.Present.{positive}
 

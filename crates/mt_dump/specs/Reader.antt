@@ -2,11 +2,11 @@
 --     dump_in before      the dump that the lines lead to
 --     read_text text      the dump that the text shows, or its first offence
 --     dump_offence text      the first offence, with its reason and place
---     read_given text      the dump with what the text gives of it, or the first offence
+--     done_in before      the lines of each section behind the present one
 use Rattle.std.specs.Prelude.{ℕ, ◌≡◌, ◌≤◌, ◌<◌, ◌-◌, ◌==◌, nat_lt, Bool, false, List, [], ◌∷◌, ◌++◌, length, ⊤, if◌then◌else◌, map, Option, Some, None, ok_or, option_to_list, unwrap_or, Result, Ok, Err}
 use Rattle.std.specs.List.{slice_index_or}
 use Rattle.std.specs.Option.{option_and_then, option_map, option_map_or}
-use Rattle.std.specs.Result.{result_err, result_map_both}
+use Rattle.std.specs.Result.{result_err}
 use Rattle.mt_text.specs.Reader.{Course}
 use Rattle.mt_text.specs.Text.{end_of}
 use Rattle.mt_text.specs.declared.place.Place.{Place}
@@ -14,8 +14,7 @@ use Rattle.mt_regs.specs.RegisterFile.{RegisterFile, low_byte, blank_file}
 use Rattle.mt_regs.specs.Registers.{written}
 use Rattle.mt_dump.specs.Line.{Reading, fault_at}
 use Rattle.mt_dump.specs.Dumps.{Dump}
-use Rattle.mt_dump.specs.Dump.{given, widths, gives_width, times, version_of, said_by, is_given, is_spoken, up_to_section, section_count, first_width, offence_of, said_from}
-use Rattle.mt_dump.specs.declared.dumps.GivenDump.{GivenDump}
+use Rattle.mt_dump.specs.Dump.{given, widths, gives_width, times, version_of, said_by, is_given, is_spoken, section_numbers, up_to_section, section_count, first_width, offence_of, said_from}
 use Rattle.mt_dump.specs.declared.fault.DumpFault.{DumpFault}
 use Rattle.mt_dump.specs.declared.fault.DumpReason.TheVariants.{NoCap}
 use Rattle.mt_dump.specs.declared.said.Said.TheVariants.{Nothing, Version, Section, Width, Register}
@@ -77,19 +76,19 @@ abbrev pub onto : {X : Type 0} → List X → List X → List X
 onto [] rest = rest
 onto (line ∷ before) rest = onto before (line ∷ rest)
 
--- a dump with what these lines give of it
-abbrev pub given_by : List Reading → Dump → GivenDump
-given_by says dump = record { dump = dump; has_width = gives_width says }
+-- the sections behind the present one, in order
+abbrev pub done_next : List ℕ → List (List Reading) → List Reading → List (List Reading)
+done_next [] done section = []
+done_next (n ∷ ns) done section = done ++ section ∷ []
 
-abbrev pub given_after : List Reading → Result Dump DumpFault → Result GivenDump DumpFault
-given_after says read = result_map_both (given_by says) (λ fault. fault) read
-
--- what lines behind others lead to, with what all these lines give of it
-abbrev pub given_from : Place → List Reading → List Reading → Result GivenDump DumpFault
-given_from end before rest = given_after (onto before rest) (read_from end before rest)
-
-abbrev pub read_given : List ℕ → Result GivenDump DumpFault
-read_given text = given_from (end_of text) [] (said_by text)
+abbrev pub done_in : List Reading → List (List Reading)
+done_in [] = []
+done_in (Ok (Section number place) ∷ before) = done_next (section_numbers before) (done_in before) (onto (up_to_section before) [])
+done_in (Ok Nothing ∷ before) = done_in before
+done_in (Ok (Version version place) ∷ before) = done_in before
+done_in (Ok (Width width first second) ∷ before) = done_in before
+done_in (Ok (Register number value first second) ∷ before) = done_in before
+done_in (Err fault ∷ before) = done_in before
 
 -- A reader between two lines.
 pub record State : Type 0 where
@@ -120,7 +119,7 @@ pub record HasRead (state : State) (before : List Reading) : Type 0 where
   pub marked : (number : ℕ) → 0x200 ≤ number → number < 0x300 → slice_index_or state.marks (number - 0x200) false ≡ nat_lt 0 (times number (given (up_to_section before)))
 
 -- The lines that follow, of which the first has this number, lead a reader to this.
-pub record LeadsTo (state : State) (number : ℕ) (course : Course (Result GivenDump DumpFault)) : Type 0 where
+pub record LeadsTo (state : State) (number : ℕ) (course : Course (Result Dump DumpFault)) : Type 0 where
   pub before : List Reading
   pub read : HasRead state before
-  pub leads : (lines : List (List ℕ)) (end : Place) → course lines end ≡ given_from end before (said_from number lines)
+  pub leads : (lines : List (List ℕ)) (end : Place) → course lines end ≡ read_from end before (said_from number lines)

@@ -16,14 +16,6 @@ pub struct Dump {
     pub files: ArrayVec<RegFile, 16>,
 }
 
-/// A dump that a text shows, with what the text gives of it.
-#[derive(Drop)]
-pub struct GivenDump {
-    pub dump: Dump,
-    /// Whether a line gives the width. If none does it is 36 bits.
-    pub has_width: bool,
-}
-
 impl Model for Dump {
     ghost use Rattle.mt_dump.specs.Dumps.{Dump as Shown, IsDump};
 

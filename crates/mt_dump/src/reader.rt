@@ -7,10 +7,12 @@ ghost use Rattle.mt_regs.specs.RegisterFile.{blank_file, low_byte};
 ghost use Rattle.mt_dump.specs.declared.fault.DumpFault.{DumpFault};
 ghost use Rattle.mt_dump.specs.Line.{Reading, fault_at, said_of};
 ghost use Rattle.mt_dump.specs.Dumps.{Dump as DumpValue};
-ghost use Rattle.mt_dump.specs.Dump.{Shown, offence_of, is_outside};
-ghost use Rattle.mt_dump.specs.Reader.{HasRead, dump_offence, read_from, read_given, with_width};
+ghost use Rattle.mt_dump.specs.Dump.{Shown, gives_width, offence_of, is_outside, section_count, up_to_section};
+ghost use Rattle.mt_dump.specs.Given.{given_of};
+ghost use Rattle.mt_dump.specs.Reader.{HasRead, dump_offence, onto, read_from, with_width};
 
-use crate::dumps::{Dump, GivenDump};
+use crate::dumps::Dump;
+use crate::given::Given;
 use crate::line::read_line;
 use crate::said::Said;
 use crate::{DumpFault, DumpReason};
@@ -64,7 +66,7 @@ impl Model for DumpReader {
     ghost invariant = { IsStateInside };
 }
 
-fn mark_of(number: u64) -> Option<usize>
+pub(crate) fn mark_of(number: u64) -> Option<usize>
     ensures { MatchOption result ((0x200 ≤ number) × (number < 0x300) → ⊥) (λ mark. (0x200 ≤ number) × (number < 0x300) × (mark ≡ number - 0x200)) }
 {
     if number >= FIRST && number - FIRST < MARKS as u64 {
@@ -277,6 +279,31 @@ impl DumpReader {
         }
     }
 
+    // How many `cpu` lines were read.
+    pub(crate) fn count(&self) -> usize
+        ensures { (before : List Reading) → HasRead self.now before → result ≡ section_count before }
+    {
+        self.sections as usize
+    }
+
+    // Whether some line gave the width.
+    pub(crate) fn has_width(&self) -> bool
+        ensures { (before : List Reading) → HasRead self.now before → result ≡ gives_width before }
+    {
+        self.width_given
+    }
+
+    // What the lines of the present section gave.
+    pub(crate) fn section(&self) -> Given
+        ensures { (before : List Reading) → HasRead self.now before → result ≡ given_of (onto (up_to_section before) []) }
+    {
+        Given {
+            has_width: self.has_width,
+            has_capabilities: self.has_capabilities,
+            marks: self.given,
+        }
+    }
+
     /// The dump of all lines that were read. Where none of them gave 0FEH the fault stands at the place.
     pub fn finish(self, at: Place) -> Result<Dump, DumpFault>
         ensures { (before : List Reading) → HasRead self before → result ≡ read_from at before [] }
@@ -298,7 +325,7 @@ impl DumpReader {
 }
 
 impl LineReader for DumpReader {
-    type Answer = GivenDump;
+    type Answer = Dump;
 
     type Fault = DumpFault;
 
@@ -314,20 +341,9 @@ impl LineReader for DumpReader {
         self.take(line)
     }
 
-    fn finish_at(self, end: Place) -> Result<GivenDump, DumpFault> {
-        let has_width = self.width_given;
-        match self.finish(end) {
-            Ok(dump) => Ok(GivenDump { dump, has_width }),
-            Err(fault) => Err(fault),
-        }
+    fn finish_at(self, end: Place) -> Result<Dump, DumpFault> {
+        self.finish(end)
     }
-}
-
-/// The dump that a text shows and whether it gives the width, or its first offence.
-pub fn read_given(source: &[u8]) -> Result<GivenDump, DumpFault>
-    ensures { result ≡ read_given source.now }
-{
-    read_slice(DumpReader::new(), source)
 }
 
 /// The dump that a text shows, or its first offence.
@@ -336,10 +352,7 @@ pub fn read_dump(source: &[u8]) -> Result<Dump, DumpFault>
     ensures ok { (dump : DumpValue) → (result ≡ Ok dump) ↔ Shown source.now dump }
     ensures err { (fault : DumpFault) → (result ≡ Err fault) ↔ (dump_offence source.now ≡ Some fault) }
 {
-    match read_given(source) {
-        Ok(given) => Ok(given.dump),
-        Err(fault) => Err(fault),
-    }
+    read_slice(DumpReader::new(), source)
 }
 
 /// The dump that the bytes of a source show, or their first offence, line by line out of one
@@ -353,9 +366,5 @@ pub fn read_dump_from<S: Source>(source: &mut S) -> Result<Result<Dump, DumpFaul
     ensures failed { IsErrOf result FeedFault.ReadFault → Rose (S.faults source.old) (S.faults source.new) }
     ensures stands { (IsErrOf result FeedFault.ReadFault → ⊥) → S.faults source.new ≡ S.faults source.old }
 {
-    match read_lines(DumpReader::new(), source) {
-        Ok(Ok(given)) => Ok(Ok(given.dump)),
-        Ok(Err(fault)) => Ok(Err(fault)),
-        Err(fault) => Err(fault),
-    }
+    read_lines(DumpReader::new(), source)
 }

@@ -15,6 +15,6 @@ pub use line::{
     LINE_ROOM, LineBuffer, accepted_line, append, append_address, append_decimal, append_number,
     append_pat_type, append_type, append_value,
 };
-pub use program::{NoWords, exit_code, words_behind_name, words_from};
+pub use program::{NoWords, exit_code, words_from};
 pub use whole::{written, wrong_usage};
 pub use writer::{WRITER_ROOM, Writer};

@@ -20,8 +20,8 @@ pub enum NoWords {
     NoMemory,
 }
 
-/// The arguments behind the program's name, which are the words of the command line.
-pub fn words_behind_name(alloc: Global, args: Args) -> Result<Vec<String>, AllocError>
+// The arguments behind the program's name, which are the words of the command line.
+fn words_behind_name(alloc: Global, args: Args) -> Result<Vec<String>, AllocError>
     ensures { IfOk result (λ words. words.items ≡ drop 1 (into_iter_items args)) }
 {
     args.skip(1).collect(alloc)

@@ -1,16 +1,15 @@
-use Rattle.std.proofs.Common.{[], refl, sym, ◌∙◌, Ok, Err}
-use Rattle.mt_dump.specs.Dump.{said_from}
-use Rattle.mt_dump.specs.Reader.{given_from}
+use Rattle.std.proofs.Common.{[], refl, sym, ◌≡◌, ℕ, List, Some, IfOk, MatchResult, Result, Ok, Err}
+use Rattle.mt_dump.specs.Dump.{Shown, said_from}
+use Rattle.mt_dump.specs.Dumps.{Dump}
+use Rattle.mt_dump.specs.Reader.{dump_offence, read_from, read_text}
+use Rattle.mt_dump.specs.declared.fault.DumpFault.{DumpFault}
 use Rattle.mt_dump.proofs.Ends.{reads_as}
-use Rattle.mt_dump.proofs.Fed.{read_as_given}
 use Rattle.mt_dump.proofs.reader.read_dump_from.Goals as goal
 
-pub returns-in-Ok-Ok-clause-answer : goal.returns-in-Ok-Ok-clause-answer
-returns-in-Ok-Ok-clause-answer g c = λ bytes is.
-    reads_as bytes (Ok c.in-Ok-Ok.given.dump)
-    (read_as_given bytes (Ok c.in-Ok-Ok.given) (sym c.in-Ok-Ok.field-0-is ∙ c.in-Ok-Ok.ensures.answer (λ lines end. given_from end [] (said_from 1 lines)) bytes (record { before = []; read = c.new.ensures; leads = λ lines end. refl }) is))
+if_read : {F : Type 0} (bytes : List ℕ) (result : Result (Result Dump DumpFault) F) → IfOk result (λ answer. answer ≡ read_text bytes) → IfOk result (λ answer. MatchResult answer (λ dump. Shown bytes dump) (λ fault. dump_offence bytes ≡ Some fault))
+if_read bytes (Ok answer) is = reads_as bytes answer (sym is)
+if_read bytes (Err fault) is = tt
 
-pub returns-in-Ok-Err-clause-answer : goal.returns-in-Ok-Err-clause-answer
-returns-in-Ok-Err-clause-answer g c = λ bytes is.
-    reads_as bytes (Err c.in-Ok-Err.fault)
-    (read_as_given bytes (Err c.in-Ok-Err.fault) (sym c.in-Ok-Err.field-0-is ∙ c.in-Ok-Err.ensures.answer (λ lines end. given_from end [] (said_from 1 lines)) bytes (record { before = []; read = c.new.ensures; leads = λ lines end. refl }) is))
+pub returns-clause-answer : goal.returns-clause-answer
+returns-clause-answer g c = λ bytes is.
+    if_read bytes c.read_lines.result (c.read_lines.ensures.answer (λ lines end. read_from end [] (said_from 1 lines)) bytes (record { before = []; read = c.new.ensures; leads = λ lines end. refl }) is)

@@ -1,0 +1,6 @@
+use Rattle.std.proofs.Common.{sym, subst}
+use Rattle.mt_dump.specs.Reader.{HasRead}
+use Rattle.mt_dump.proofs.reader.DumpReader.count.Goals as goal
+
+pub returns : goal.returns
+returns c = λ before read. (subst (λ s. HasRead s before) (sym c.self.view_is) read).sections_is
