@@ -10,7 +10,7 @@ ghost use Rattle.mt_import.specs.Import.{IsImportRun, commands};
 use crate::{command_of, import_apart};
 use mt_dump::read_given;
 use mt_ports::{Sink, Source, Status};
-use mt_shell::{CommandLines, FileSource, Program, run_program};
+use mt_shell::{CommandLines, FileSource, Program, Started, run_program};
 use std::env::Args;
 use std::io::{self, ErrorKind};
 use std::process::ExitCode;
@@ -72,5 +72,9 @@ pub fn program_status<R: AllocGlobal, S: FileSource<R>, K: Sink, E: Sink>(
     // If the arguments can't be allocated nothing is read or written.
     ensures no_memory { IfErr args (λ error. error_kind error ≡ ErrorKind.OutOfMemory → exit_status result ≡ code Status.NoMemory) }
 {
-    run_program(&Importer, rt, args, source, sink, errors)
+    let started = Started {
+        program: &Importer,
+        rt,
+    };
+    run_program(&started, args, source, sink, errors)
 }

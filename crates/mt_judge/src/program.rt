@@ -15,7 +15,7 @@ use mt_case::{Trouble, read_input};
 use mt_output::{bad_text, written, wrong_usage};
 use mt_ports::{Sink, Source, Status};
 use mt_procedure::Case;
-use mt_shell::{CommandLines, FileSource, Program, own_text, run_program};
+use mt_shell::{CommandLines, FileSource, Program, Started, own_text, run_program};
 use mt_text::LONGEST_INPUT;
 use std::alloc::Global;
 use std::env::Args;
@@ -198,5 +198,9 @@ pub fn program_status<R: Eprint + AllocGlobal, S: FileSource<R>, K: Sink, E: Sin
     // If the arguments can't be allocated nothing is read or written.
     ensures no_memory { IfErr args (λ error. error_kind error ≡ ErrorKind.OutOfMemory → exit_status result ≡ code Status.NoMemory) }
 {
-    run_program(&Judging, rt, args, source, sink, errors)
+    let started = Started {
+        program: &Judging,
+        rt,
+    };
+    run_program(&started, args, source, sink, errors)
 }

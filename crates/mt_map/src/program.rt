@@ -9,7 +9,7 @@ ghost use Rattle.mt_map.specs.Map.{IsMapRun, commands};
 
 use crate::{Asked, asked_by, labels_of, map};
 use mt_ports::{Sink, Source, Status};
-use mt_shell::{CommandLines, FileSource, Program, run_program};
+use mt_shell::{CommandLines, FileSource, Program, Started, run_program};
 use std::env::Args;
 use std::io::{self, ErrorKind};
 use std::process::ExitCode;
@@ -64,5 +64,9 @@ pub fn program_status<R: AllocGlobal, S: FileSource<R>, K: Sink, E: Sink>(
     // Where the arguments find no memory nothing is run.
     ensures no_memory { IfErr args (λ error. error_kind error ≡ ErrorKind.OutOfMemory → exit_status result ≡ code Status.NoMemory) }
 {
-    run_program(&Mapper, rt, args, source, sink, errors)
+    let started = Started {
+        program: &Mapper,
+        rt,
+    };
+    run_program(&started, args, source, sink, errors)
 }

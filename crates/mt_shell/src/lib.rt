@@ -8,4 +8,4 @@ mod reasons;
 
 pub use input::{FileSource, Input};
 pub use own::own_text;
-pub use program::{CommandLines, Program, run_program};
+pub use program::{CommandLines, Program, Started, run_program};

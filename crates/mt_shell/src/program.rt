@@ -54,6 +54,13 @@ pub trait Program<R, S: Source, K: Sink, E: Sink>: CommandLines {
         ensures read_fault { StatusHasCause Status.ReadFault (S.faults source.old) (S.faults source.new) result };
 }
 
+/// A program, and the runtime that it runs on.
+#[derive(Drop)]
+pub struct Started<'a, P, R> {
+    pub program: &'a P,
+    pub rt: &'a R,
+}
+
 fn is_empty_or_option(word: &[u8]) -> bool
     ensures { result ≡ is_empty_or_option word.now }
 {
@@ -112,8 +119,7 @@ fn usage_reason<P: CommandLines>(program: &P, words: &[String]) -> Reason {
 
 // Runs a program, and writes to standard error what its status makes worth saying.
 fn run_told<P: Program<R, S, K, E>, R, S: FileSource<R>, K: Sink, E: Sink>(
-    program: &P,
-    rt: &R,
+    started: &Started<'_, P, R>,
     words: &[String],
     source: &mut S,
     sink: &mut K,
@@ -123,7 +129,8 @@ fn run_told<P: Program<R, S, K, E>, R, S: FileSource<R>, K: Sink, E: Sink>(
         (sink_run K.taken K.faults sink.old sink.new) (sink_run E.taken E.faults errors.old errors.new) result }
     ensures read_fault { StatusHasCause Status.ReadFault (S.faults source.old) (S.faults source.new) result }
 {
-    let status = program.run(rt, words, source, sink, errors);
+    let program = started.program;
+    let status = program.run(started.rt, words, source, sink, errors);
     if status == Status::Usage {
         let reason = usage_reason(program, words);
         tell(errors, program.name(), reason.as_slice());
@@ -135,8 +142,16 @@ fn run_told<P: Program<R, S, K, E>, R, S: FileSource<R>, K: Sink, E: Sink>(
     status
 }
 
+// Whether a word looks like a name of another thing than a file.
+fn is_bare(word: &str) -> bool {
+    !word.as_bytes().contains(&b'.') && !word.as_bytes().contains(&b'/')
+}
+
 // Why a file can't be opened.
 fn unopened_reason(alloc: Global, file: &str, error: &io::Error) -> Reason {
+    if error.kind() == ErrorKind::NotFound && is_bare(file) {
+        return reason("unexpected word, and no such file: ", file);
+    }
     match format!(in alloc; "{file}: {error}") {
         Ok(text) => reason(text.as_str(), ""),
         Err(_) => reason(file, ""),
@@ -145,8 +160,7 @@ fn unopened_reason(alloc: Global, file: &str, error: &io::Error) -> Reason {
 
 // Goes on with the file that a word names, and says whether that could be opened.
 fn open<P: CommandLines, R: AllocGlobal, S: FileSource<R>, E: Sink>(
-    program: &P,
-    rt: &R,
+    started: &Started<'_, P, R>,
     file: &str,
     source: &mut S,
     errors: &mut E,
@@ -159,11 +173,11 @@ fn open<P: CommandLines, R: AllocGlobal, S: FileSource<R>, E: Sink>(
     if file == "-" {
         return true;
     }
-    match source.go_on_with(rt, file) {
+    match source.go_on_with(started.rt, file) {
         Ok(()) => true,
         Err(error) => {
-            let reason = unopened_reason(rt.alloc(), file, &error);
-            tell(errors, program.name(), reason.as_slice());
+            let reason = unopened_reason(started.rt.alloc(), file, &error);
+            tell(errors, started.program.name(), reason.as_slice());
             false
         }
     }
@@ -171,8 +185,7 @@ fn open<P: CommandLines, R: AllocGlobal, S: FileSource<R>, E: Sink>(
 
 // Runs a program for its words.
 fn run_words<P: Program<R, S, K, E>, R: AllocGlobal, S: FileSource<R>, K: Sink, E: Sink>(
-    program: &P,
-    rt: &R,
+    started: &Started<'_, P, R>,
     words: &[String],
     source: &mut S,
     sink: &mut K,
@@ -182,21 +195,20 @@ fn run_words<P: Program<R, S, K, E>, R: AllocGlobal, S: FileSource<R>, K: Sink, 
         (sink_run K.taken K.faults sink.old sink.new) (sink_run E.taken E.faults errors.old errors.new) result }
     ensures read_fault { HasReadCause P.commands S.opens (map string_bytes words.now) (source_run S.left S.faults S.given source.old source.new) result }
 {
-    match file_in(program, words) {
-        None => run_told(program, rt, words, source, sink, errors),
+    match file_in(started.program, words) {
+        None => run_told(started, words, source, sink, errors),
         Some((file, front)) => {
-            if !open(program, rt, file, source, errors) {
+            if !open(started, file, source, errors) {
                 return Status::ReadFault;
             }
-            run_told(program, rt, front, source, sink, errors)
+            run_told(started, front, source, sink, errors)
         }
     }
 }
 
 // Runs a program for its arguments.
 fn run<P: Program<R, S, K, E>, R: AllocGlobal, S: FileSource<R>, K: Sink, E: Sink>(
-    program: &P,
-    rt: &R,
+    started: &Started<'_, P, R>,
     args: io::Result<Args>,
     source: &mut S,
     sink: &mut K,
@@ -209,11 +221,12 @@ fn run<P: Program<R, S, K, E>, R: AllocGlobal, S: FileSource<R>, K: Sink, E: Sin
         (sink_run K.taken K.faults sink.old sink.new) (sink_run E.taken E.faults errors.old errors.new) result }
     ensures no_memory { IfErr args (λ error. error_kind error ≡ ErrorKind.OutOfMemory → result ≡ Status.NoMemory) }
 {
-    match words_from(rt.alloc(), args) {
-        Ok(words) => run_words(program, rt, &words, source, sink, errors),
+    let alloc = started.rt.alloc();
+    match words_from(alloc, args) {
+        Ok(words) => run_words(started, &words, source, sink, errors),
         Err(NoWords::NoText) => {
-            let empty = [String::new(rt.alloc())];
-            run_told(program, rt, &empty, source, sink, errors)
+            let empty = [String::new(alloc)];
+            run_told(started, &empty, source, sink, errors)
         }
         Err(NoWords::NoMemory) => Status::NoMemory,
     }
@@ -226,8 +239,7 @@ fn run<P: Program<R, S, K, E>, R: AllocGlobal, S: FileSource<R>, K: Sink, E: Sin
 /// read in place of the source. It isn't empty, doesn't begin with `-`, and has no `=` unless it has `/` too; `-` itself names
 /// the source. A file that can't be opened ends the run with `ReadFault`. At `Usage` a line on standard error names the wrong word.
 pub fn run_program<P: Program<R, S, K, E>, R: AllocGlobal, S: FileSource<R>, K: Sink, E: Sink>(
-    program: &P,
-    rt: &R,
+    started: &Started<'_, P, R>,
     args: io::Result<Args>,
     source: &mut S,
     sink: &mut K,
@@ -244,5 +256,5 @@ pub fn run_program<P: Program<R, S, K, E>, R: AllocGlobal, S: FileSource<R>, K: 
     // If memory is refused to the arguments, nothing is run.
     ensures no_memory { IfErr args (λ error. error_kind error ≡ ErrorKind.OutOfMemory → exit_status result ≡ code Status.NoMemory) }
 {
-    exit_code(run(program, rt, args, source, sink, errors))
+    exit_code(run(started, args, source, sink, errors))
 }
