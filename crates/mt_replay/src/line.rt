@@ -1,4 +1,4 @@
-ghost use Rattle.std.specs.Prelude.{◌≡◌, ◌≢◌, ◌+◌, ℕ, List, [], Bool, true, MatchOption, MatchResult, IfOk, Some, Ok, Err};
+ghost use Rattle.std.specs.Prelude.{◌≡◌, ◌+◌, ℕ, List, [], Bool, true, MatchOption, MatchResult, IfOk, Some, Ok, Err};
 ghost use Rattle.mt_ports.specs.Causes.{HasCause};
 ghost use Rattle.mt_regs.specs.Agreement.{first_refusal};
 ghost use Rattle.mt_machine.specs.Start.{HasEraRoom};
@@ -9,7 +9,6 @@ ghost use Rattle.mt_script.specs.Stages.{is_in_dump};
 ghost use Rattle.mt_dump.specs.ForProcessors.{has_each};
 ghost use Rattle.mt_replay.specs.Kept.{HasEras};
 ghost use Rattle.mt_replay.specs.Parts.{AsksForMemory};
-ghost use Rattle.mt_replay.specs.ReplayState.{ReplayState};
 ghost use Rattle.mt_replay.specs.Running.{AsksAt, CarriesOut, HasEraRoomAt, HasErasAt, IsAt, HasOutput, StandsAt, dump_at, line_at, setup_of};
 ghost use Rattle.mt_stream.specs.Lines.{IfGoesOn, Takes};
 ghost use Rattle.mt_output.specs.Ports.{change, port};
@@ -55,18 +54,6 @@ impl Run {
             Run::Body(replayer) => replayer.setup(),
         }
     }
-
-    // Takes the setup of a script whose dump has ended.
-    fn take_setup(&mut self) -> Setup
-        requires { state_in self.old ≡ None }
-        ensures taken { result ≡ setup_of self.old }
-        ensures head { state_in self.new ≡ None }
-    {
-        match self {
-            Run::Head(head) => mem::replace(&mut head.setup, Setup::new()),
-            Run::Body(_) => unreachable!(),
-        }
-    }
 }
 
 // Writes the line about an offence, which is the last.
@@ -89,31 +76,39 @@ fn tell_offence<K: Sink>(
     )
 }
 
-// Goes on behind the dump's end, where each of its files is accepted.
+// Where a dump ends: what stands set up, and what its lines show.
+#[derive(Drop)]
+struct DumpEnd {
+    setup: Setup,
+    dump: Dump,
+}
+
+// Goes on behind the end of a dump, where each of its files is accepted.
 #[inline(never)]
 fn begin<K: Sink>(
     alloc: Global,
     run: &mut Run,
-    dump: Dump,
+    end: DumpEnd,
     writer: &mut Writer,
     sink: &mut K,
 ) -> Result<Option<Stop>, Failed>
-    requires stage { is_in_dump (setup_of run.old).stage ≡ true }
-    requires each { has_each (setup_of run.old).cpus dump ≡ true }
+    requires stage { is_in_dump end.setup.stage ≡ true }
+    requires each { has_each end.setup.cpus end.dump ≡ true }
     requires head { state_in run.old ≡ None }
-    ensures bytes { (number : ℕ) → Takes (StandsAt run.new) (dump_at (setup_of run.old) dump number) (change writer.old writer.new) (port K.taken sink.old sink.new) result }
+    ensures bytes { (number : ℕ) → Takes (StandsAt run.new) (dump_at end.setup end.dump number) (change writer.old writer.new) (port K.taken sink.old sink.new) result }
     ensures eras { (most : ℕ) → IfGoesOn result (HasErasAt most run.new) }
-    ensures asks { result ≡ Ok (Some Stop.NoMemory) → first_refusal dump.files ≡ None }
-    ensures state { Begins (setup_of run.old) dump run.new result }
+    ensures asks { result ≡ Ok (Some Stop.NoMemory) → first_refusal end.dump.files ≡ None }
+    ensures state { Begins end.setup end.dump run.new result }
     ensures cause { HasCause (K.faults sink.old) (K.faults sink.new) result }
 {
+    let DumpEnd { setup, dump } = end;
     dump.is_dump(); // a fact for the proof
     let files = dump.files.as_slice();
     if let Some((k, fault)) = first_refusal(files) {
         let line = dump_refused_line(dump.version, k, &fault);
         return tell(writer, sink, line.as_slice(), Stop::Refused);
     }
-    let Ok(replayer) = Replayer::begin(alloc, run.take_setup(), dump) else {
+    let Ok(replayer) = Replayer::begin(alloc, setup, dump) else {
         return Ok(Some(Stop::NoMemory));
     };
     *run = Run::Body(replayer);
@@ -148,6 +143,7 @@ fn do_command<R: Threads + Wait + Sync, K: Sink, G: Gate>(
 }
 
 // Takes a line behind the dump's end.
+#[inline(always)]
 fn take_command<R: Threads + Wait + Sync, K: Sink, G: Gate>(
     resources: &Resources<'_, R, G>,
     replayer: &mut Replayer,
@@ -171,16 +167,16 @@ fn take_command<R: Threads + Wait + Sync, K: Sink, G: Gate>(
     }
 }
 
-// Takes a line up to the dump's end. It stays apart, because a dump's 10 KB would be cleared for each line of a script.
+// Takes a line, wherever the run stands. It is apart from `take_line`, because a dump's 10 KB would be cleared for each line of a script.
 #[inline(never)]
-fn take_in_head<K: Sink>(
-    alloc: Global,
+fn take_anywhere<R: Threads + Wait + Sync, K: Sink, G: Gate>(
+    resources: &Resources<'_, R, G>,
     run: &mut Run,
     line: &Line<'_>,
     writer: &mut Writer,
     sink: &mut K,
 ) -> Result<Option<Stop>, Failed>
-    requires { (replayer : ReplayState) → run.old ≢ Run.Body replayer }
+    requires { HasEraRoomAt run.old }
     ensures bytes { (came : Bool) (so_far : List ℕ) (was : ScriptState) → IsAt run.old was → HasOutput run.old came so_far →
         Takes (StandsAt run.new) (line_at came so_far line.now.number line.now.bytes.now was) (change writer.old writer.new) (port K.taken sink.old sink.new) result }
     ensures eras { (most : ℕ) → HasErasAt most run.old → IfGoesOn result (HasErasAt (most + 1) run.new) }
@@ -190,11 +186,14 @@ fn take_in_head<K: Sink>(
 {
     let head = match run {
         Run::Head(head) => head,
-        Run::Body(_) => unreachable!(),
+        Run::Body(replayer) => return take_command(resources, replayer, line, writer, sink),
     };
     match head.take(line) {
         Ok(None) => Ok(None),
-        Ok(Some(dump)) => begin(alloc, run, dump, writer, sink),
+        Ok(Some(dump)) => {
+            let setup = mem::replace(&mut head.setup, Setup::new());
+            begin(resources.alloc, run, DumpEnd { setup, dump }, writer, sink)
+        }
         Err(offence) => tell_offence(writer, sink, &offence),
     }
 }
@@ -217,6 +216,6 @@ pub(crate) fn take_line<R: Threads + Wait + Sync, K: Sink, G: Gate>(
 {
     match run {
         Run::Body(replayer) => take_command(resources, replayer, line, writer, sink),
-        Run::Head(_) => take_in_head(resources.alloc, run, line, writer, sink),
+        Run::Head(_) => take_anywhere(resources, run, line, writer, sink),
     }
 }

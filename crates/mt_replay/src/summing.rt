@@ -162,7 +162,7 @@ fn sum_lines<R: Threads + Wait + Sync, G: Gate>(
                 add_waiting(&mut totals, writer);
                 return Ok(with_memory(&totals, &run));
             }
-            // a line has no room in the writer
+            // Never: nothing waits before a line, and the writer has room for all that one writes, so the sink isn't asked.
             Err(_) => return Err(NoMemory),
         }
     }

@@ -1,5 +1,5 @@
 -- A summary's loop over the lines of a script.
-use Rattle.std.proofs.Common.{false, ◌≡◌, ◌∙◌, ap, sym, refl, subst, arith, ℕ, ◌+◌, ◌^◌, ◌<◌, List, [], ◌∷◌, ◌++◌, append-nil, Option, None, Some}
+use Rattle.std.proofs.Common.{false, ◌≡◌, ◌∙◌, ap, sym, refl, subst, arith, ℕ, ◌+◌, ◌^◌, ◌<◌, List, [], ◌++◌, append-nil, Option, None, Some}
 use Rattle.mt_text.specs.Lines.{LinesLeft, TakesFirst, all_lines}
 use Rattle.mt_text.specs.Text.{end_of, lines_of}
 use Rattle.mt_text.specs.declared.line.Line.{Line}

@@ -1,4 +1,4 @@
-use Rattle.std.proofs.Common.{◌≡◌, ◌∙◌, ap, sym, refl, subst, inl, inr, arith, [], ◌^◌, ◌<◌, false, true, None, Some}
+use Rattle.std.proofs.Common.{◌≡◌, ◌∙◌, ap, sym, subst, inl, inr, arith, [], ◌^◌, ◌<◌, false, true, None, Some}
 use Rattle.mt_text.specs.Text.{end_of, lines_of}
 use Rattle.mt_stream.specs.declared.ending.Stop.TheVariants.{NoMemory}
 use Rattle.mt_script.specs.Lines.{offence_line}

@@ -1,4 +1,4 @@
-use Rattle.std.proofs.Common.{◌≡◌, sym, refl, subst, ◌+◌, ℕ, false, List, [], None, Ok}
+use Rattle.std.proofs.Common.{◌≡◌, ◌∙◌, sym, refl, subst, ◌+◌, ℕ, false, List, [], None, Ok}
 use Rattle.mt_stream.specs.declared.ending.Stop.TheVariants.{BadText, NoMemory}
 use Rattle.mt_script.specs.Lines.{offence_line}
 use Rattle.mt_script.specs.Head.{offends}
@@ -14,7 +14,7 @@ use Rattle.mt_stream.proofs.Taking.{takes_last, takes_same}
 use Rattle.mt_replay.proofs.Walks.{head_leads}
 use Rattle.mt_replay.specs.Summing.{Lasts, LastsOn}
 use Rattle.mt_replay.proofs.Sums.Last.{head_goes_on, head_offends, head_shows, last_told}
-use Rattle.mt_replay.proofs.line.take_in_head.Goals as goal
+use Rattle.mt_replay.proofs.line.take_anywhere.Goals as goal
 
 pub returns-in-Ok-None-clause-bytes : goal.returns-in-Ok-None-clause-bytes
 returns-in-Ok-None-clause-bytes g c = λ came so_far was at quiet.
@@ -31,7 +31,7 @@ returns-in-Ok-Some-clause-bytes g c = λ came so_far was at quiet.
     let (before, read, is) = in_the_head c.args.run.now c.in-Head.head was c.in-Head.is at in
     let none : (so_far ≡ []) × (came ≡ false) = subst (λ (r : Run). HasOutput r came so_far) c.in-Head.is quiet in
     let (holds, step) = rw c.in-Ok-Some.field-0-is at (c.in-Ok-Some.ensures.step before read) in
-    let same = (rw c.in-Ok-Some.field-0-is at c.in-Ok-Some.ensures.shown).1 in
+    let same = c.replace-setup.ensures.value ∙ (rw c.in-Ok-Some.field-0-is at c.in-Ok-Some.ensures.shown).1 in
     let number = c.args.line.now.number in
     let writer = change c.args.writer.now c.begin.new.writer in
     let sink = port g.K.Sink.taken c.args.sink.now c.begin.new.sink in
@@ -66,7 +66,7 @@ returns-in-Ok-Some-clause-last g c = λ was at.
     let (holds, step) = rw c.in-Ok-Some.field-0-is at (c.in-Ok-Some.ensures.step before read) in
     let shown = rw c.in-Ok-Some.field-0-is at c.in-Ok-Some.ensures.shown in
     subst (λ (p : ScriptState). Lasts c.args.line.now.number c.args.line.now.bytes.now p c.begin.new.run c.begin.result) (sym is)
-    (head_shows c.in-Head.head.setup before c.args.line.now.number c.args.line.now.bytes.now c.in-Ok-Some.dump c.begin.new.run c.begin.result step c.take.new.self.setup shown.1 c.begin.ensures.state)
+    (head_shows c.in-Head.head.setup before c.args.line.now.number c.args.line.now.bytes.now c.in-Ok-Some.dump c.begin.new.run c.begin.result step c.replace-setup.result (c.replace-setup.ensures.value ∙ shown.1) c.begin.ensures.state)
 
 pub returns-in-Err-clause-last : goal.returns-in-Err-clause-last
 returns-in-Err-clause-last g c = λ was at.
