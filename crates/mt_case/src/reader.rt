@@ -317,23 +317,17 @@ impl Reader {
         Ok(())
     }
 
-    fn is_outside(&self) -> bool {
-        matches!(self.section, Section::Outside)
-    }
-
     fn input(self, end: Place) -> Result<Input, Trouble> {
-        if !self.is_outside() {
-            return bad(end, ScriptReason::NoEnd);
-        }
         let Reader {
             case,
             start,
             ask,
+            section,
             ..
         } = self;
-        match ask {
-            Some(ask) => Ok(Input { case, start, ask }),
-            None => bad(end, ScriptReason::NoEnd),
+        match (section, ask) {
+            (Section::Outside, Some(ask)) => Ok(Input { case, start, ask }),
+            _ => bad(end, ScriptReason::NoEnd),
         }
     }
 }

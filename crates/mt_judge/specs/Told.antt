@@ -1,8 +1,6 @@
 -- What is printed of a run: its steps in their order, and beside them who doesn't go on (own).
-use Rattle.std.specs.Prelude.{◌≡◌, ◌↔◌, ℕ, ◌^◌, nat_lt, Bool, true, false, List, [], ◌∷◌, ◌++◌, length, if◌then◌else◌, slice_get, IsSomeAnd, Option, None}
-use Rattle.std.specs.List.{count_by, list_all}
-use Rattle.std.specs.Option.{option_map_or}
-use Rattle.mt_machine.specs.declared.event.Event.{Event}
+use Rattle.std.specs.Prelude.{◌≡◌, ◌↔◌, ℕ, Bool, true, false, List, [], ◌∷◌, ◌++◌, length, IsSomeAnd, Option, None}
+use Rattle.std.specs.List.{count_by}
 use Rattle.mt_machine.specs.Machine.{has_arrived, has_arrived_again}
 use Rattle.mt_machine.specs.System.{Processor}
 use Rattle.mt_procedure.specs.Dues.{IsDue, is_unfinished}

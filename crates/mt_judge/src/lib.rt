@@ -4,10 +4,10 @@
 #![tactic(auto)]
 
 mod judging;
-mod numbers;
 mod one_run;
 mod program;
 mod telling;
+mod text;
 mod transcript;
 
 pub use judging::{Explored, Verdict, explore, judge, judge_all};

@@ -1,6 +1,7 @@
-ghost use Rattle.std.specs.Prelude.{◌≡◌, ◌↔◌, ◌∷◌, ◌++◌, [], IfOk, IfSome, IsTrue, OnOk};
+ghost use Rattle.std.specs.Prelude.{◌≡◌, ◌↔◌, ◌∷◌, ◌++◌, [], cond, IfOk, IfSome, IsTrue, OnOk};
 ghost use Rattle.mt_judge.specs.Told.{AreTold, AreToldBehind, IsRightTold, TellsStep, arrived_in};
 
+use mt_list_machine::Cpu;
 use mt_machine::{Event, Phase};
 use mt_ports::NoMemory;
 use mt_procedure::{
@@ -53,18 +54,33 @@ pub struct Transcript {
     pub told: Vec<Told>,
 }
 
-/// How many have arrived at the barriers in a state.
-pub(crate) fn arrived_in(state: &State) -> Arrivals
-    ensures { result ≡ arrived_in state.now.processors }
+fn one_if(test: bool) -> usize
+    ensures { result ≡ cond test 1 0 }
 {
-    let cpus = state.cpus.as_slice();
-    let first = cpus.iter().filter(|cpu| has_arrived(cpu)).count();
-    let second = cpus.iter().filter(|cpu| has_arrived_again(cpu)).count();
+    if test { 1 } else { 0 }
+}
+
+fn count_arrived(cpus: &[Cpu]) -> Arrivals
+    ensures { result ≡ arrived_in cpus.now }
+{
+    let mut first = 0;
+    let mut second = 0;
+    for cpu in cpus {
+        first += one_if(has_arrived(cpu));
+        second += one_if(has_arrived_again(cpu));
+    }
     Arrivals {
         first,
         second,
         of: cpus.len(),
     }
+}
+
+/// How many have arrived at the barriers in a state.
+pub(crate) fn arrived_in(state: &State) -> Arrivals
+    ensures { result ≡ arrived_in state.now.processors }
+{
+    count_arrived(state.cpus.as_slice())
 }
 
 /// What is told of a step that was done, by the states before and after it.

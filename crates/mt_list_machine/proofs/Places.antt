@@ -1,18 +1,12 @@
--- A line above the end of the physical addresses has no word; lines in turn; the items that a search finds.
-use Rattle.std.proofs.Common.{◌≡◌, ◌∙◌, ap, sym, refl, ℕ, ◌<◌, ◌≤◌, ◌+◌, ◌^◌, ◌&&◌, Bool, true, false, if◌then◌else◌, List, [], ◌∷◌, ◌++◌, map, drop, Option, None, Some}
-use Rattle.std.specs.Prelude.{slice_index, slice_get}
+-- A line above the end of the physical addresses has no word; the first of eight words; lines in turn; a test of all items.
+use Rattle.std.proofs.Common.{◌≡◌, ◌∙◌, ap, sym, refl, ℕ, ◌<◌, ◌≤◌, ◌+◌, ◌^◌, ◌&&◌, Bool, true, false, if◌then◌else◌, List, [], ◌∷◌, map, drop, Some}
+use Rattle.std.specs.Prelude.{slice_index}
 use Rattle.std.specs.Option.{option_map_or}
-use Rattle.std.specs.List.{filter, fold, find, list_all, position}
-use Rattle.mt_lists.proofs.Keys.{at_position, no_position}
+use Rattle.std.specs.List.{filter, fold, find, list_all}
 use Rattle.mt_cache.specs.declared.line.CacheLine.{CacheLine}
 use Rattle.mt_cache.specs.Lines.{eight, has_number}
 use Rattle.mt_machine.specs.Memory.{IsMemory, Memory, word_address, word_at, write_back}
 use Rattle.mt_laws.proofs.Places.{eight_more, no_place, nowhere_stays}
-
--- the item at the place that a search finds
-pub found : {X : Type 0} (test : X → Bool) (xs : List X) (o : Option ℕ) (r : Option X) → r ≡ option_map_or (slice_get xs) o None → o ≡ position test xs → r ≡ find test xs
-found {X} test xs None r is at = is ∙ sym (no_position test xs (sym at))
-found {X} test xs (Some i) r is at = is ∙ at_position test xs i (sym at)
 
 -- the first of these words is tested
 pub found_first : (test : ℕ → Bool) (i : ℕ) → i < 8 → test i ≡ true → find test (drop i eight) ≡ Some i
@@ -52,12 +46,3 @@ replaced_one within test x y ys own later false t is rest = absurd (cc)
 pub all_replaced : {X : Type 0} (within test : X → Bool) (x : X) (xs : List X) → within x ≡ true → list_all within xs ≡ true → list_all within (map (λ y. if test y then x else y) xs) ≡ true
 all_replaced within test x [] own all = refl
 all_replaced within test x (y ∷ ys) own all = replaced_one within test x y ys own (λ rest. all_replaced within test x ys own rest) (within y) (test y) refl all
-
-added_one : {X : Type 0} (within : X → Bool) (x y : X) (ys : List X) → (list_all within ys ≡ true → list_all within (ys ++ x ∷ []) ≡ true)
-    → (b : Bool) → within y ≡ b → (b && list_all within ys) ≡ true → (within y && list_all within (ys ++ x ∷ [])) ≡ true
-added_one within x y ys later true is rest = ap (λ b. b && list_all within (ys ++ x ∷ [])) is ∙ later rest
-added_one within x y ys later false is rest = absurd (cc)
-
-pub all_added : {X : Type 0} (within : X → Bool) (x : X) (xs : List X) → within x ≡ true → list_all within xs ≡ true → list_all within (xs ++ x ∷ []) ≡ true
-all_added within x [] own all = ap (λ b. b && true) own
-all_added within x (y ∷ ys) own all = added_one within x y ys (λ rest. all_added within x ys own rest) (within y) refl all

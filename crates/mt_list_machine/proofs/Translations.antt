@@ -1,5 +1,5 @@
 -- The entry by which a processor translates, and the processor once it has that entry.
-use Rattle.std.proofs.Common.{◌≡◌, ◌∙◌, ap, sym, refl, subst, ℕ, zero, suc, ◌/◌, List, [], ◌∷◌, Option, Some, None, slice_get, slice_set, if◌then◌else◌}
+use Rattle.std.proofs.Common.{◌≡◌, ◌∙◌, ap, sym, refl, subst, ℕ, ◌/◌, List, Option, Some, None, slice_get, slice_set, if◌then◌else◌}
 use Rattle.std.specs.Prelude.{Bool, true, false, is_some}
 use Rattle.std.specs.Option.{option_map, option_map_or, unwrap_or}
 use Rattle.mt_lists.proofs.Keys.{found_key}

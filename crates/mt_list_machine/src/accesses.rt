@@ -1,11 +1,10 @@
 ghost use Rattle.std.specs.Prelude.{◌≡◌, ◌<◌, ◌/◌, ◌*◌, ◌+◌, ◌%◌, [], ◌∷◌, ◌++◌, length, IfOk, OnOk, Some, None, slice_get, is_some, not, ◌&&◌, if◌then◌else◌};
-ghost use Rattle.std.specs.List.{position};
 ghost use Rattle.std.specs.Option.{option_map_or};
 ghost use Rattle.mt_kinds.specs.Sizes.{page_bytes};
 ghost use Rattle.mt_cache.specs.Calls.{write_word};
 ghost use Rattle.mt_cache.specs.Lines.{change_line};
 ghost use Rattle.mt_tlb.specs.declared.entry.Entry.{Entry};
-ghost use Rattle.mt_tlb.specs.Entries.{add_entry, find_entry, find_mapping, has_page, maps_page};
+ghost use Rattle.mt_tlb.specs.Entries.{add_entry, find_entry, find_mapping};
 ghost use Rattle.mt_machine.specs.Memory.{place, word_of};
 ghost use Rattle.mt_machine.specs.System.{Processor, change};
 ghost use Rattle.mt_machine.specs.Bus.{store_in_memory, with_lines};
@@ -16,7 +15,7 @@ ghost use Rattle.mt_list_machine.specs.Calls.{IsAccess};
 
 use crate::bus::Bus;
 use crate::cpu::Cpu;
-use crate::lines::{self, item_at};
+use crate::lines;
 use crate::ram::{read, write};
 use mt_cache::CacheLine;
 use mt_kinds::{LINE_BYTES, MemType, PAGE_BYTES, WORD_BYTES};
@@ -29,30 +28,28 @@ const MOST_ENTRIES: usize = 64;
 /// The pages below the end of the physical addresses.
 const PHYSICAL_PAGES: u64 = 1 << 40;
 
-fn entry_place(entries: &[Entry], vpage: u64) -> Option<usize>
-    ensures { result ≡ position (has_page vpage) entries.now }
-{
-    entries.iter().position(|e| e.vpage == vpage)
-}
-
 /// The TLB entry of a page.
 pub(crate) fn find_entry(entries: &[Entry], vpage: u64) -> Option<Entry>
     ensures { result ≡ find_entry vpage entries.now }
 {
-    item_at(entries, entry_place(entries, vpage))
-}
-
-fn mapping_place(maps: &[Mapping], vpage: u64) -> Option<usize>
-    ensures { result ≡ position (maps_page vpage) maps.now }
-{
-    maps.iter().position(|m| m.vpage == vpage)
+    for entry in entries {
+        if entry.vpage == vpage {
+            return Some(*entry);
+        }
+    }
+    None
 }
 
 /// The mapping of a page.
 pub(crate) fn find_mapping(maps: &[Mapping], vpage: u64) -> Option<Mapping>
     ensures { result ≡ find_mapping vpage maps.now }
 {
-    item_at(maps, mapping_place(maps, vpage))
+    for mapping in maps {
+        if mapping.vpage == vpage {
+            return Some(*mapping);
+        }
+    }
+    None
 }
 
 // Adds an entry. Of 64 the oldest is dropped first.

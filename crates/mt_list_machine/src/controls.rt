@@ -19,15 +19,12 @@ const MOST_MAPPINGS: usize = 64;
 fn is_mapped(maps: &[Mapping], vpage: u64) -> bool
     ensures { result ≡ is_mapped vpage maps.now }
 {
-    maps.iter().any(|m| m.vpage == vpage)
-}
-
-fn replace_if(m: &mut Mapping, x: Mapping)
-    ensures { m.new ≡ (if maps_page x.vpage m.old then x else m.old) }
-{
-    if m.vpage == x.vpage {
-        *m = x;
+    for m in maps {
+        if m.vpage == vpage {
+            return true;
+        }
     }
+    false
 }
 
 // Puts a mapping in place of that of its page.
@@ -35,7 +32,9 @@ fn replace(maps: &mut [Mapping], x: Mapping)
     ensures { maps.new ≡ map (λ m. if maps_page x.vpage m then x else m) maps.old }
 {
     for i in 0..maps.len() {
-        replace_if(&mut maps[i], x);
+        if maps[i].vpage == x.vpage {
+            maps[i] = x;
+        }
     }
 }
 

@@ -26,5 +26,10 @@ fn is_kind(regs: &RegFile, goal: &RegFile) -> bool
 pub fn are_physical(lines: &[CacheLine]) -> bool
     ensures { result ≡ list_all (λ l. nat_lt l.number (2 ^ 46)) lines.now }
 {
-    lines.iter().all(|l| l.number < PHYSICAL_LINES)
+    for line in lines {
+        if line.number >= PHYSICAL_LINES {
+            return false;
+        }
+    }
+    true
 }

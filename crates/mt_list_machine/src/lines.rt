@@ -1,6 +1,4 @@
-ghost use Rattle.std.specs.Prelude.{◌≡◌, ◌<◌, [], ◌∷◌, ◌++◌, IfSome, None, OnOk, is_some, slice_get, if◌then◌else◌};
-ghost use Rattle.std.specs.List.{position};
-ghost use Rattle.std.specs.Option.{option_map_or};
+ghost use Rattle.std.specs.Prelude.{◌≡◌, ◌<◌, [], ◌∷◌, ◌++◌, IfSome, OnOk, if◌then◌else◌};
 ghost use Rattle.mt_cache.specs.Calls.{write_word};
 ghost use Rattle.mt_cache.specs.Lines.{change_line, clean_line, clean_word, clear_bit, combined_with, find_line, first_dirty_line, first_dirty_word, has_number, oldest_of_full, without_line};
 
@@ -8,27 +6,16 @@ use mt_cache::CacheLine;
 use mt_kinds::is_bit_set;
 use mt_ports::NoMemory;
 
-/// The item at a place, if there is one.
-pub(crate) fn item_at<T: Copy + Drop>(items: &[T], place: Option<usize>) -> Option<T>
-    ensures { result ≡ option_map_or (slice_get items.now) place None }
-{
-    match place {
-        Some(i) if i < items.len() => Some(items[i]),
-        _ => None,
-    }
-}
-
-fn place_of(lines: &[CacheLine], number: u64) -> Option<usize>
-    ensures { result ≡ position (has_number number) lines.now }
-{
-    lines.iter().position(|l| l.number == number)
-}
-
 /// The line of this number.
 pub(crate) fn find_line(lines: &[CacheLine], number: u64) -> Option<CacheLine>
     ensures { result ≡ find_line number lines.now }
 {
-    item_at(lines, place_of(lines, number))
+    for line in lines {
+        if line.number == number {
+            return Some(*line);
+        }
+    }
+    None
 }
 
 /// The oldest line of a list of so many.
@@ -45,20 +32,14 @@ pub(crate) fn oldest_of_full(lines: &[CacheLine], size: usize) -> Option<CacheLi
     }
 }
 
-fn clean_if(line: &mut CacheLine, number: u64)
-    ensures { line.new ≡ (if has_number number line.old then clean_line line.old else line.old) }
-{
-    if line.number == number {
-        line.dirty = 0;
-    }
-}
-
 /// Marks the line of this number clean.
 pub(crate) fn clean_line(lines: &mut [CacheLine], number: u64)
     ensures { lines.new ≡ change_line number clean_line lines.old }
 {
     for i in 0..lines.len() {
-        clean_if(&mut lines[i], number);
+        if lines[i].number == number {
+            lines[i].dirty = 0;
+        }
     }
 }
 
@@ -69,22 +50,15 @@ fn clean_bit(dirty: u8, word: u8) -> u8
     dirty & (255 - (1 << word))
 }
 
-fn clean_word_if(line: &mut CacheLine, number: u64, word: u8)
-    requires { word < 8 }
-    ensures { line.new ≡ (if has_number number line.old then clean_word word line.old else line.old) }
-{
-    if line.number == number {
-        line.dirty = clean_bit(line.dirty, word);
-    }
-}
-
 /// Marks a word of the line of this number clean.
 pub(crate) fn clean_word(lines: &mut [CacheLine], number: u64, word: u8)
     requires { word < 8 }
     ensures { lines.new ≡ change_line number (clean_word word) lines.old }
 {
     for i in 0..lines.len() {
-        clean_word_if(&mut lines[i], number, word);
+        if lines[i].number == number {
+            lines[i].dirty = clean_bit(lines[i].dirty, word);
+        }
     }
 }
 
@@ -100,22 +74,15 @@ fn put(line: &mut CacheLine, word: u8, v: u64, dirty: bool)
     }
 }
 
-fn put_if(line: &mut CacheLine, number: u64, word: u8, v: u64, dirty: bool)
-    requires { word < 8 }
-    ensures { line.new ≡ (if has_number number line.old then write_word word v dirty line.old else line.old) }
-{
-    if line.number == number {
-        put(line, word, v, dirty);
-    }
-}
-
 /// Writes a word of the line of this number.
 pub(crate) fn write_word(lines: &mut [CacheLine], number: u64, word: u8, v: u64, dirty: bool)
     requires { word < 8 }
     ensures { lines.new ≡ change_line number (write_word word v dirty) lines.old }
 {
     for i in 0..lines.len() {
-        put_if(&mut lines[i], number, word, v, dirty);
+        if lines[i].number == number {
+            put(&mut lines[i], word, v, dirty);
+        }
     }
 }
 
@@ -174,15 +141,14 @@ pub fn first_dirty_word(line: &CacheLine) -> Option<u8>
     None
 }
 
-fn first_place(lines: &[CacheLine]) -> Option<usize>
-    ensures { result ≡ position (λ l. is_some (first_dirty_word l)) lines.now }
-{
-    lines.iter().position(|l| first_dirty_word(l).is_some())
-}
-
 /// The first line with a dirty word.
 pub fn first_dirty_line(lines: &[CacheLine]) -> Option<CacheLine>
     ensures { result ≡ first_dirty_line lines.now }
 {
-    item_at(lines, first_place(lines))
+    for line in lines {
+        if first_dirty_word(line).is_some() {
+            return Some(*line);
+        }
+    }
+    None
 }

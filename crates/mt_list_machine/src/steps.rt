@@ -1,6 +1,5 @@
 ghost use Rattle.std.specs.Prelude.{◌≡◌, ◌<◌, ◌+◌, ◌-◌, ◌/◌, ◌^◌, [], nat_lt, false, true, slice_index_or, if◌then◌else◌};
 ghost use Rattle.std.specs.List.{list_all};
-ghost use Rattle.mt_kinds.specs.Bits.{is_bit_set};
 ghost use Rattle.mt_regs.specs.Registers.{writable};
 ghost use Rattle.mt_cache.specs.Lines.{change_line, clean_word};
 ghost use Rattle.mt_machine.specs.Memory.{word_of};
@@ -85,21 +84,14 @@ fn flush_tlb(cpu: &mut Cpu)
     cpu.phase = after_flush(cpu.phase);
 }
 
-fn without_enable(deftype: u64) -> u64
-    ensures { result ≡ (if is_bit_set deftype 11 then deftype - 2 ^ 11 else deftype) }
-{
-    if is_bit_set(deftype, DEF_TYPE_E) {
-        deftype - (1 << DEF_TYPE_E)
-    } else {
-        deftype
-    }
-}
-
 fn disable(cpu: &mut Cpu)
     ensures { cpu.new ≡ record cpu.old { phase = Phase.Writing 0; file = without_enable cpu.old.file } }
 {
-    let deftype = without_enable(cpu.regs.deftype);
-    cpu.regs.put(Register::DefaultType, deftype);
+    let deftype = cpu.regs.deftype;
+    if is_bit_set(deftype, DEF_TYPE_E) {
+        cpu.regs
+            .put(Register::DefaultType, deftype - (1 << DEF_TYPE_E));
+    }
     cpu.phase = Phase::Writing(0);
 }
 

@@ -1,26 +1,21 @@
 -- What a step of a list does: what the machine's event does, whether or not it is due (own). A step that is no event is an access, a control
 -- instruction, a count at a barrier, or a flush of the TLB by the other of the two ways that the procedure has.
-use Rattle.std.specs.Prelude.{◌≡◌, ℕ, ◌<◌, ◌+◌, ◌^◌, Bool, if◌then◌else◌, slice_get, Option, None, Some}
+use Rattle.std.specs.Prelude.{ℕ, Bool, if◌then◌else◌, slice_get, Option, None, Some}
 use Rattle.std.specs.Option.{option_map_or}
 use Rattle.mt_regs.specs.RegisterFile.{RegisterFile}
-use Rattle.mt_tlb.specs.declared.mapping.Mapping.{Mapping}
-use Rattle.mt_tlb.specs.Entries.{is_full_for, set_mapping}
 use Rattle.mt_machine.specs.declared.phase.Phase.{Phase}
 use Rattle.mt_machine.specs.declared.phase.Phase.TheVariants.{Taken, Arrived, NoFill, Flushed, TlbFlushed, Enabled, Flushed2, TlbFlushed2, Restored}
 use Rattle.mt_machine.specs.declared.event.Event.{Event}
 use Rattle.mt_machine.specs.declared.event.Event.TheVariants.{Take, Arrive, Pass, SetNoFill, DropLines, FlushTlb, Disable, Write, Enable, SetNormal, RestorePge, ArriveAgain, Release}
 use Rattle.mt_machine.specs.declared.control.Control.{Control}
-use Rattle.mt_machine.specs.declared.control.Control.TheVariants.{Cd, Cr3, Invlpg, Map, Pge}
-use Rattle.mt_machine.specs.declared.done.Done.{Done}
+use Rattle.mt_machine.specs.declared.control.Control.TheVariants.{Cd, Cr3, Invlpg, Pge}
 use Rattle.mt_machine.specs.declared.done.Done.TheVariants.{Busy}
 use Rattle.mt_machine.specs.declared.op.Op.{Op}
-use Rattle.mt_machine.specs.declared.ruled.Ruled.{Ruled}
-use Rattle.mt_machine.specs.declared.ruled.Ruled.TheVariants.{Full, Okay}
 use Rattle.mt_machine.specs.System.{Processor, System, change}
 use Rattle.mt_machine.specs.Access.{Answered, access_at}
 use Rattle.mt_machine.specs.Control.{control_at}
 use Rattle.mt_machine.specs.Machine.{flush_tlb, step, write_back_or_drop}
-use Rattle.mt_laws.specs.Parts.{answered, ruled}
+use Rattle.mt_laws.specs.Parts.{answered}
 use Rattle.mt_procedure.specs.declared.moves.Outcome.{Outcome}
 use Rattle.mt_procedure.specs.declared.moves.Outcome.TheVariants.{Accessed, Nothing}
 use Rattle.mt_procedure.specs.declared.step.ProcedureStep.{ProcedureStep}

@@ -1,7 +1,7 @@
 ghost use Rattle.std.specs.Prelude.{◌≡◌, ◌<◌, ◌^◌, length, nat_lt, true, if◌then◌else◌, None, Some, slice_get};
 ghost use Rattle.std.specs.List.{list_all};
 ghost use Rattle.mt_machine.specs.System.{Processor};
-ghost use Rattle.mt_machine.specs.Machine.{first_flush, has_arrived, has_arrived_again, has_passed, has_released, is_arrived, is_arrived_again, is_changing, write_or_enable};
+ghost use Rattle.mt_machine.specs.Machine.{first_flush, has_arrived, has_arrived_again, has_released, write_or_enable};
 ghost use Rattle.mt_procedure.specs.Runs.{due_in, due_of, procedure_order};
 ghost use Rattle.mt_procedure.specs.Runs.{told_due};
 
@@ -15,57 +15,40 @@ fn has_released(cpu: &Cpu) -> bool
     0 < cpu.era
 }
 
-fn is_changing(phase: Phase) -> bool
-    ensures { result ≡ is_changing phase }
-{
-    !matches!(
-        phase,
-        Phase::Running | Phase::Taken | Phase::Arrived | Phase::Arrived2
-    )
-}
-
-fn is_arrived(phase: Phase) -> bool
-    ensures { result ≡ is_arrived phase }
-{
-    matches!(phase, Phase::Arrived)
-}
-
-fn is_arrived_again(phase: Phase) -> bool
-    ensures { result ≡ is_arrived_again phase }
-{
-    matches!(phase, Phase::Arrived2)
-}
-
-fn has_passed(cpu: &Cpu) -> bool
-    ensures { result ≡ has_passed (procedure_order cpu.now.file) cpu.now }
-{
-    is_changing(cpu.phase) || is_arrived_again(cpu.phase) || has_released(cpu)
-}
-
 /// Whether a processor counts at the first barrier.
 pub fn has_arrived(cpu: &Cpu) -> bool
     ensures { result ≡ has_arrived (procedure_order cpu.now.file) cpu.now }
 {
-    is_arrived(cpu.phase) || has_passed(cpu)
+    !matches!(cpu.phase, Phase::Running | Phase::Taken) || has_released(cpu)
 }
 
 /// Whether a processor counts at the second barrier.
 pub fn has_arrived_again(cpu: &Cpu) -> bool
     ensures { result ≡ has_arrived_again (procedure_order cpu.now.file) cpu.now }
 {
-    is_arrived_again(cpu.phase) || has_released(cpu)
+    matches!(cpu.phase, Phase::Arrived2) || has_released(cpu)
 }
 
 fn have_arrived(cpus: &[Cpu]) -> bool
     ensures { result ≡ list_all (λ p. has_arrived (procedure_order p.file) p) cpus.now }
 {
-    cpus.iter().all(|cpu| has_arrived(cpu))
+    for cpu in cpus {
+        if !has_arrived(cpu) {
+            return false;
+        }
+    }
+    true
 }
 
 fn have_arrived_again(cpus: &[Cpu]) -> bool
     ensures { result ≡ list_all (λ p. has_arrived_again (procedure_order p.file) p) cpus.now }
 {
-    cpus.iter().all(|cpu| has_arrived_again(cpu))
+    for cpu in cpus {
+        if !has_arrived_again(cpu) {
+            return false;
+        }
+    }
+    true
 }
 
 fn first_flush(cpu: &Cpu) -> Event
