@@ -1,5 +1,6 @@
 ghost use Rattle.std.specs.Prelude.{◌<◌};
 
+use crate::fit::PAGE_LOG;
 use crate::object::Json;
 use crate::text::Text;
 use mt_kinds::{
@@ -7,10 +8,10 @@ use mt_kinds::{
     byte_at, is_bit_set,
 };
 use mt_ranges::block_of;
-use mt_regs::{CAPABILITIES, DEFAULT_TYPE, PAT, RegFile};
+use mt_regs::{CAPABILITIES, DEFAULT_TYPE, FIRST_PAIR, MAX_PAIRS, PAT, RegFile};
 
 // The numbers of the pairs' registers are below.
-const PAST_PAIRS: u32 = 0x250;
+const PAST_PAIRS: u32 = FIRST_PAIR + 2 * MAX_PAIRS as u32;
 
 // What a field of a register holds.
 #[derive(Clone, Copy)]
@@ -46,14 +47,14 @@ fn flag(name: &'static str, value: u64, bit: u8) -> Option<Field>
 }
 
 fn low_type(value: u64) -> Option<Field> {
-    named("type", Held::Type((value & 0xff) as u8))
+    named("type", Held::Type(byte_at(value, 0)))
 }
 
 // The size of a valid pair's range.
 fn size_in(f: &RegFile, mask: u64) -> Held {
     f.is_register_file(); // a fact for the proof
     match block_of(0, mask, f.maxphy) {
-        Some(block) => Held::Size(Some(block.log + 12)),
+        Some(block) => Held::Size(Some(block.log + PAGE_LOG)),
         None => Held::Size(None),
     }
 }
@@ -71,7 +72,7 @@ fn mask_fields(f: &RegFile, value: u64) -> [Option<Field>; 3] {
 fn fields_of(f: &RegFile, msr: u32, value: u64) -> [Option<Field>; 3] {
     match msr {
         CAPABILITIES => [
-            named("VCNT", Held::Number(value & 0xff)),
+            named("VCNT", Held::Number(byte_at(value, 0) as u64)),
             flag("FIX", value, MTRRCAP_FIX),
             flag("WC", value, MTRRCAP_WC),
         ],

@@ -9,7 +9,7 @@ use mt_regs::RegFile;
 use std::alloc::{AllocError, Global};
 
 // The log of the bytes of a page, which is the least chunk too.
-const PAGE_LOG: u8 = 12;
+pub const PAGE_LOG: u8 = 12;
 
 // The largest granule has 2^28 pages.
 const PAST_GRANULES: u8 = 29;

@@ -5,8 +5,11 @@ use crate::report::{Answer, Form, Named, Report, answered};
 use crate::text::Text;
 use mt_explain::{Decision, Rule, decide, effective_types};
 use mt_kinds::{PAGE_BYTES, Pat};
-use mt_regs::{DEFAULT_TYPE, PageType, RegFile};
+use mt_regs::{DEFAULT_TYPE, PageType, RegFile, Register};
 use std::alloc::Global;
+
+// How many fixed-range registers there are.
+const FIXED: u8 = 11;
 
 /// The name of a page's type.
 pub fn kind_name(kind: PageType) -> &'static str {
@@ -40,21 +43,11 @@ fn because(rule: Rule) -> &'static str {
     }
 }
 
-// The number of a fixed-range register by its place.
-fn fixed_number(place: u8) -> u32 {
-    match place {
-        0 => 0x250,
-        1 => 0x258,
-        2 => 0x259,
-        _ => 0x265 + place as u32,
-    }
-}
-
 // The register other than pairs that decides, if there is one, and its value.
 fn decider(f: &RegFile, rule: Rule) -> Option<(u32, u64)> {
     let msr = match rule {
         Rule::Off => DEFAULT_TYPE,
-        Rule::FixedByte { place, .. } => fixed_number(place),
+        Rule::FixedByte { place, .. } if place < FIXED => Register::FixedRange(place).number(),
         Rule::NoPair => DEFAULT_TYPE,
         _ => return None,
     };

@@ -1,11 +1,11 @@
 use crate::object::Json;
 use crate::text::Text;
 use mt_ranges::block_of;
-use mt_regs::{FIRST_PAIR, RegFile, pair_type};
+use mt_regs::{CAPABILITIES, DEFAULT_TYPE, FIRST_PAIR, PAT, RegFile, pair_type};
 
 fn fixed_name(msr: u32) -> Option<&'static str> {
     match msr {
-        0x0fe => Some("IA32_MTRRCAP"),
+        CAPABILITIES => Some("IA32_MTRRCAP"),
         0x250 => Some("IA32_MTRR_FIX64K_00000"),
         0x258 => Some("IA32_MTRR_FIX16K_80000"),
         0x259 => Some("IA32_MTRR_FIX16K_A0000"),
@@ -17,8 +17,8 @@ fn fixed_name(msr: u32) -> Option<&'static str> {
         0x26d => Some("IA32_MTRR_FIX4K_E8000"),
         0x26e => Some("IA32_MTRR_FIX4K_F0000"),
         0x26f => Some("IA32_MTRR_FIX4K_F8000"),
-        0x277 => Some("IA32_PAT"),
-        0x2ff => Some("IA32_MTRR_DEF_TYPE"),
+        PAT => Some("IA32_PAT"),
+        DEFAULT_TYPE => Some("IA32_MTRR_DEF_TYPE"),
         _ => None,
     }
 }
