@@ -44,7 +44,7 @@ _mtrr_import() {
     local word=${COMP_WORDS[COMP_CWORD]}
     COMPREPLY=()
     if [ "$COMP_CWORD" -eq 1 ]; then
-        COMPREPLY=($(compgen -W 'auto coreboot edk2 inteltool linux rdmsr x86info xen -h --help --version' -- "$word"))
+        COMPREPLY=($(compgen -W 'auto chipsec coreboot edk2 inteltool linux plain rdmsr windbg x86info xen -h --help --version' -- "$word"))
     else
         _mtrr_supply "$word" maxphyaddr assume 0fe 268 277 2ff
         _mtrr_files "$word"

@@ -83,7 +83,7 @@ function explain(words, first, second) {
 
 // ---- the two inputs
 
-const FORMATS = ['rdmsr', 'x86info', 'inteltool', 'coreboot', 'edk2', 'linux', 'xen'];
+const FORMATS = ['rdmsr', 'x86info', 'inteltool', 'coreboot', 'edk2', 'linux', 'xen', 'chipsec', 'windbg', 'plain'];
 const SHOWN_BYTES = 1 << 18;
 const sides = [0, 1].map(place => ({ place, bytes: nothing, format: 'auto', supplied: {}, name: '' }));
 
@@ -95,7 +95,8 @@ function shownBy(format, bytes) {
 }
 
 function guess(bytes) {
-    const scores = FORMATS.map(format => shownBy(format, bytes));
+    // (a dump with a fault is a list too)
+    const scores = FORMATS.map(format => format === 'plain' ? 0 : shownBy(format, bytes));
     const best = Math.max(...scores);
     return best > 0 ? FORMATS[scores.indexOf(best)] : null;
 }

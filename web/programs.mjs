@@ -6,7 +6,7 @@ import vm from 'node:vm';
 
 export const top = fileURLToPath(new URL('..', import.meta.url));
 export const PROGRAMS = { mtrr_run: 'mtrr', mtrr_import: 'mtrr_import', mtrr_map: 'mtrr_map' };
-export const FORMATS = ['rdmsr', 'x86info', 'inteltool', 'coreboot', 'edk2', 'linux', 'xen'];
+export const FORMATS = ['rdmsr', 'x86info', 'inteltool', 'coreboot', 'edk2', 'linux', 'xen', 'chipsec', 'windbg', 'plain'];
 
 // What a program writes for words and bytes, and its status. `mtrr-explain` reads its inputs from files, and `mtrr-import` writes reasons to standard error.
 export function program(tool, words, input) {

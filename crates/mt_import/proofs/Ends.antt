@@ -1,5 +1,5 @@
 -- What a reader comes to at the end.
-use Rattle.std.proofs.Common.{◌≡◌, ℕ, true, false, List, Option, Some, refl}
+use Rattle.std.proofs.Common.{◌≡◌, ℕ, true, false, List, ◌++◌, Option, Some, refl}
 use Rattle.mt_ports.specs.declared.status.Status.TheVariants.{Done}
 use Rattle.mt_dump.specs.Canon.{canon}
 use Rattle.mt_import.specs.Outcome.{Outcome, Summary, dump_in, dump_outcome, ended_by, is_empty, refusal, remarks}
@@ -7,7 +7,7 @@ use Rattle.mt_import.specs.Outcome.{Outcome, Summary, dump_in, dump_outcome, end
 pub ends_whole : (told : Summary) → is_empty told.missing ≡ true → ended_by told ≡ dump_outcome (refusal told.tally told.missing) told told.width (told.values 0 0xfe)
 ends_whole told is = rw is refl
 
-pub ends_missing : (told : Summary) → is_empty told.missing ≡ false → ended_by told ≡ refusal told.tally told.missing
+pub ends_missing : (told : Summary) → is_empty told.missing ≡ false → ended_by told ≡ refusal told.tally (told.missing ++ told.advice)
 ends_missing told is = rw is refl
 
 pub told_whole : {notes dump reasons : List ℕ} {width register : Option ℕ} (refused : Outcome) (told : Summary) (known capabilities : ℕ)

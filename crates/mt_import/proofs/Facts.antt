@@ -1,15 +1,16 @@
 -- Facts behind facts.
 use Rattle.std.proofs.Common.{◌≡◌, ◌+◌, ℕ, zero, suc, Bool, List, [], ◌∷◌, ◌++◌, take, drop, Option, Some, None, refl, sym, ap, ◌∙◌, add-one, append_assoc}
-use Rattle.std.specs.Prelude.{slice_get, Result, Ok, Err}
+use Rattle.std.specs.Prelude.{slice_get, Result, Ok, Err, is_some, if◌then◌else◌}
 use Rattle.std.specs.Option.{option_or}
 use Rattle.std.proofs.lemmas.List.{append-nil, take-append-drop}
 use Rattle.mt_import.specs.declared.fault.ImportFault.{ImportFault}
 use Rattle.mt_import.specs.declared.format.Format.{Format}
 use Rattle.mt_import.specs.declared.shape.Shown.{Shown}
+use Rattle.mt_import.specs.declared.shape.Tally.{Tally}
 use Rattle.mt_import.specs.Readings.{Fact, is_line, shown_facts, shows_facts}
 use Rattle.mt_import.specs.Supplied.{Supplied}
-use Rattle.mt_import.specs.Outcome.{Seen, fact_fault, facts_fault, seen_after, seen_with}
-use Rattle.mt_import.specs.Reader.{HasTakenFacts, KeepsFact, State, TakesFacts}
+use Rattle.mt_import.specs.Outcome.{Seen, fact_fault, facts_fault, seen_after, seen_with, warned_till}
+use Rattle.mt_import.specs.Reader.{HasTakenFacts, IsShort, KeepsFact, State, TakesFacts}
 
 pub seen_append : (seen : Seen) (facts others : List Fact) → seen_after seen (facts ++ others) ≡ seen_after (seen_after seen facts) others
 seen_append seen [] others = refl
@@ -24,6 +25,28 @@ fault_append supplied seen [] others = refl
 fault_append supplied seen (fact ∷ facts) others =
     ap (option_or (fact_fault supplied seen fact)) (fault_append supplied (seen_with seen fact) facts others)
     ∙ or_assoc (fact_fault supplied seen fact) (facts_fault supplied (seen_with seen fact) facts) (facts_fault supplied (seen_after (seen_with seen fact) facts) others)
+
+-- what facts before a fault warn of
+module _ (supplied : Supplied) (others : List Fact) where
+  pub till_stops : (seen : Seen) (facts : List Fact) (fault : ImportFault) → facts_fault supplied seen facts ≡ Some fault → warned_till supplied seen (facts ++ others) ≡ warned_till supplied seen facts
+  till_stops seen [] fault found = cc found
+  till_stops seen (fact ∷ facts) fault found = by (fact_fault supplied seen fact) (till_stops (seen_with seen fact) facts fault) found
+    where
+      by : (own : Option ImportFault) → (facts_fault supplied (seen_with seen fact) facts ≡ Some fault → warned_till supplied (seen_with seen fact) (facts ++ others) ≡ warned_till supplied (seen_with seen fact) facts)
+          → option_or own (facts_fault supplied (seen_with seen fact) facts) ≡ Some fault
+          → (if is_some own then seen.tally.warned else warned_till supplied (seen_with seen fact) (facts ++ others)) ≡ (if is_some own then seen.tally.warned else warned_till supplied (seen_with seen fact) facts)
+      by (Some own) later is = refl
+      by None later is = later is
+
+  pub till_goes : (seen : Seen) (facts : List Fact) → facts_fault supplied seen facts ≡ None → warned_till supplied seen (facts ++ others) ≡ warned_till supplied (seen_after seen facts) others
+  till_goes seen [] none = refl
+  till_goes seen (fact ∷ facts) none = by (fact_fault supplied seen fact) (till_goes (seen_with seen fact) facts) none
+    where
+      by : (own : Option ImportFault) → (facts_fault supplied (seen_with seen fact) facts ≡ None → warned_till supplied (seen_with seen fact) (facts ++ others) ≡ warned_till supplied (seen_after (seen_with seen fact) facts) others)
+          → option_or own (facts_fault supplied (seen_with seen fact) facts) ≡ None
+          → (if is_some own then seen.tally.warned else warned_till supplied (seen_with seen fact) (facts ++ others)) ≡ warned_till supplied (seen_after (seen_with seen fact) facts) others
+      by (Some own) later is = cc is
+      by None later is = later is
 
 -- ---- the registers that a line shows
 
@@ -49,13 +72,29 @@ takes_both {supplied = supplied} {facts = facts} {others = others} {result = Ok 
   short = tt;
 }
 takes_both {supplied = supplied} {facts = facts} {others = others} {result = Err fault} first next = record {
-  taken = λ seen held. let before = first.taken seen held in rw (fault_append supplied seen facts others, before.1) (next.taken _ before.0);
+  taken = λ seen held.
+      let before = first.taken seen held in
+      let behind = next.taken _ before.0 in
+      (rw (fault_append supplied seen facts others, before.1) behind.0, behind.1 ∙ sym (till_goes supplied others seen facts before.1));
   short = next.short;
 }
 
 -- Behind a fault the rest doesn't matter.
 stops : {U : Type 0} {supplied : Supplied} {old new : State} {facts : List Fact} {fault : ImportFault} (others : List Fact) → TakesFacts {U = U} supplied old new facts (Err fault) → TakesFacts {U = U} supplied old new (facts ++ others) (Err fault)
-stops {supplied = supplied} {facts = facts} others stopped = record { taken = λ seen held. rw (fault_append supplied seen facts others, stopped.taken seen held) refl; short = stopped.short }
+stops {supplied = supplied} {facts = facts} {fault = fault} others stopped = record {
+  taken = λ seen held.
+      let here = stopped.taken seen held in
+      (rw (fault_append supplied seen facts others, here.0) refl, here.1 ∙ sym (till_stops supplied others seen facts fault here.0));
+  short = stopped.short;
+}
+
+-- A fact with a fault changes nothing.
+pub stops_here : {U : Type 0} {supplied : Supplied} {state : State} {fact : Fact} {fault : ImportFault} → ((seen : Seen) → HasTakenFacts state seen → fact_fault supplied seen fact ≡ Some fault)
+    → IsShort fault → TakesFacts {U = U} supplied state state (fact ∷ []) (Err fault)
+stops_here {supplied = supplied} {fact = fact} found short = record {
+  taken = λ seen held. let here = found seen held in (rw here refl, ap (λ (t : Tally). t.warned) held.tally_is ∙ rw here refl);
+  short = short;
+}
 
 module _ (processor table : ℕ) (shows : List (Option Shown)) where
   abbrev first : ℕ → List Fact

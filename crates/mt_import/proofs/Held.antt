@@ -14,10 +14,13 @@ use Rattle.mt_regs.proofs.ByNumber.{register_of-range}
 use Rattle.mt_import.specs.declared.format.Format.{Format}
 use Rattle.mt_import.specs.declared.shape.Reading.{Reading}
 use Rattle.mt_import.specs.declared.shape.Slot.{Slot}
+use Rattle.mt_import.specs.declared.shape.Tally.{Tally}
+use Rattle.mt_import.specs.declared.shape.Warning.{Warning}
 use Rattle.mt_import.specs.declared.reading.Context.{Context}
 use Rattle.mt_text.specs.declared.place.Place.{Place}
 use Rattle.mt_import.specs.Readings.{is_line, is_register_value, is_warning, is_width}
 use Rattle.mt_import.specs.Outcome.{Seen, capabilities_after, fixed_line_after, last_after, nothing_seen, seen_with, slot_shown, tally_warned, tally_with}
+use Rattle.mt_import.specs.Warnings.{none_warned, warned_by, warned_with}
 use Rattle.mt_import.specs.Slot.{blank_slot, slot_with}
 use Rattle.mt_import.specs.Reader.{HasTakenFacts, IsFit, IsReader, State, held_at, slot_of}
 
@@ -31,7 +34,7 @@ at_start processor None = refl
 at_start processor (Some slot) = none_at 4112 (257 * processor + slot)
 
 pub taken_new : (context : Context) (format : Option Format)
-    → HasTakenFacts (record { context = context; slots = replicate 4112 blank_slot; capabilities = blank_slot; last = None; line_of_fixed = None; processors = 1; width = None; line_of_width = 0; tally = record { format = format; lines = 0; matches = 0; warned = false } }) (nothing_seen format)
+    → HasTakenFacts (record { context = context; slots = replicate 4112 blank_slot; capabilities = blank_slot; last = None; line_of_fixed = None; processors = 1; width = None; line_of_width = 0; tally = record { format = format; lines = 0; matches = 0; warned = none_warned } }) (nothing_seen format)
 taken_new context format = record {
   slots_are = λ processor number. at_start processor (slot_of number);
   capabilities_is = refl;
@@ -173,7 +176,7 @@ module _ (state : State) (reading : Reading) (slot : ℕ) (next : Slot) (is : Is
     shown k number false number_test apart same =
         let e : (reading.processor == k && reading.number == number) ≡ false = rw apart refl in rw apart (other k number e (slot_of number) refl ∙ holds.slots_are k number)
 
-    pub taken_more : HasTakenFacts (record { context = state.context; slots = slots; capabilities = capabilities_after reading state.capabilities; last = last_after reading state.last; line_of_fixed = fixed_line_after reading state.line_of_fixed; processors = max (reading.processor + 1) state.processors; width = state.width; line_of_width = state.line_of_width; tally = state.tally })
+    pub taken_more : HasTakenFacts (record { context = state.context; slots = slots; capabilities = capabilities_after reading state.capabilities; last = last_after reading state.last; line_of_fixed = fixed_line_after reading state.line_of_fixed; processors = max (reading.processor + 1) state.processors; width = state.width; line_of_width = state.line_of_width; tally = tally_warned state.tally (warned_by reading state.tally.warned) })
         (seen_with seen (is_register_value reading))
     taken_more = record {
       slots_are = λ k number. shown k number (reading.processor == k) (reading.number == number) refl refl;
@@ -183,7 +186,7 @@ module _ (state : State) (reading : Reading) (slot : ℕ) (next : Slot) (is : Is
       processors_is = ap (max (reading.processor + 1)) holds.processors_is;
       width_is = holds.width_is;
       line_of_width_is = holds.line_of_width_is;
-      tally_is = holds.tally_is;
+      tally_is = ap (λ (t : Tally). tally_warned t (warned_by reading t.warned)) holds.tally_is;
     }
 
 pub reader_width : (held : List Slot) (count width : ℕ) (before : Option ℕ) → IsReader held count before → IsFit width → IsReader held count (Some width)
@@ -216,10 +219,10 @@ taken_line state seen number format matched holds = record {
   tally_is = ap (λ t. tally_with t number format matched) holds.tally_is;
 }
 
--- the kernel warned
-pub taken_warning : (state : State) (seen : Seen) → HasTakenFacts state seen
-    → HasTakenFacts (record { context = state.context; slots = state.slots; capabilities = state.capabilities; last = state.last; line_of_fixed = state.line_of_fixed; processors = state.processors; width = state.width; line_of_width = state.line_of_width; tally = tally_warned state.tally }) (seen_with seen is_warning)
-taken_warning state seen holds = record {
+-- a line warned
+pub taken_warning : (state : State) (seen : Seen) (warning : Warning) (number : ℕ) → HasTakenFacts state seen
+    → HasTakenFacts (record { context = state.context; slots = state.slots; capabilities = state.capabilities; last = state.last; line_of_fixed = state.line_of_fixed; processors = state.processors; width = state.width; line_of_width = state.line_of_width; tally = tally_warned state.tally (warned_with warning number state.tally.warned) }) (seen_with seen (is_warning warning number))
+taken_warning state seen warning number holds = record {
   slots_are = holds.slots_are;
   capabilities_is = holds.capabilities_is;
   last_is = holds.last_is;
@@ -227,7 +230,7 @@ taken_warning state seen holds = record {
   processors_is = holds.processors_is;
   width_is = holds.width_is;
   line_of_width_is = holds.line_of_width_is;
-  tally_is = ap tally_warned holds.tally_is;
+  tally_is = ap (λ (t : Tally). tally_warned t (warned_with warning number t.warned)) holds.tally_is;
 }
 
 -- what a reader keeps doesn't speak of its context

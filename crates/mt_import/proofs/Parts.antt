@@ -1,6 +1,6 @@
 -- The parts of a dump: its pairs and its files.
-use Rattle.std.proofs.Common.{◌≡◌, ◌≤◌, ◌<◌, ◌+◌, ℕ, zero, suc, List, [], ◌∷◌, ◌++◌, length, Option, Some, None, Bool, replicate, map, take, add-one, append_assoc, true, false, refl, sym, ap, ◌∙◌, arith, length-append, inl, inr}
-use Rattle.std.specs.Prelude.{◌⊎◌, ◌||◌, is_none, is_some, slice_get, ◌==◌, ◌*◌, if◌then◌else◌}
+use Rattle.std.proofs.Common.{◌≡◌, ◌≤◌, ◌<◌, ◌+◌, ℕ, zero, suc, List, [], ◌∷◌, ◌++◌, length, Option, Some, None, Bool, replicate, map, take, drop, add-one, append_assoc, true, false, refl, sym, ap, ◌∙◌, arith, length-append, inl, inr}
+use Rattle.std.specs.Prelude.{◌⊎◌, ◌&&◌, ◌||◌, is_none, is_some, slice_get, ◌==◌, ◌*◌, if◌then◌else◌}
 use Rattle.std.specs.List.{AllByRecursion}
 use Rattle.std.proofs.lemmas.Bool.{eqb-true, eqb-false}
 use Rattle.std.proofs.lemmas.List.{append-nil}
@@ -9,7 +9,7 @@ use Rattle.mt_regs.specs.RegisterFile.{RegisterFile, IsRegisterFile, low_byte}
 use Rattle.mt_regs.specs.Registers.{number_of}
 use Rattle.mt_regs.specs.declared.registers.Register.{Register}
 use Rattle.mt_dump.specs.Dumps.{IsDump, first_of, first_file}
-use Rattle.mt_import.specs.Outcome.{dump_in, file_of, files_of, first_pairs, fixed_of, is_missing, missing_line, missing_lines, note_line, note_lines, noted, noted_of, value_or_zero}
+use Rattle.mt_import.specs.Outcome.{dump_in, file_of, files_of, first_pairs, fixed_of, is_missing, is_nowhere, noted, value_or_zero}
 use Rattle.mt_import.specs.Values.{or_supplied}
 
 pub length_pairs : (values : ℕ → Option ℕ) (n : ℕ) → length (first_pairs values n) ≡ n
@@ -122,32 +122,57 @@ noted_at firm values (suc count) k number value less none unfirm is = by (k == c
     by true same below = ap (λ j. noted firm values (suc j) number) (sym (eqb-true k count same)) ∙ here
     by false apart below = rw (below (other k count less (eqb-false k count apart))) refl
 
--- texts of the registers of a list, one register more
-module _ (text : ℕ → List ℕ) (all : List ℕ → List ℕ) (none : all [] ≡ []) (next : (n : ℕ) (ns : List ℕ) → all (n ∷ ns) ≡ text n ++ all ns) where
-  pub texts_more : (i : ℕ) (rs : List Register) (r : Register) → slice_get rs i ≡ Some r → all (map number_of (take (i + 1) rs)) ≡ all (map number_of (take i rs)) ++ text (number_of r)
-  texts_more i rs r at = rw add-one (by i rs at)
+-- texts of the elements of a list, one element more
+module _ {A : Type 0} (text : A → List ℕ) (all : List A → List ℕ) (none : all [] ≡ []) (next : (x : A) (xs : List A) → all (x ∷ xs) ≡ text x ++ all xs) where
+  pub texts_more : (i : ℕ) (xs : List A) (x : A) → slice_get xs i ≡ Some x → all (take (i + 1) xs) ≡ all (take i xs) ++ text x
+  texts_more i xs x at = rw add-one (by i xs at)
     where
-      by : (i : ℕ) (rs : List Register) → slice_get rs i ≡ Some r → all (map number_of (take (suc i) rs)) ≡ all (map number_of (take i rs)) ++ text (number_of r)
+      by : (i : ℕ) (xs : List A) → slice_get xs i ≡ Some x → all (take (suc i) xs) ≡ all (take i xs) ++ text x
       by i [] at = cc at
-      by zero (s ∷ rs) at = let same : s ≡ r = cc at in rw same (next (number_of r) [] ∙ ap (λ l. text (number_of r) ++ l) none ∙ append-nil (text (number_of r)) ∙ sym (ap (λ l. l ++ text (number_of r)) none))
-      by (suc i) (s ∷ rs) at =
-          next (number_of s) (map number_of (take (suc i) rs)) ∙ ap (λ l. text (number_of s) ++ l) (by i rs at)
-          ∙ sym (append_assoc (text (number_of s)) (all (map number_of (take i rs))) (text (number_of r)))
-          ∙ ap (λ l. l ++ text (number_of r)) (sym (next (number_of s) (map number_of (take i rs))))
+      by zero (y ∷ ys) at = let same : y ≡ x = cc at in rw same (next x [] ∙ ap (λ l. text x ++ l) none ∙ append-nil (text x) ∙ sym (ap (λ l. l ++ text x) none))
+      by (suc i) (y ∷ ys) at =
+          next y (take (suc i) ys) ∙ ap (λ l. text y ++ l) (by i ys at)
+          ∙ sym (append_assoc (text y) (all (take i ys)) (text x))
+          ∙ ap (λ l. l ++ text x) (sym (next y (take i ys)))
 
--- a text that grows by the text of one more register
-pub grows : (text : ℕ → List ℕ) (n number : ℕ) (first so_far old new all : List ℕ) → n ≡ number → new ≡ old ++ text n → old ≡ first ++ so_far → all ≡ so_far ++ text number → new ≡ first ++ all
-grows text n number first so_far old new all same added before more =
-    added ∙ ap (λ (l : List ℕ). l ++ text n) before ∙ append_assoc first so_far (text n)
-    ∙ ap (λ k. first ++ (so_far ++ text k)) same ∙ ap (λ (l : List ℕ). first ++ l) (sym more)
+-- a text that grows by the text of one element more
+pub grows : {A : Type 0} (text : A → List ℕ) (x : A) (first so_far old new all : List ℕ) → new ≡ old ++ text x → old ≡ first ++ so_far → all ≡ so_far ++ text x → new ≡ first ++ all
+grows text x first so_far old new all added before more =
+    added ∙ ap (λ (l : List ℕ). l ++ text x) before ∙ append_assoc first so_far (text x) ∙ ap (λ (l : List ℕ). first ++ l) (sym more)
 
--- the lines of the registers that are missing
-pub missing_more : (hints : ℕ → Option ℕ) (values : ℕ → ℕ → Option ℕ) (count i : ℕ) (rs : List Register) (r : Register) → slice_get rs i ≡ Some r
-    → missing_lines hints values count (map number_of (take (i + 1) rs))
-    ≡ missing_lines hints values count (map number_of (take i rs)) ++ (if is_missing values count (number_of r) then missing_line (number_of r) (hints (number_of r)) else [])
-missing_more hints values count = texts_more (λ n. if is_missing values count n then missing_line n (hints n) else []) (missing_lines hints values count) refl (λ n ns. refl)
+-- the numbers of the registers of a list, one register more
+pub numbers_more : (i : ℕ) (rs : List Register) (r : Register) → slice_get rs i ≡ Some r → map number_of (take (i + 1) rs) ≡ map number_of (take i rs) ++ number_of r ∷ []
+numbers_more i rs r at = rw add-one (by i rs at)
+  where
+    by : (i : ℕ) (rs : List Register) → slice_get rs i ≡ Some r → map number_of (take (suc i) rs) ≡ map number_of (take i rs) ++ number_of r ∷ []
+    by i [] at = cc at
+    by zero (s ∷ rs) at = let same : s ≡ r = cc at in rw same refl
+    by (suc i) (s ∷ rs) at = ap (λ l. number_of s ∷ l) (by i rs at)
 
--- the comments on the registers that were assumed
-pub notes_more : (firm values : ℕ → ℕ → Option ℕ) (count i : ℕ) (rs : List Register) (r : Register) → slice_get rs i ≡ Some r
-    → note_lines firm values count (map number_of (take (i + 1) rs)) ≡ note_lines firm values count (map number_of (take i rs)) ++ note_line (number_of r) (noted firm values count (number_of r)) (noted_of firm values count (number_of r))
-notes_more firm values count = texts_more (λ n. note_line n (noted firm values count n) (noted_of firm values count n)) (note_lines firm values count) refl (λ n ns. refl)
+-- a register that a processor has isn't missing everywhere
+pub somewhere_at : (values : ℕ → ℕ → Option ℕ) (count k number : ℕ) → k < count → is_none (values k number) ≡ false → is_nowhere values count number ≡ false
+somewhere_at values zero k number less some = absurd (omega (arith, less))
+somewhere_at values (suc count) k number less some = by (k == count) refl (λ below. somewhere_at values count k number below some)
+  where
+    with_false : (b : Bool) → (b && false) ≡ false
+    with_false true = refl
+    with_false false = refl
+
+    other : (a b : ℕ) → a < suc b → (a ≡ b → ⊥) → a < b
+    other a b less apart = omega (arith, less, apart)
+
+    by : (test : Bool) → (k == count) ≡ test → (k < count → is_nowhere values count number ≡ false) → is_nowhere values (suc count) number ≡ false
+    by true same below = let e = eqb-true k count same in rw (ap (λ j. is_none (values j number)) (sym e) ∙ some) (with_false (is_nowhere values count number))
+    by false apart below = rw (below (other k count less (eqb-false k count apart))) refl
+
+pub some_when : (o : Option ℕ) → is_some o ≡ true → is_none o ≡ false
+some_when None is = cc is
+some_when (Some value) is = refl
+
+pub drop_at : {A : Type 0} (i : ℕ) (xs : List A) (x : A) → slice_get xs i ≡ Some x → drop i xs ≡ x ∷ drop (i + 1) xs
+drop_at {A} i xs x at = rw add-one (by i xs at)
+  where
+    by : (i : ℕ) (xs : List A) → slice_get xs i ≡ Some x → drop i xs ≡ x ∷ drop (suc i) xs
+    by i [] at = cc at
+    by zero (y ∷ ys) at = let e : y ≡ x = cc at in ap (λ z. z ∷ ys) e
+    by (suc i) (y ∷ ys) at = by i ys at

@@ -1,6 +1,6 @@
 -- Two ways to tell the same slots come to the same texts and status.
 use Rattle.std.proofs.Common.{◌≡◌, ◌≤◌, ◌+◌, ◌*◌, ◌%◌, ℕ, zero, suc, Bool, true, false, List, [], ◌∷◌, ◌++◌, map, Option, Some, None, refl, sym, ap, ◌∙◌, arith}
-use Rattle.std.specs.Prelude.{IfSome, if◌then◌else◌, ◌==◌}
+use Rattle.std.specs.Prelude.{IfSome, if◌then◌else◌, ◌==◌, codes}
 use Rattle.mt_kinds.specs.Bits.{is_bit_set}
 use Rattle.mt_regs.specs.RegisterFile.{low_byte}
 use Rattle.mt_regs.specs.Registers.{fixed_numbers}
@@ -8,8 +8,8 @@ use Rattle.mt_import.specs.declared.shape.Slot.{Slot}
 use Rattle.mt_import.specs.declared.shape.Tally.{Tally}
 use Rattle.mt_import.specs.declared.supplied.Assumed.{Assumed}
 use Rattle.mt_import.specs.Supplied.{IsSupplied, Supplied, all_assumed, supplied_value}
-use Rattle.mt_import.specs.Values.{Known, assumed_capabilities, assumed_of, assumed_pair, assumed_value, assumed_zero, base_of, disabled_value, firm_value, firm_width, has_pairs, is_unshown, mask_of, masks_in, only_if, or_supplied, pair_count, shown_pairs, shows_only_fix, shows_pairs, widest, width_by}
-use Rattle.mt_import.specs.Outcome.{Findings, Seen, Slots, Summary, Outcome, dump_outcome, ended, ended_by, file_of, files_of, findings_of, first_pairs, firm_of, fixed_of, hint_of, is_empty, is_missing, known_by, missing_lines, missing_of, missing_width, needed, note_line, note_lines, noted, noted_of, notes_of, processors, refusal, slot_shown, summary_of, value_or_zero, values_of, width_note}
+use Rattle.mt_import.specs.Values.{Known, assumed_capabilities, assumed_default, assumed_fixed, assumed_of, assumed_pair, assumed_value, assumed_zero, base_of, disabled_value, firm_value, firm_width, has_pairs, is_unshown, mask_of, masks_in, only_if, or_supplied, pair_count, shown_pairs, shows_one_of, shows_pairs, shows_part, widest, width_by}
+use Rattle.mt_import.specs.Outcome.{Findings, Seen, Slots, Summary, Outcome, advice_of, all_needed, allowed_text, allowing_all, behind_blank, choice_word, dump_outcome, ended, ended_by, file_of, files_of, findings_of, first_pairs, firm_of, fixed_of, help_on, help_on_width, help_words, helps_on, hint_by, hint_of, is_empty, is_missing, is_nowhere, joined, known_by, lacking_text, lacks_before, missing_lines, missing_of, missing_width, needed, note_line, note_lines, noted, noted_of, notes_of, processors, processors_text, refusal, register_words, slot_shown, summary_of, value_or_zero, value_words, values_of, width_note, width_hint_of, width_of, width_word}
 use Rattle.mt_import.specs.Reader.{HasTakenFacts, IsReader, State, findings_in, slots_of, summary_in, values_in}
 
 -- ---- the same slots of one processor
@@ -41,11 +41,21 @@ module _ (v w : ℕ → Slot) (same : (n : ℕ) → v n ≡ w n) where
   same_zero : (number : ℕ) → assumed_zero v number ≡ assumed_zero w number
   same_zero number = rw (same_unshown number, same_has) refl
 
+  same_one_of : (numbers : List ℕ) → shows_one_of v numbers ≡ shows_one_of w numbers
+  same_one_of [] = refl
+  same_one_of (number ∷ numbers) = rw (same number, same_one_of numbers) refl
+
+  same_assumed_fixed : (number : ℕ) → assumed_fixed v number ≡ assumed_fixed w number
+  same_assumed_fixed number = rw (same_one_of fixed_numbers) refl
+
+  same_default : assumed_default v ≡ assumed_default w
+  same_default = rw (same 0x2ff, same 0xfe) refl
+
   same_assumed_pair : (assumed : Assumed) (width : Option ℕ) (number : ℕ) → assumed_pair assumed v width number ≡ assumed_pair assumed w width number
   same_assumed_pair assumed width number = rw (same number, same_zero number) refl
 
   same_assumed : (assumed : Assumed) (known : Known) (number : ℕ) → assumed_value assumed v known number ≡ assumed_value assumed w known number
-  same_assumed assumed known number = rw (same_capabilities, same_assumed_pair assumed known.width number) refl
+  same_assumed assumed known number = rw (same_capabilities, same_assumed_pair assumed known.width number, same_assumed_fixed number, same_default) refl
 
   same_masks : (supplied : Supplied) (n : ℕ) → masks_in supplied v n ≡ masks_in supplied w n
   same_masks supplied zero = refl
@@ -84,18 +94,35 @@ module _ (a b : Summary) (same : (k n : ℕ) → a.values k n ≡ b.values k n) 
   same_told refused (Some width) None = refl
   same_told refused None capabilities = refl
 
-  pub same_summary : a.missing ≡ b.missing → a.width ≡ b.width → ended_by a ≡ ended_by b
-  same_summary missing width =
-      ap (λ m. if is_empty m then dump_outcome (refusal a.tally m) a a.width (a.values 0 0xfe) else refusal a.tally m) missing
-      ∙ ap (λ t. if is_empty b.missing then dump_outcome (refusal t b.missing) a a.width (a.values 0 0xfe) else refusal t b.missing) tally
-      ∙ ap (λ w. if is_empty b.missing then dump_outcome (refusal b.tally b.missing) a w (a.values 0 0xfe) else refusal b.tally b.missing) width
-      ∙ ap (λ c. if is_empty b.missing then dump_outcome (refusal b.tally b.missing) a b.width c else refusal b.tally b.missing) (same 0 0xfe)
-      ∙ ap (λ (o : Outcome). if is_empty b.missing then o else refusal b.tally b.missing) (same_told (refusal b.tally b.missing) b.width (b.values 0 0xfe))
+  pub same_summary : a.missing ≡ b.missing → a.advice ≡ b.advice → a.width ≡ b.width → ended_by a ≡ ended_by b
+  same_summary missing advice width =
+      let lacking : List ℕ = b.missing ++ b.advice in
+      ap (λ m. if is_empty m then dump_outcome (refusal a.tally m) a a.width (a.values 0 0xfe) else refusal a.tally (m ++ a.advice)) missing
+      ∙ ap (λ t. if is_empty b.missing then dump_outcome (refusal t b.missing) a a.width (a.values 0 0xfe) else refusal t (b.missing ++ a.advice)) tally
+      ∙ ap (λ s. if is_empty b.missing then dump_outcome (refusal b.tally b.missing) a a.width (a.values 0 0xfe) else refusal b.tally (b.missing ++ s)) advice
+      ∙ ap (λ w. if is_empty b.missing then dump_outcome (refusal b.tally b.missing) a w (a.values 0 0xfe) else refusal b.tally lacking) width
+      ∙ ap (λ c. if is_empty b.missing then dump_outcome (refusal b.tally b.missing) a b.width c else refusal b.tally lacking) (same 0 0xfe)
+      ∙ ap (λ (o : Outcome). if is_empty b.missing then o else refusal b.tally lacking) (same_told (refusal b.tally b.missing) b.width (b.values 0 0xfe))
 
 module _ (v w : ℕ → ℕ → Option ℕ) (same : (k n : ℕ) → v k n ≡ w k n) (a b : ℕ → Option ℕ) (same_hint : (n : ℕ) → a n ≡ b n) where
+  same_nowhere : (count number : ℕ) → is_nowhere v count number ≡ is_nowhere w count number
+  same_nowhere zero number = refl
+  same_nowhere (suc count) number = rw (same_nowhere count number, same count number) refl
+
+  same_before : (k number : ℕ) → lacks_before v k number ≡ lacks_before w k number
+  same_before zero number = refl
+  same_before (suc k) number = rw (same k number) refl
+
+  same_lacking : (count number k : ℕ) → lacking_text v count number k ≡ lacking_text w count number k
+  same_lacking count number zero = refl
+  same_lacking count number (suc k) = rw (same_before k number, same k number, same (k + 1) number, same_lacking count number k) refl
+
+  same_processors : (count number : ℕ) → processors_text v count number ≡ processors_text w count number
+  same_processors count number = rw (same_nowhere count number, same_lacking count number count) refl
+
   same_lines : (count : ℕ) (numbers : List ℕ) → missing_lines a v count numbers ≡ missing_lines b w count numbers
   same_lines count [] = refl
-  same_lines count (number ∷ numbers) = rw (same_missing v w same count number, same_hint number, same_lines count numbers) refl
+  same_lines count (number ∷ numbers) = rw (same_missing v w same count number, same_processors count number, same_hint number, same_lines count numbers) refl
 
 module _ (v w : ℕ → ℕ → Option ℕ) (same : (k n : ℕ) → v k n ≡ w k n) (a b : ℕ → ℕ → Option ℕ) (same_firm_too : (k n : ℕ) → a k n ≡ b k n) where
   same_noted : (count number : ℕ) → noted a v count number ≡ noted b w count number
@@ -130,19 +157,12 @@ module _ (supplied : Supplied) (v w : Slots) (same : (k n : ℕ) → v k n ≡ w
   unfolding values_of
   same_value k n = rw (same_width, same_firm (v k) (w k) (same k) supplied n, same_assumed (v k) (w k) (same k) (assumed_of k supplied.assumed) (known_by supplied two) n) refl
 
-  same_hints : (n : ℕ) → hint_of supplied one n ≡ hint_of supplied two n
-  unfolding hint_of
-  same_hints n = rw (same_width, same_assumed (v 0) (w 0) (same 0) all_assumed (record { width = or_supplied (width_by supplied w shown.width) (Some 52); format = shown.format }) n) refl
+  same_hint_by : (n : ℕ) → hint_by supplied one n ≡ hint_by supplied two n
+  same_hint_by n = rw (same_width, same_assumed (v 0) (w 0) (same 0) all_assumed (record { width = or_supplied (width_by supplied w shown.width) (Some 52); format = shown.format }) n) refl
 
   same_firm_of : (k n : ℕ) → firm_of supplied one k n ≡ firm_of supplied two k n
   unfolding firm_of
   same_firm_of k n = same_firm (v k) (w k) (same k) supplied n
-
-  same_missing_of : missing_of supplied one ≡ missing_of supplied two
-  same_missing_of =
-      rw (same_width, same_masks (v 0) (w 0) (same 0) supplied 32, same_value 0 0xfe)
-      (ap (λ l. missing_width (width_by supplied w shown.width) (widest (masks_in supplied (w 0) 32)) ++ l)
-      (same_lines (values_of supplied one) (values_of supplied two) same_value (hint_of supplied one) (hint_of supplied two) same_hints count (needed (values_of supplied two 0 0xfe))))
 
   same_notes_of : notes_of supplied one ≡ notes_of supplied two
   same_notes_of =
@@ -150,8 +170,78 @@ module _ (supplied : Supplied) (v w : Slots) (same : (k n : ℕ) → v k n ≡ w
       (ap (λ l. width_note (firm_width supplied shown.width) (width_by supplied w shown.width) ++ l)
       (same_notes (values_of supplied one) (values_of supplied two) same_value (firm_of supplied one) (firm_of supplied two) same_firm_of count (needed (values_of supplied two 0 0xfe))))
 
-  same_ended : (auto : Bool) (tally : Tally) → ended_by (summary_of auto supplied one tally) ≡ ended_by (summary_of auto supplied two tally)
-  same_ended auto tally = same_summary (summary_of auto supplied one tally) (summary_of auto supplied two tally) same_value same_notes_of refl refl refl same_missing_of same_width
+module _ (supplied : Supplied) (v w : Slots) (same : (k n : ℕ) → v k n ≡ w k n) (count : ℕ) (shown : Known) where
+  abbrev before : Findings
+  before = record { slots = v; count = count; shown = shown }
+
+  abbrev behind : Findings
+  behind = record { slots = w; count = count; shown = shown }
+
+  abbrev all : Supplied
+  all = allowing_all supplied
+
+  same_hints : (n : ℕ) → hint_of supplied before n ≡ hint_of supplied behind n
+  unfolding hint_of
+  same_hints n =
+      rw (same_missing (values_of all before) (values_of all behind) (same_value all v w same count shown) count n, same_hint_by supplied v w same count shown n) refl
+
+  same_missing_of : missing_of supplied before ≡ missing_of supplied behind
+  same_missing_of =
+      rw (same_width supplied v w same count shown, same_masks (v 0) (w 0) (same 0) supplied 32, same_value supplied v w same count shown 0 0xfe)
+      (ap (λ l. missing_width (width_by supplied w shown.width) (widest (masks_in supplied (w 0) 32)) ++ l)
+      (same_lines (values_of supplied before) (values_of supplied behind) (same_value supplied v w same count shown) (hint_of supplied before) (hint_of supplied behind) same_hints count
+      (needed (values_of supplied behind 0 0xfe))))
+
+  same_help : (number : ℕ) → help_on supplied before number ≡ help_on supplied behind number
+  same_help number =
+      rw (
+        same_missing (values_of supplied before) (values_of supplied behind) (same_value supplied v w same count shown) count number,
+        same_missing (values_of all before) (values_of all behind) (same_value all v w same count shown) count number,
+        same_hints number,
+      ) refl
+
+  same_helps : (word : List ℕ) (numbers : List ℕ) → helps_on supplied before word numbers ≡ helps_on supplied behind word numbers
+  same_helps word [] = refl
+  same_helps word (number ∷ numbers) = rw (same_help number) (same_helps (joined word (help_on supplied behind number)) numbers)
+
+  same_words : (numbers : List ℕ) → value_words supplied before numbers ≡ value_words supplied behind numbers
+  same_words [] = refl
+  same_words (number ∷ numbers) = rw (same_missing (values_of all before) (values_of all behind) (same_value all v w same count shown) count number, same_words numbers) refl
+
+  same_needed : all_needed supplied before ≡ all_needed supplied behind
+  same_needed = ap needed (same_value all v w same count shown 0 0xfe)
+
+  same_width_too : width_of supplied before ≡ width_of supplied behind
+  same_width_too = same_width supplied v w same count shown
+
+  same_width_hint : width_hint_of supplied before ≡ width_hint_of supplied behind
+  same_width_hint = ap widest (same_masks (v 0) (w 0) (same 0) supplied 32)
+
+  abbrev words_by : Option ℕ → Option ℕ → List ℕ → List ℕ
+  words_by width hint numbers = helps_on supplied before (joined (allowed_text supplied.assumed) (help_on_width width hint)) numbers
+
+  same_help_words : help_words supplied before (all_needed supplied before) ≡ help_words supplied behind (all_needed supplied behind)
+  same_help_words =
+      ap (words_by (width_of supplied before) (width_hint_of supplied before)) same_needed
+      ∙ ap (λ o. words_by o (width_hint_of supplied before) (all_needed supplied behind)) same_width_too
+      ∙ ap (λ o. words_by (width_of supplied behind) o (all_needed supplied behind)) same_width_hint
+      ∙ same_helps (joined (allowed_text supplied.assumed) (help_on_width (width_of supplied behind) (width_hint_of supplied behind))) (all_needed supplied behind)
+
+  abbrev line_by : Bool → Option ℕ → Option ℕ → List ℕ → List ℕ → List ℕ
+  line_by auto width hint help words =
+      codes "try: mtrr-import " ++ choice_word auto shown.format ++ width_word supplied.width width hint ++ register_words supplied.registers ++ behind_blank help ++ words ++ codes "\n"
+
+  same_advice : (auto : Bool) → advice_of auto supplied before ≡ advice_of auto supplied behind
+  same_advice auto =
+      ap (λ o. line_by auto o (width_hint_of supplied before) (help_words supplied before (all_needed supplied before)) (value_words supplied before (all_needed supplied before))) same_width_too
+      ∙ ap (λ o. line_by auto (width_of supplied behind) o (help_words supplied before (all_needed supplied before)) (value_words supplied before (all_needed supplied before))) same_width_hint
+      ∙ ap (λ h. line_by auto (width_of supplied behind) (width_hint_of supplied behind) h (value_words supplied before (all_needed supplied before))) same_help_words
+      ∙ ap (line_by auto (width_of supplied behind) (width_hint_of supplied behind) (help_words supplied behind (all_needed supplied behind))) (ap (value_words supplied before) same_needed ∙ same_words (all_needed supplied behind))
+
+  same_ended : (auto : Bool) (tally : Tally) → ended_by (summary_of auto supplied before tally) ≡ ended_by (summary_of auto supplied behind tally)
+  same_ended auto tally =
+      same_summary (summary_of auto supplied before tally) (summary_of auto supplied behind tally) (same_value supplied v w same count shown) (same_notes_of supplied v w same count shown) refl refl refl
+      same_missing_of (same_advice auto) (same_width supplied v w same count shown)
 
 -- what the reader and the words tell is what the facts show
 pub same_end : (auto : Bool) (supplied : Supplied) (state : State) (seen : Seen) → HasTakenFacts state seen → ended_by (summary_in auto supplied state) ≡ ended auto supplied seen
@@ -189,7 +279,7 @@ module _ (supplied : Supplied) (slots : ℕ → Slot) (known : Known) (few : low
 
   from_supplied : (given : Option ℕ) → supplied_value supplied 0xfe ≡ given → (value : ℕ) → or_supplied (or_supplied given None) (assumed_value supplied.assumed slots known 0xfe) ≡ Some value → low_byte value ≤ 32
   from_supplied (Some other) given value is = sound.pairs value (given ∙ is)
-  from_supplied None given value is = from_assumed (shows_only_fix (slots 0xfe)) supplied.assumed.capabilities value is
+  from_supplied None given value is = from_assumed (shows_part (slots 0xfe)) supplied.assumed.capabilities value is
 
   from_shown : (whole : Bool) (value : ℕ) → or_supplied (or_supplied (if whole then Some (slots 0xfe).value else None) (or_supplied (supplied_value supplied 0xfe) None)) (assumed_value supplied.assumed slots known 0xfe) ≡ Some value → low_byte value ≤ 32
   from_shown true value is = let e : (slots 0xfe).value ≡ value = cc is in rw (← e) few

@@ -1,10 +1,8 @@
 -- Lines on MTRRs that the kernels of Linux and Xen print alike: print_mtrr_state, print_fixed_last and mtrr_attrib_to_str
 -- (Linux 6.1: arch/x86/kernel/cpu/mtrr/generic.c and if.c; Xen 4.17: xen/arch/x86/cpu/mtrr/generic.c).
 --     kernel_said alone number words      what a line of these words says, where `alone` tells whether the line on fixed ranges shows FE also without E
---     is_warning_line line      a kernel warns that processors differ
 use Rattle.std.specs.Prelude.{ℕ, ◌+◌, ◌-◌, ◌*◌, ◌/◌, ◌%◌, ◌==◌, ◌&&◌, not, nat_le, nat_lt, codes, Bool, true, false, List, [], ◌∷◌, length, take, drop, if◌then◌else◌, Option, Some, None}
 use Rattle.mt_kinds.specs.Sizes.{page_bytes}
-use Rattle.mt_text.specs.Text.{words_of}
 use Rattle.mt_text.specs.Words.{text_of, place_of}
 use Rattle.mt_text.specs.Number.{hex_number, decimal_number}
 use Rattle.mt_text.specs.declared.place.Place.{Place}
@@ -13,7 +11,6 @@ use Rattle.mt_import.specs.declared.reading.LineSays.TheVariants.{Nothing, Shows
 use Rattle.mt_import.specs.declared.shape.FixedRun.{FixedRun}
 use Rattle.mt_import.specs.declared.shape.Shown.{Shown}
 use Rattle.mt_import.specs.Pieces.{is_text, number_in, shown_bits, value_at}
-use Rattle.mt_import.specs.LineWords.{kernel_end, words_behind}
 use Rattle.mt_import.specs.Readings.{one_shown, two_shown}
 
 -- the code of a memory type: Intel SDM, volume 3A, chapter Memory Cache Control, section Memory Type Range Registers (MTRRs); `?` has none
@@ -136,15 +133,6 @@ pair_said (Some pair) number words = Shows (Some 0) (two_shown
 abbrev pub disabled_said : Option ℕ → Place → LineSays
 disabled_said None place = Nothing
 disabled_said (Some pair) place = Shows (Some 0) (one_shown (shown_bits (0x201 + 2 * pair) 0x800 0 place))
-
--- ---- `mtrr: your CPUs had inconsistent variable MTRR settings`
-
-abbrev pub is_warning_text : List (ℕ × List ℕ) → Bool
-is_warning_text words = is_text (codes "mtrr:") (text_of words 0) && is_text (codes "CPUs") (text_of words 2) && is_text (codes "inconsistent") (text_of words 4)
-
--- a warning of Linux or Xen
-abbrev pub is_warning_line : List ℕ → Bool
-is_warning_line line = is_warning_text (words_behind (kernel_end (words_of line)) line)
 
 -- ---- all lines
 

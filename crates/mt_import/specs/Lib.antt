@@ -6,6 +6,9 @@ pub mod Rdmsr
 pub mod Tables
 pub mod X86info
 pub mod Inteltool
+pub mod Chipsec
+pub mod Windbg
+pub mod Plain
 pub mod Kernel
 pub mod Coreboot
 pub mod Linux
@@ -15,6 +18,7 @@ pub mod Shown
 pub mod Supplied
 pub mod Digits
 pub mod Values
+pub mod Warnings
 pub mod Outcome
 pub mod Reader
 pub mod Help

@@ -1,6 +1,6 @@
 -- What facts and supplied words come to: the texts and the status (own).
 --     facts_outcome auto supplied seen facts      what facts come to that stand behind others
-use Rattle.std.specs.Prelude.{ℕ, zero, suc, ◌+◌, ◌-◌, ◌*◌, ◌/◌, ◌%◌, ◌==◌, ◌&&◌, ◌||◌, nat_lt, not, max, bit_or, codes, decimal, Bool, true, false, List, [], ◌∷◌, ◌++◌, map, replicate, if◌then◌else◌, Option, Some, None, is_none, unwrap_or}
+use Rattle.std.specs.Prelude.{ℕ, zero, suc, ◌+◌, ◌-◌, ◌*◌, ◌/◌, ◌%◌, ◌==◌, ◌&&◌, ◌||◌, nat_lt, not, max, bit_or, codes, decimal, Bool, true, false, List, [], ◌∷◌, ◌++◌, map, replicate, if◌then◌else◌, Option, Some, None, is_none, is_some, unwrap_or}
 use Rattle.std.specs.Option.{option_or}
 use Rattle.mt_ports.specs.Causes.{one_more}
 use Rattle.mt_ports.specs.declared.status.Status.{Status}
@@ -13,18 +13,24 @@ use Rattle.mt_dump.specs.Canon.{canon, number_text, value_text}
 use Rattle.mt_dump.specs.Dumps.{Dump}
 use Rattle.mt_output.specs.Lines.{bad_text, line}
 use Rattle.mt_import.specs.declared.fault.ImportFault.{ImportFault}
-use Rattle.mt_import.specs.declared.fault.ImportFault.TheVariants.{LongLine, BadProcessor, TooManyPairs, BadWidth, Contradiction, WidthContradiction}
+use Rattle.mt_import.specs.declared.fault.ImportFault.TheVariants.{BadLine, BadProcessor, TooManyPairs, BadWidth, Contradiction, WidthContradiction}
+use Rattle.mt_import.specs.declared.fault.Reason.{Reason}
+use Rattle.mt_import.specs.declared.fault.Reason.TheVariants.{LongLine, BadNumber, MixedNumbers, Utf16}
 use Rattle.mt_import.specs.declared.fault.Rival.{Rival}
 use Rattle.mt_import.specs.declared.fault.Rival.TheVariants.{Line, Word, CapabilityLine, CapabilityWord, RegisterLine}
 use Rattle.mt_import.specs.declared.format.Format.{Format}
-use Rattle.mt_import.specs.declared.format.Format.TheVariants.{Rdmsr, X86info, Inteltool, Coreboot, Edk2, Linux, Xen}
+use Rattle.mt_import.specs.declared.format.Format.TheVariants.{Rdmsr, X86info, Inteltool, Coreboot, Edk2, Linux, Xen, Chipsec, Windbg, Plain}
 use Rattle.mt_import.specs.declared.shape.LastPair.{LastPair}
 use Rattle.mt_import.specs.declared.shape.Reading.{Reading}
 use Rattle.mt_import.specs.declared.shape.Slot.{Slot}
 use Rattle.mt_import.specs.declared.shape.Tally.{Tally}
+use Rattle.mt_import.specs.declared.shape.Warned.{Warned}
+use Rattle.mt_import.specs.declared.supplied.Assumed.{Assumed}
+use Rattle.mt_import.specs.Pieces.{is_text}
 use Rattle.mt_import.specs.Readings.{Fact, is_line, is_register_value, is_width, is_warning, is_fault}
 use Rattle.mt_import.specs.Slot.{blank_slot, clashes, slot_with}
 use Rattle.mt_import.specs.Supplied.{Supplied, all_assumed, bits_differ, differs, supplied_value}
+use Rattle.mt_import.specs.Warnings.{none_warned, warned_by, warned_with, warning_lines}
 use Rattle.mt_import.specs.Values.{Known, assumed_value, firm_value, firm_width, is_pair_number, masks_in, or_supplied, value_by, widest, width_by}
 
 -- ---- what facts show
@@ -38,7 +44,7 @@ pub record Seen : Type 0 where
 
 -- before all lines of a log, where the format may be known
 abbrev pub nothing_seen : Option Format → Seen
-nothing_seen format = record { width = None; line_of_width = 0; readings = []; tally = record { format = format; lines = 0; matches = 0; warned = false } }
+nothing_seen format = record { width = None; line_of_width = 0; readings = []; tally = record { format = format; lines = 0; matches = 0; warned = none_warned } }
 
 abbrev pub one_if : Bool → ℕ → ℕ
 one_if true count = one_more count
@@ -47,14 +53,14 @@ one_if false count = count
 abbrev pub tally_with : Tally → ℕ → Option Format → Bool → Tally
 tally_with tally number format matched = record { format = format; lines = number; matches = one_if matched tally.matches; warned = tally.warned }
 
-abbrev pub tally_warned : Tally → Tally
-tally_warned tally = record { format = tally.format; lines = tally.lines; matches = tally.matches; warned = true }
+abbrev pub tally_warned : Tally → Warned → Tally
+tally_warned tally warned = record { format = tally.format; lines = tally.lines; matches = tally.matches; warned = warned }
 
 abbrev pub seen_with : Seen → Fact → Seen
 seen_with seen (is_line number format matched) = record seen { tally = tally_with seen.tally number format matched }
-seen_with seen (is_register_value reading) = record seen { readings = reading ∷ seen.readings }
+seen_with seen (is_register_value reading) = record seen { readings = reading ∷ seen.readings; tally = tally_warned seen.tally (warned_by reading seen.tally.warned) }
 seen_with seen (is_width width place) = record seen { width = Some width; line_of_width = place.line }
-seen_with seen is_warning = record seen { tally = tally_warned seen.tally }
+seen_with seen (is_warning warning number) = record seen { tally = tally_warned seen.tally (warned_with warning number seen.tally.warned) }
 seen_with seen (is_fault fault) = seen
 
 abbrev pub seen_after : Seen → List Fact → Seen
@@ -216,13 +222,18 @@ abbrev pub fact_fault : Supplied → Seen → Fact → Option ImportFault
 fact_fault supplied seen (is_line number format matched) = None
 fact_fault supplied seen (is_register_value reading) = reading_fault supplied seen.readings reading
 fact_fault supplied seen (is_width width place) = width_fault supplied seen width place
-fact_fault supplied seen is_warning = None
+fact_fault supplied seen (is_warning warning number) = None
 fact_fault supplied seen (is_fault fault) = Some fault
 
 -- the first fault of facts
 abbrev pub facts_fault : Supplied → Seen → List Fact → Option ImportFault
 facts_fault supplied seen [] = None
 facts_fault supplied seen (fact ∷ facts) = option_or (fact_fault supplied seen fact) (facts_fault supplied (seen_with seen fact) facts)
+
+-- what lines warn of before the first fault
+abbrev pub warned_till : Supplied → Seen → List Fact → Warned
+warned_till supplied seen [] = seen.tally.warned
+warned_till supplied seen (fact ∷ facts) = if is_some (fact_fault supplied seen fact) then seen.tally.warned else warned_till supplied (seen_with seen fact) facts
 
 abbrev pub rival_text : Rival → List ℕ
 rival_text (Line number) = codes ": line " ++ decimal number ++ codes " shows it otherwise"
@@ -237,8 +248,14 @@ contradiction_line place number other = line (codes "contradiction " ++ decimal 
 abbrev pub width_line : Place → Rival → List ℕ
 width_line place other = line (codes "contradiction " ++ decimal place.line ++ codes ":" ++ decimal place.column ++ codes " maxphyaddr" ++ rival_text other)
 
+abbrev pub reason_text : Reason → List ℕ
+reason_text LongLine = codes "bad line"
+reason_text BadNumber = codes "bad number"
+reason_text MixedNumbers = codes "mixed numbers"
+reason_text Utf16 = codes "UTF-16"
+
 abbrev pub fault_line : ImportFault → List ℕ
-fault_line (LongLine place) = bad_text place (codes "bad line")
+fault_line (BadLine why place) = bad_text place (reason_text why)
 fault_line (BadProcessor place) = bad_text place (codes "bad processor")
 fault_line (TooManyPairs place) = bad_text place (codes "too many pairs")
 fault_line (BadWidth place) = bad_text place (codes "bad width")
@@ -246,6 +263,10 @@ fault_line (Contradiction place number other) = contradiction_line place number 
 fault_line (WidthContradiction place other) = width_line place other
 
 -- ---- what is missing
+
+abbrev pub is_empty : List ℕ → Bool
+is_empty [] = true
+is_empty (byte ∷ bytes) = false
 
 -- the registers that a dump with this capability register has, in ascending order
 abbrev pub needed : Option ℕ → List ℕ
@@ -262,20 +283,53 @@ abbrev pub assumption_text : ℕ → ℕ → List ℕ
 assumption_text number value =
     if number == 0x277 then codes "assume=pat"
     else if number == 0xfe then codes "assume=capabilities"
-    else if value == 0 then codes "assume=pairs"
-    else codes "assume=masks"
+    else if is_pair_number number then (if value == 0 then codes "assume=pairs" else codes "assume=masks")
+    else codes "assume=fixed"
 
 -- the assumption that would supply processor 0's register
 abbrev pub hint_text : ℕ → Option ℕ → List ℕ
 hint_text number None = []
 hint_text number (Some value) = codes " or " ++ assumption_text number value
 
-abbrev pub missing_line : ℕ → Option ℕ → List ℕ
-missing_line number hint = line (codes "missing " ++ number_text number ++ codes ": " ++ number_text number ++ codes "=VALUE" ++ hint_text number hint)
+-- all of so many processors lack the register
+abbrev pub is_nowhere : (ℕ → ℕ → Option ℕ) → ℕ → ℕ → Bool
+is_nowhere values zero number = true
+is_nowhere values (suc count) number = is_nowhere values count number && is_none (values count number)
+
+-- the processor before this one lacks the register
+abbrev pub lacks_before : (ℕ → ℕ → Option ℕ) → ℕ → ℕ → Bool
+lacks_before values zero number = false
+lacks_before values (suc k) number = is_none (values k number)
+
+-- the processor behind this one lacks it
+abbrev pub lacks_behind : (ℕ → ℕ → Option ℕ) → ℕ → ℕ → ℕ → Bool
+lacks_behind values count k number = nat_lt (k + 1) count && is_none (values (k + 1) number)
+
+-- Numbers so far, and this one where a run of numbers begins or ends with it.
+abbrev pub run_text : Bool → Bool → Bool → ℕ → List ℕ → List ℕ
+run_text before false behind k text = text
+run_text false true behind k text = text ++ (if is_empty text then codes " " else codes ",") ++ decimal k
+run_text true true true k text = text
+run_text true true false k text = text ++ codes "-" ++ decimal k
+
+-- ` 0,2-4`: those of the first processors that lack the register
+abbrev pub lacking_text : (ℕ → ℕ → Option ℕ) → ℕ → ℕ → ℕ → List ℕ
+lacking_text values count number zero = []
+lacking_text values count number (suc k) =
+    run_text (lacks_before values k number) (is_none (values k number)) (lacks_behind values count k number) k (lacking_text values count number k)
+
+-- ` of cpu 0,2-4`, unless all processors lack it
+abbrev pub processors_text : (ℕ → ℕ → Option ℕ) → ℕ → ℕ → List ℕ
+processors_text values count number = if is_nowhere values count number then [] else codes " of cpu" ++ lacking_text values count number count
+
+-- `missing 200 of cpu 1-3: 200=VALUE or assume=pairs`
+abbrev pub missing_line : ℕ → List ℕ → Option ℕ → List ℕ
+missing_line number processors hint = line (codes "missing " ++ number_text number ++ processors ++ codes ": " ++ number_text number ++ codes "=VALUE" ++ hint_text number hint)
 
 abbrev pub missing_lines : (ℕ → Option ℕ) → (ℕ → ℕ → Option ℕ) → ℕ → List ℕ → List ℕ
 missing_lines hints values count [] = []
-missing_lines hints values count (number ∷ numbers) = (if is_missing values count number then missing_line number (hints number) else []) ++ missing_lines hints values count numbers
+missing_lines hints values count (number ∷ numbers) =
+    (if is_missing values count number then missing_line number (processors_text values count number) (hints number) else []) ++ missing_lines hints values count numbers
 
 abbrev pub width_hint : Option ℕ → List ℕ
 width_hint None = line (codes "missing maxphyaddr: maxphyaddr=N")
@@ -325,10 +379,6 @@ abbrev pub dump_in : (ℕ → ℕ → Option ℕ) → ℕ → ℕ → ℕ → Du
 dump_in values count width capabilities = record { version = version_of count; files = files_of values width capabilities count }
 
 -- ---- notes on what was assumed
-
-abbrev pub is_empty : List ℕ → Bool
-is_empty [] = true
-is_empty (byte ∷ bytes) = false
 
 -- the value that one of so many processors has by an assumption alone
 abbrev pub noted : (ℕ → ℕ → Option ℕ) → (ℕ → ℕ → Option ℕ) → ℕ → ℕ → Option ℕ
@@ -390,21 +440,20 @@ format_name (Some Coreboot) = codes "coreboot"
 format_name (Some Edk2) = codes "edk2"
 format_name (Some Linux) = codes "linux"
 format_name (Some Xen) = codes "xen"
+format_name (Some Chipsec) = codes "chipsec"
+format_name (Some Windbg) = codes "windbg"
+format_name (Some Plain) = codes "plain"
 
 -- `3 of 812 lines are of linux`
 abbrev pub count_line : Tally → List ℕ
 count_line tally = line (decimal tally.matches ++ codes " of " ++ decimal tally.lines ++ codes " lines are of " ++ format_name tally.format)
 
-abbrev pub warning_text : Bool → List ℕ
-warning_text true = line (codes "warning: the kernel found that the processors' MTRRs differ")
-warning_text false = []
-
 -- what is told beside a dump: of `auto` the format
 abbrev pub remarks : Bool → Tally → List ℕ
-remarks auto tally = (if auto then count_line tally else []) ++ warning_text tally.warned
+remarks auto tally = (if auto then count_line tally else []) ++ warning_lines tally.warned
 
 abbrev pub refusal : Tally → List ℕ → Outcome
-refusal tally missing = record { notes = []; dump = []; reasons = count_line tally ++ (warning_text tally.warned ++ missing); status = Refused }
+refusal tally missing = record { notes = []; dump = []; reasons = count_line tally ++ (warning_lines tally.warned ++ missing); status = Refused }
 
 abbrev pub Slots : Type 0
 Slots = ℕ → ℕ → Slot
@@ -428,9 +477,17 @@ unfoldable pub firm_of : Supplied → Findings → ℕ → ℕ → Option ℕ
 firm_of supplied found k number = firm_value supplied (found.slots k) number
 
 -- what processor 0's register would be if all were assumed
-unfoldable pub hint_of : Supplied → Findings → ℕ → Option ℕ
-hint_of supplied found number =
+abbrev pub hint_by : Supplied → Findings → ℕ → Option ℕ
+hint_by supplied found number =
     assumed_value all_assumed (found.slots 0) (record { width = or_supplied (width_by supplied found.slots found.shown.width) (Some 52); format = found.shown.format }) number
+
+-- the same words with all assumptions, and with the greatest width where none is supplied
+abbrev pub allowing_all : Supplied → Supplied
+allowing_all supplied = record { width = or_supplied supplied.width (Some 52); registers = supplied.registers; assumed = all_assumed }
+
+-- the same where no processor would lack it
+unfoldable pub hint_of : Supplied → Findings → ℕ → Option ℕ
+hint_of supplied found number = if is_missing (values_of (allowing_all supplied) found) found.count number then None else hint_by supplied found number
 
 abbrev pub missing_of : Supplied → Findings → List ℕ
 missing_of supplied found =
@@ -442,9 +499,97 @@ notes_of supplied found =
     width_note (firm_width supplied found.shown.width) (width_by supplied found.slots found.shown.width)
     ++ note_lines (firm_of supplied found) (values_of supplied found) found.count (needed (values_of supplied found 0 0xfe))
 
+-- ---- what to try
+
+-- one word for two, where they are `assume=NAME` or empty
+unfoldable pub joined : List ℕ → List ℕ → List ℕ
+joined one other = if is_empty one then other else if is_empty other || is_text one other then one else codes "assume=all"
+
+abbrev pub word_if : Bool → List ℕ → List ℕ
+word_if true word = word
+word_if false word = []
+
+-- what is allowed already
+abbrev pub allowed_text : Assumed → List ℕ
+allowed_text assumed =
+    joined (word_if assumed.pat (codes "assume=pat")) (joined (word_if assumed.pairs (codes "assume=pairs")) (joined (word_if assumed.masks (codes "assume=masks"))
+    (joined (word_if assumed.fixed (codes "assume=fixed")) (joined (word_if assumed.width (codes "assume=width")) (word_if assumed.capabilities (codes "assume=capabilities"))))))
+
+-- the assumption that would supply a register that is missing
+abbrev pub help_on : Supplied → Findings → ℕ → List ℕ
+help_on supplied found number =
+    if is_missing (values_of supplied found) found.count number && not (is_missing (values_of (allowing_all supplied) found) found.count number)
+    then assumption_text number (unwrap_or (hint_of supplied found number) 0)
+    else []
+
+-- the word that allows what so many words do, and what would supply these registers
+abbrev pub helps_on : Supplied → Findings → List ℕ → List ℕ → List ℕ
+helps_on supplied found allowed [] = allowed
+helps_on supplied found allowed (number ∷ numbers) = helps_on supplied found (joined allowed (help_on supplied found number)) numbers
+
+-- the width that a word gives, or the word that would supply it, where it is neither known nor that of the masks
+abbrev pub width_word : Option ℕ → Option ℕ → Option ℕ → List ℕ
+width_word (Some width) known hint = codes " maxphyaddr=" ++ decimal width
+width_word None None None = codes " maxphyaddr=N"
+width_word None None (Some width) = []
+width_word None (Some width) hint = []
+
+-- the assumption that would supply the width
+abbrev pub help_on_width : Option ℕ → Option ℕ → List ℕ
+help_on_width None (Some width) = codes "assume=width"
+help_on_width None None = []
+help_on_width (Some width) hint = []
+
+-- ` 277=0007040600070406`
+abbrev pub register_word : ℕ × ℕ → List ℕ
+register_word register = codes " " ++ number_text register.0 ++ codes "=" ++ value_text register.1
+
+abbrev pub register_words : List (ℕ × ℕ) → List ℕ
+register_words [] = []
+register_words (register ∷ registers) = register_word register ++ register_words registers
+
+abbrev pub behind_blank : List ℕ → List ℕ
+behind_blank word = if is_empty word then [] else codes " " ++ word
+
+-- ` 200=VALUE`, where no assumption would supply it
+abbrev pub value_word : Supplied → Findings → ℕ → List ℕ
+value_word supplied found number = if is_missing (values_of (allowing_all supplied) found) found.count number then codes " " ++ number_text number ++ codes "=VALUE" else []
+
+abbrev pub value_words : Supplied → Findings → List ℕ → List ℕ
+value_words supplied found [] = []
+value_words supplied found (number ∷ numbers) = value_word supplied found number ++ value_words supplied found numbers
+
+-- the registers of a dump by all that is known, supplied or could be assumed
+abbrev pub all_needed : Supplied → Findings → List ℕ
+all_needed supplied found = needed (values_of (allowing_all supplied) found 0 0xfe)
+
+abbrev pub width_of : Supplied → Findings → Option ℕ
+width_of supplied found = width_by supplied found.slots found.shown.width
+
+-- the width that the masks would have
+abbrev pub width_hint_of : Supplied → Findings → Option ℕ
+width_hint_of supplied found = widest (masks_in supplied (found.slots 0) 32)
+
+-- the assumptions that are allowed, or would supply the width or these registers
+abbrev pub help_words : Supplied → Findings → List ℕ → List ℕ
+help_words supplied found numbers =
+    helps_on supplied found (joined (allowed_text supplied.assumed) (help_on_width (width_of supplied found) (width_hint_of supplied found))) numbers
+
+-- the format's word
+abbrev pub choice_word : Bool → Option Format → List ℕ
+choice_word true format = codes "auto"
+choice_word false format = format_name format
+
+-- The words so far, with those that would supply all: `try: mtrr-import auto assume=all 2ff=VALUE`
+abbrev pub advice_of : Bool → Supplied → Findings → List ℕ
+advice_of auto supplied found =
+    codes "try: mtrr-import " ++ choice_word auto found.shown.format ++ width_word supplied.width (width_of supplied found) (width_hint_of supplied found) ++ register_words supplied.registers
+    ++ behind_blank (help_words supplied found (all_needed supplied found)) ++ value_words supplied found (all_needed supplied found) ++ codes "\n"
+
 -- what there is to tell at the end of a log
 pub record Summary : Type 0 where
   pub missing : List ℕ  -- lines on what a dump needs and hasn't
+  pub advice : List ℕ  -- the line with the words that would supply it
   pub notes : List ℕ  -- comments on what was assumed
   pub values : ℕ → ℕ → Option ℕ  -- each processor's registers
   pub count : ℕ  -- how many processors there are
@@ -455,6 +600,7 @@ pub record Summary : Type 0 where
 abbrev pub summary_of : Bool → Supplied → Findings → Tally → Summary
 summary_of auto supplied found tally = record {
   missing = missing_of supplied found;
+  advice = advice_of auto supplied found;
   notes = notes_of supplied found;
   values = values_of supplied found;
   count = found.count;
@@ -476,7 +622,7 @@ dump_outcome refused told None capabilities = refused
 
 -- the dump, or what is missing
 abbrev pub ended_by : Summary → Outcome
-ended_by told = if is_empty told.missing then dump_outcome (refusal told.tally told.missing) told told.width (told.values 0 0xfe) else refusal told.tally told.missing
+ended_by told = if is_empty told.missing then dump_outcome (refusal told.tally told.missing) told told.width (told.values 0 0xfe) else refusal told.tally (told.missing ++ told.advice)
 
 abbrev pub findings_of : Seen → Findings
 findings_of seen = record { slots = slot_shown seen.readings; count = processors seen.readings; shown = record { width = seen.width; format = seen.tally.format } }
@@ -484,9 +630,10 @@ findings_of seen = record { slots = slot_shown seen.readings; count = processors
 abbrev pub ended : Bool → Supplied → Seen → Outcome
 ended auto supplied seen = ended_by (summary_of auto supplied (findings_of seen) seen.tally)
 
-abbrev pub unless : Option ImportFault → Outcome → Outcome
-unless (Some fault) told = record { notes = []; dump = []; reasons = fault_line fault; status = BadText }
-unless None told = told
+-- the first fault, behind what lines before it warn of
+abbrev pub unless : Option ImportFault → Warned → Outcome → Outcome
+unless (Some fault) warned told = record { notes = []; dump = []; reasons = warning_lines warned ++ fault_line fault; status = BadText }
+unless None warned told = told
 
 abbrev pub facts_outcome : Bool → Supplied → Seen → List Fact → Outcome
-facts_outcome auto supplied seen facts = unless (facts_fault supplied seen facts) (ended auto supplied (seen_after seen facts))
+facts_outcome auto supplied seen facts = unless (facts_fault supplied seen facts) (warned_till supplied seen facts) (ended auto supplied (seen_after seen facts))

@@ -1,7 +1,7 @@
 -- What a reader of a log keeps of the facts that it has taken (own).
 --     HasTakenFacts state seen      the reader has taken these facts
 --     TakesFacts supplied old new facts result      a call that takes more of them
-use Rattle.std.specs.Prelude.{ℕ, ◌≡◌, ◌≤◌, ◌<◌, ◌+◌, ◌-◌, ◌*◌, ◌==◌, nat_lt, bit_or, Bool, List, [], length, if◌then◌else◌, Option, Some, None, IfSome, Result, Ok, Err, IfErr, MatchResult, ⊤}
+use Rattle.std.specs.Prelude.{ℕ, ◌≡◌, ◌≤◌, ◌<◌, ◌+◌, ◌-◌, ◌*◌, ◌==◌, ◌&&◌, nat_lt, bit_or, Bool, List, [], length, if◌then◌else◌, Option, Some, None, is_none, IfSome, Result, Ok, Err, IfErr, MatchResult, ⊤}
 use Rattle.std.specs.List.{slice_index_or}
 use Rattle.std.specs.Option.{option_map_or}
 use Rattle.mt_text.specs.Reader.{Course}
@@ -9,17 +9,19 @@ use Rattle.mt_text.specs.declared.place.Place.{Place}
 use Rattle.mt_regs.specs.RegisterFile.{low_byte}
 use Rattle.mt_regs.specs.Registers.{HasThreeDigits}
 use Rattle.mt_import.specs.declared.fault.ImportFault.{ImportFault}
-use Rattle.mt_import.specs.declared.fault.ImportFault.TheVariants.{LongLine, BadProcessor, TooManyPairs, BadWidth, Contradiction, WidthContradiction}
+use Rattle.mt_import.specs.declared.fault.ImportFault.TheVariants.{BadLine, BadProcessor, TooManyPairs, BadWidth, Contradiction, WidthContradiction}
+use Rattle.mt_import.specs.declared.fault.Stop.{Stop}
 use Rattle.mt_import.specs.declared.reading.Context.{Context}
 use Rattle.mt_import.specs.declared.shape.LastPair.{LastPair}
 use Rattle.mt_import.specs.declared.shape.Reading.{Reading}
 use Rattle.mt_import.specs.declared.shape.Slot.{Slot}
 use Rattle.mt_import.specs.declared.shape.Tally.{Tally}
+use Rattle.mt_import.specs.declared.shape.Warned.{Warned}
 use Rattle.mt_import.specs.Slot.{blank_slot}
 use Rattle.mt_import.specs.Supplied.{Supplied}
 use Rattle.mt_import.specs.Readings.{Fact}
 use Rattle.mt_import.specs.Shown.{facts_from}
-use Rattle.mt_import.specs.Outcome.{Findings, Outcome, Seen, Summary, capabilities_shown, ended, facts_fault, firm_of, hint_of, is_missing, last_fixed_line, last_shown, missing_line, missing_lines, note_line, note_lines, noted, noted_of, processors, seen_after, seen_with, slot_shown, summary_of, values_of}
+use Rattle.mt_import.specs.Outcome.{Findings, Outcome, Seen, Summary, capabilities_shown, ended, facts_fault, firm_of, help_on, help_words, helps_on, hint_of, is_missing, is_nowhere, lacking_text, last_fixed_line, last_shown, missing_line, missing_lines, note_line, note_lines, noted, noted_of, processors, processors_text, seen_after, seen_with, slot_shown, summary_of, value_word, value_words, values_of, warned_till}
 
 pub record State : Type 0 where
   pub context : Context
@@ -66,13 +68,44 @@ summary_in auto supplied state = summary_of auto supplied (findings_in state) st
 abbrev pub is_missing_in : Supplied → State → ℕ → Bool
 is_missing_in supplied state = is_missing (values_in supplied state) state.processors
 
+-- all processors lack it
+abbrev pub is_nowhere_in : Supplied → State → ℕ → Bool
+is_nowhere_in supplied state = is_nowhere (values_in supplied state) state.processors
+
+-- There is a processor of this number, and it lacks the register.
+abbrev pub lacks_in : Supplied → State → ℕ → ℕ → Bool
+lacks_in supplied state k number = nat_lt k state.processors && is_none (values_in supplied state k number)
+
+-- the numbers of those of the first processors that lack it
+abbrev pub lacking_text_in : Supplied → State → ℕ → ℕ → List ℕ
+lacking_text_in supplied state = lacking_text (values_in supplied state) state.processors
+
+abbrev pub processors_text_in : Supplied → State → ℕ → List ℕ
+processors_text_in supplied state = processors_text (values_in supplied state) state.processors
+
 -- the line that names a register, if a processor lacks it
 abbrev pub missing_line_in : Supplied → State → ℕ → List ℕ
-missing_line_in supplied state number = if is_missing_in supplied state number then missing_line number (hint_in supplied state number) else []
+missing_line_in supplied state number = if is_missing_in supplied state number then missing_line number (processors_text_in supplied state number) (hint_in supplied state number) else []
 
 -- the lines on these registers, in their order
 abbrev pub missing_lines_in : Supplied → State → List ℕ → List ℕ
 missing_lines_in supplied state = missing_lines (hint_in supplied state) (values_in supplied state) state.processors
+
+-- the assumption that would supply a register that is missing
+abbrev pub help_in : Supplied → State → ℕ → List ℕ
+help_in supplied state = help_on supplied (findings_in state)
+
+abbrev pub helps_in : Supplied → State → List ℕ → List ℕ → List ℕ
+helps_in supplied state = helps_on supplied (findings_in state)
+
+abbrev pub help_words_in : Supplied → State → List ℕ → List ℕ
+help_words_in supplied state = help_words supplied (findings_in state)
+
+abbrev pub value_word_in : Supplied → State → ℕ → List ℕ
+value_word_in supplied state = value_word supplied (findings_in state)
+
+abbrev pub value_words_in : Supplied → State → List ℕ → List ℕ
+value_words_in supplied state = value_words supplied (findings_in state)
 
 -- a register's assumed value, of the first processor that has one
 abbrev pub noted_in : Supplied → State → ℕ → Option ℕ
@@ -138,7 +171,7 @@ pub record KeepsFact (old new : State) (fact : Fact) : Type 0 where
 
 -- the register's number has three hexadecimal digits at most
 abbrev pub IsShort : ImportFault → Type 0
-IsShort (LongLine place) = ⊤
+IsShort (BadLine why place) = ⊤
 IsShort (BadProcessor place) = ⊤
 IsShort (TooManyPairs place) = ⊤
 IsShort (BadWidth place) = ⊤
@@ -146,19 +179,22 @@ IsShort (Contradiction place number rival) = HasThreeDigits number
 IsShort (WidthContradiction place rival) = ⊤
 
 -- A call takes facts. At `Ok` they have no fault, and the reader has taken them too. At `Err` the result is their first fault,
--- which names no register of more than three hexadecimal digits. It says nothing of the context, nor of the reader at `Err`.
+-- which names no register of more than three hexadecimal digits, and the reader has what facts before it warn of. It says nothing of the context.
 pub record TakesFacts {U : Type 0} (supplied : Supplied) (old new : State) (facts : List Fact) (result : Result U ImportFault) : Type 0 where
   pub taken : (seen : Seen) → HasTakenFacts old seen → MatchResult result
       (λ _. HasTakenFacts new (seen_after seen facts) × (facts_fault supplied seen facts ≡ None))
-      (λ fault. facts_fault supplied seen facts ≡ Some fault)
+      (λ fault. (facts_fault supplied seen facts ≡ Some fault) × (new.tally.warned ≡ warned_till supplied seen facts))
   pub short : IfErr result IsShort
 
+abbrev pub stop : Warned → ImportFault → Stop
+stop warned fault = record { fault = fault; warned = warned }
+
 -- what facts come to: the first fault, or the outcome behind them
-abbrev pub facts_answer : Bool → Supplied → Seen → List Fact → Result Outcome ImportFault
-facts_answer auto supplied seen facts = option_map_or (λ fault. Err fault) (facts_fault supplied seen facts) (Ok (ended auto supplied (seen_after seen facts)))
+abbrev pub facts_answer : Bool → Supplied → Seen → List Fact → Result Outcome Stop
+facts_answer auto supplied seen facts = option_map_or (λ fault. Err (stop (warned_till supplied seen facts) fault)) (facts_fault supplied seen facts) (Ok (ended auto supplied (seen_after seen facts)))
 
 -- The lines that follow, of which the first has this number, lead a reader to this.
-pub record LeadsTo (auto : Bool) (supplied : Supplied) (state : State) (number : ℕ) (course : Course (Result Outcome ImportFault)) : Type 0 where
+pub record LeadsTo (auto : Bool) (supplied : Supplied) (state : State) (number : ℕ) (course : Course (Result Outcome Stop)) : Type 0 where
   pub seen : Seen
   pub taken : HasTakenFacts state seen
   pub leads : (lines : List (List ℕ)) (end : Place) → course lines end ≡ facts_answer auto supplied seen (facts_from state.context number lines)

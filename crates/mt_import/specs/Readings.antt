@@ -7,18 +7,20 @@ use Rattle.mt_regs.specs.RegisterFile.{RegisterFile, blank_file}
 use Rattle.mt_regs.specs.Registers.{number_limit, value_at}
 use Rattle.mt_text.specs.declared.place.Place.{Place}
 use Rattle.mt_import.specs.declared.fault.ImportFault.{ImportFault}
-use Rattle.mt_import.specs.declared.fault.ImportFault.TheVariants.{Contradiction, LongLine}
+use Rattle.mt_import.specs.declared.fault.ImportFault.TheVariants.{BadLine, Contradiction}
+use Rattle.mt_import.specs.declared.fault.Reason.TheVariants.{MixedNumbers}
 use Rattle.mt_import.specs.declared.fault.Rival.TheVariants.{Line}
 use Rattle.mt_import.specs.declared.format.Format.{Format}
 use Rattle.mt_import.specs.declared.reading.Context.{Context}
 use Rattle.mt_import.specs.declared.reading.LineSays.{LineSays}
-use Rattle.mt_import.specs.declared.reading.LineSays.TheVariants.{Nothing, Announces, Value, Turns, Shows, Begins, FixedRanges, VariableRanges, Width, Warns, Long}
+use Rattle.mt_import.specs.declared.reading.LineSays.TheVariants.{Nothing, Announces, Value, Turns, Shows, Lists, Begins, FixedRanges, VariableRanges, Width, Warns, Bad}
 use Rattle.mt_import.specs.declared.reading.Turn.{Turn}
 use Rattle.mt_import.specs.declared.reading.Turn.TheVariants.{To, Unread, UnreadCall}
 use Rattle.mt_import.specs.declared.shape.Announced.{Announced}
 use Rattle.mt_import.specs.declared.shape.FixedLine.{FixedLine}
 use Rattle.mt_import.specs.declared.shape.Reading.{Reading}
 use Rattle.mt_import.specs.declared.shape.Shown.{Shown}
+use Rattle.mt_import.specs.declared.shape.Warning.{Warning}
 use Rattle.mt_import.specs.Pieces.{shown_as, shown_bits, unread_processor}
 
 -- a file that has each register that some file has: 32 pairs, and FIX
@@ -29,17 +31,17 @@ all_registers = blank_file 36 0x120
 abbrev pub is_register : ℕ → Bool
 is_register number = nat_lt number number_limit && is_some (value_at all_registers number)
 
--- A line with the format that is known behind it and whether the line is of that format, bits of a register, the address width and its place, a line on which the kernel warned, or why a log shows no dump.
+-- A line with the format that is known behind it and whether the line is of that format, bits of a register, the address width and its place, what a line of this number warns of, or why a log shows no dump.
 pub data Fact : Type 0 where
   is_line : ℕ → Option Format → Bool → Fact
   is_register_value : Reading → Fact
   is_width : ℕ → Place → Fact
-  is_warning : Fact
+  is_warning : Warning → ℕ → Fact
   is_fault : ImportFault → Fact
 
 -- before all lines
 abbrev pub starts : Option Format → Context
-starts format = record { format = format; announced = None; processor = Some 0; table = 0; fixed = None }
+starts format = record { format = format; announced = None; processor = Some 0; table = 0; fixed = None; lists_processors = None }
 
 abbrev pub is_match : LineSays → Bool
 is_match Nothing = false
@@ -51,8 +53,9 @@ is_match (Begins shows) = true
 is_match (FixedRanges enabled alone place) = true
 is_match (VariableRanges enabled place) = true
 is_match (Width width place) = true
-is_match Warns = true
-is_match (Long place) = true
+is_match (Warns warning number) = true
+is_match (Lists processor shown) = true
+is_match (Bad why place) = true
 
 -- ---- registers
 
@@ -125,6 +128,19 @@ unless_clash (Some line) place facts = is_fault (Contradiction place 0x2ff (Line
 abbrev pub fixed_facts : Context → Bool → Bool → Place → List Fact
 fixed_facts context enabled alone place = unless_clash (fixed_clash context.fixed enabled) place (shows_facts 0 context.table (fixed_shows enabled alone place))
 
+-- ---- a list
+
+-- the lines of a list before name processors where this one doesn't, or the other way round
+abbrev pub is_mixed : Option Bool → Bool → Bool
+is_mixed None names = false
+is_mixed (Some before) names = unlike before names
+
+-- A line that names no processor is of processor 0.
+abbrev pub listed_facts : Context → Option ℕ → Shown → List Fact
+listed_facts context processor shown =
+    if is_mixed context.lists_processors (is_some processor) then is_fault (BadLine MixedNumbers shown.place) ∷ []
+    else reading_facts (named_processor processor (Some 0)) context.table shown
+
 -- ---- a line
 
 -- what a line comes to behind lines that lead to this
@@ -138,8 +154,9 @@ said_facts context (Begins shows) = shows_facts 0 (one_more context.table) shows
 said_facts context (FixedRanges enabled alone place) = fixed_facts context enabled alone place
 said_facts context (VariableRanges enabled place) = shows_facts 0 context.table (variable_shows context enabled place)
 said_facts context (Width width place) = is_width width place ∷ []
-said_facts context Warns = is_warning ∷ []
-said_facts context (Long place) = is_fault (LongLine place) ∷ []
+said_facts context (Warns warning number) = is_warning warning number ∷ []
+said_facts context (Lists processor shown) = listed_facts context processor shown
+said_facts context (Bad why place) = is_fault (BadLine why place) ∷ []
 
 -- the same with the line itself, which has this number
 abbrev pub line_facts : ℕ → Option Format → Context → LineSays → List Fact
@@ -166,8 +183,9 @@ announced_after (Begins shows) before = None
 announced_after (FixedRanges enabled alone place) before = None
 announced_after (VariableRanges enabled place) before = None
 announced_after (Width width place) before = None
-announced_after Warns before = None
-announced_after (Long place) before = None
+announced_after (Warns warning number) before = None
+announced_after (Lists processor shown) before = None
+announced_after (Bad why place) before = None
 
 abbrev pub processor_turned_to : Turn → Option ℕ
 processor_turned_to (To processor) = Some processor
@@ -185,8 +203,9 @@ processor_after (Begins shows) before = before
 processor_after (FixedRanges enabled alone place) before = before
 processor_after (VariableRanges enabled place) before = before
 processor_after (Width width place) before = before
-processor_after Warns before = before
-processor_after (Long place) before = before
+processor_after (Warns warning number) before = before
+processor_after (Lists processor shown) before = before
+processor_after (Bad why place) before = before
 
 -- how many tables have begun
 abbrev pub table_behind : LineSays → ℕ → ℕ
@@ -199,8 +218,9 @@ table_behind (Shows processor shows) before = before
 table_behind (FixedRanges enabled alone place) before = before
 table_behind (VariableRanges enabled place) before = before
 table_behind (Width width place) before = before
-table_behind Warns before = before
-table_behind (Long place) before = before
+table_behind (Warns warning number) before = before
+table_behind (Lists processor shown) before = before
+table_behind (Bad why place) before = before
 
 -- the last line on fixed ranges
 abbrev pub fixed_after : LineSays → ℕ → Option FixedLine → Option FixedLine
@@ -213,8 +233,24 @@ fixed_after (Shows processor shows) table before = before
 fixed_after (Begins shows) table before = before
 fixed_after (VariableRanges enabled place) table before = before
 fixed_after (Width width place) table before = before
-fixed_after Warns table before = before
-fixed_after (Long place) table before = before
+fixed_after (Warns warning number) table before = before
+fixed_after (Lists processor shown) table before = before
+fixed_after (Bad why place) table before = before
+
+-- whether the last line of a list names a processor
+abbrev pub lists_after : LineSays → Option Bool → Option Bool
+lists_after (Lists processor shown) before = Some (is_some processor)
+lists_after Nothing before = before
+lists_after (Announces processor number) before = before
+lists_after (Value value place) before = before
+lists_after (Turns turn) before = before
+lists_after (Shows processor shows) before = before
+lists_after (Begins shows) before = before
+lists_after (FixedRanges enabled alone place) before = before
+lists_after (VariableRanges enabled place) before = before
+lists_after (Width width place) before = before
+lists_after (Warns warning number) before = before
+lists_after (Bad why place) before = before
 
 abbrev pub context_after : Context → Option Format → LineSays → Context
 context_after context format said = record {
@@ -223,4 +259,5 @@ context_after context format said = record {
   processor = processor_after said context.processor;
   table = table_behind said context.table;
   fixed = fixed_after said context.table context.fixed;
+  lists_processors = lists_after said context.lists_processors;
 }

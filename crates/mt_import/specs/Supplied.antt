@@ -1,14 +1,15 @@
 -- What the words of the command line supply (own).
 --     command_of words      the format and what is supplied, where the words are a command line
 use Rattle.std.specs.Prelude.{ℕ, ◌≡◌, ◌≤◌, ◌+◌, ◌==◌, ◌&&◌, ◌||◌, not, nat_lt, bit_and, codes, Bool, true, false, ⊤, List, [], ◌∷◌, ◌++◌, length, take, drop, position, if◌then◌else◌, Option, Some, None, Result, Ok, Err, is_some, IfSome}
-use Rattle.std.specs.List.{find}
+use Rattle.std.specs.List.{All, find}
 use Rattle.std.specs.Option.{option_map}
 use Rattle.mt_text.specs.Number.{hex_number, decimal_number}
 use Rattle.mt_text.specs.declared.fault.NumberFault.{NumberFault}
 use Rattle.mt_regs.specs.RegisterFile.{low_byte}
+use Rattle.mt_regs.specs.Registers.{HasThreeDigits}
 use Rattle.mt_import.specs.declared.format.Choice.{Choice}
 use Rattle.mt_import.specs.declared.format.Choice.TheVariants.{Auto, Only}
-use Rattle.mt_import.specs.declared.format.Format.TheVariants.{Rdmsr, X86info, Inteltool, Coreboot, Edk2, Linux, Xen}
+use Rattle.mt_import.specs.declared.format.Format.TheVariants.{Rdmsr, X86info, Inteltool, Coreboot, Edk2, Linux, Xen, Chipsec, Windbg, Plain}
 use Rattle.mt_import.specs.declared.supplied.Assumed.{Assumed}
 use Rattle.mt_import.specs.declared.supplied.Given.{Given}
 use Rattle.mt_import.specs.declared.supplied.Given.TheVariants.{Width, Register, Assume}
@@ -22,10 +23,10 @@ pub record Supplied : Type 0 where
   pub assumed : Assumed
 
 abbrev pub nothing_assumed : Assumed
-nothing_assumed = record { pat = false; pairs = false; masks = false; width = false; capabilities = false }
+nothing_assumed = record { pat = false; pairs = false; masks = false; fixed = false; width = false; capabilities = false }
 
 abbrev pub all_assumed : Assumed
-all_assumed = record { pat = true; pairs = true; masks = true; width = true; capabilities = true }
+all_assumed = record { pat = true; pairs = true; masks = true; fixed = true; width = true; capabilities = true }
 
 abbrev pub nothing_supplied : Supplied
 nothing_supplied = record { width = None; registers = []; assumed = nothing_assumed }
@@ -46,15 +47,16 @@ abbrev pub bits_differ : Option ℕ → ℕ → ℕ → Bool
 bits_differ None bits value = false
 bits_differ (Some word) bits value = not (bit_and word bits == value)
 
--- a width and a count of pairs that a file may have
+-- a width and a count of pairs that a file may have, and registers of three digits
 pub record IsSupplied (supplied : Supplied) : Type 0 where
+  pub numbers : All (λ register. HasThreeDigits register.0) supplied.registers
   pub width : IfSome supplied.width (λ width. (32 ≤ width) × (width ≤ 52))
   pub pairs : (value : ℕ) → supplied_value supplied 0xfe ≡ Some value → low_byte value ≤ 32
 
--- a width and a count of pairs that a file may have
+-- the same of one word
 abbrev pub AreGiven : Given → Type 0
 AreGiven (Width width) = (32 ≤ width) × (width ≤ 52)
-AreGiven (Register number value) = number ≡ 0xfe → low_byte value ≤ 32
+AreGiven (Register number value) = HasThreeDigits number × (number ≡ 0xfe → low_byte value ≤ 32)
 AreGiven (Assume assumed) = ⊤
 
 abbrev pub is_equals : ℕ → Bool
@@ -82,6 +84,7 @@ assumption_named name =
     if is_text (codes "pat") name then Some (record nothing_assumed { pat = true })
     else if is_text (codes "pairs") name then Some (record nothing_assumed { pairs = true })
     else if is_text (codes "masks") name then Some (record nothing_assumed { masks = true })
+    else if is_text (codes "fixed") name then Some (record nothing_assumed { fixed = true })
     else if is_text (codes "width") name then Some (record nothing_assumed { width = true })
     else if is_text (codes "capabilities") name then Some (record nothing_assumed { capabilities = true })
     else if is_text (codes "all") name then Some all_assumed
@@ -104,10 +107,10 @@ abbrev pub given_of : List ℕ → Option Given
 given_of word = given_by word (behind (codes "maxphyaddr=") word)
 
 abbrev pub are_both : Assumed → Assumed → Bool
-are_both a b = (a.pat && b.pat) || (a.pairs && b.pairs) || (a.masks && b.masks) || (a.width && b.width) || (a.capabilities && b.capabilities)
+are_both a b = (a.pat && b.pat) || (a.pairs && b.pairs) || (a.masks && b.masks) || (a.fixed && b.fixed) || (a.width && b.width) || (a.capabilities && b.capabilities)
 
 abbrev pub assumed_too : Assumed → Assumed → Assumed
-assumed_too a b = record { pat = a.pat || b.pat; pairs = a.pairs || b.pairs; masks = a.masks || b.masks; width = a.width || b.width; capabilities = a.capabilities || b.capabilities }
+assumed_too a b = record { pat = a.pat || b.pat; pairs = a.pairs || b.pairs; masks = a.masks || b.masks; fixed = a.fixed || b.fixed; width = a.width || b.width; capabilities = a.capabilities || b.capabilities }
 
 -- nothing is given twice
 abbrev pub with_given : Supplied → Given → Option Supplied
@@ -138,6 +141,9 @@ format_named word =
     else if is_text (codes "edk2") word then Some (Only Edk2)
     else if is_text (codes "linux") word then Some (Only Linux)
     else if is_text (codes "xen") word then Some (Only Xen)
+    else if is_text (codes "chipsec") word then Some (Only Chipsec)
+    else if is_text (codes "windbg") word then Some (Only Windbg)
+    else if is_text (codes "plain") word then Some (Only Plain)
     else None
 
 abbrev pub command_with : Option Choice → Option Supplied → Option (Choice × Supplied)
@@ -145,7 +151,7 @@ command_with None supplied = None
 command_with (Some choice) None = None
 command_with (Some choice) (Some supplied) = Some (choice, supplied)
 
--- the format, and the width, 78 registers and five assumptions at most
+-- the format, and the width, 78 registers and six assumptions at most
 abbrev pub command_of : List (List ℕ) → Option (Choice × Supplied)
 command_of [] = None
-command_of (name ∷ words) = if nat_lt 84 (length words) then None else command_with (format_named name) (with_words (Some nothing_supplied) words)
+command_of (name ∷ words) = if nat_lt 85 (length words) then None else command_with (format_named name) (with_words (Some nothing_supplied) words)

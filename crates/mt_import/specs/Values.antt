@@ -1,12 +1,13 @@
 -- The registers of a dump, by what lines have shown of them, what words supply, and what words allow to be assumed (own).
 --     value_by supplied slots known k number      the value of a register of processor k
 --     width_by supplied slots width      the address width, where lines show this one
-use Rattle.std.specs.Prelude.{ℕ, zero, suc, ◌+◌, ◌-◌, ◌*◌, ◌/◌, ◌%◌, ◌^◌, ◌==◌, ◌&&◌, ◌||◌, nat_lt, not, bit_or, Bool, true, false, if◌then◌else◌, Option, Some, None, unwrap_or}
+use Rattle.std.specs.Prelude.{ℕ, zero, suc, ◌+◌, ◌-◌, ◌*◌, ◌/◌, ◌%◌, ◌^◌, ◌==◌, ◌&&◌, ◌||◌, nat_lt, not, bit_or, Bool, true, false, List, [], ◌∷◌, if◌then◌else◌, Option, Some, None, unwrap_or}
 use Rattle.std.specs.Int.{leading_zeros, w64}
 use Rattle.mt_kinds.specs.Bits.{is_bit_set}
 use Rattle.mt_regs.specs.RegisterFile.{low_byte}
+use Rattle.mt_regs.specs.Registers.{fixed_numbers}
 use Rattle.mt_import.specs.declared.format.Format.{Format}
-use Rattle.mt_import.specs.declared.format.Format.TheVariants.{Rdmsr, X86info, Inteltool, Coreboot, Edk2, Linux, Xen}
+use Rattle.mt_import.specs.declared.format.Format.TheVariants.{Rdmsr, X86info, Inteltool, Coreboot, Edk2, Linux, Xen, Chipsec, Windbg, Plain}
 use Rattle.mt_import.specs.declared.shape.Slot.{Slot}
 use Rattle.mt_import.specs.declared.supplied.Assumed.{Assumed}
 use Rattle.mt_import.specs.Slot.{is_disabled, is_whole, whole_value}
@@ -52,7 +53,11 @@ power_up_pat = 0x0007040600070406
 abbrev pub xen_pat : ℕ
 xen_pat = 0x0000050100070406
 
--- assume=pat: the value that Xen sets in its log, or else that of power-up
+-- the value that Linux sets: WB, WC, UC-, UC, WB, WP, UC- and WT
+abbrev pub linux_pat : ℕ
+linux_pat = 0x0407050600070106
+
+-- assume=pat: the value that Linux or Xen sets in its log, or else that of power-up
 abbrev pub assumed_pat : Option Format → ℕ
 assumed_pat None = power_up_pat
 assumed_pat (Some Rdmsr) = power_up_pat
@@ -60,8 +65,11 @@ assumed_pat (Some X86info) = power_up_pat
 assumed_pat (Some Inteltool) = power_up_pat
 assumed_pat (Some Coreboot) = power_up_pat
 assumed_pat (Some Edk2) = power_up_pat
-assumed_pat (Some Linux) = power_up_pat
+assumed_pat (Some Linux) = linux_pat
 assumed_pat (Some Xen) = xen_pat
+assumed_pat (Some Chipsec) = power_up_pat
+assumed_pat (Some Windbg) = power_up_pat
+assumed_pat (Some Plain) = power_up_pat
 
 -- how many of the first pairs a log shows: V of the last is shown
 abbrev pub shown_pairs : (ℕ → Slot) → ℕ → ℕ
@@ -72,13 +80,13 @@ shown_pairs slots (suc n) = if is_bit_set (slots (0x201 + 2 * n)).bits 11 then s
 abbrev pub pair_count : (ℕ → Slot) → ℕ
 pair_count slots = if (slots 0xfe).bits % 256 == 255 then low_byte (slots 0xfe).value else shown_pairs slots 32
 
--- Lines show FIX of the capability register, but not all of it.
-abbrev pub shows_only_fix : Slot → Bool
-shows_only_fix capabilities = is_bit_set capabilities.value 8 && not (is_whole capabilities)
+-- Lines show FIX of the capability register, or VCNT, but not all of it.
+abbrev pub shows_part : Slot → Bool
+shows_part capabilities = (is_bit_set capabilities.value 8 || capabilities.bits % 256 == 255) && not (is_whole capabilities)
 
--- assume=capabilities: behind a kernel's line on fixed ranges, the capability register with VCNT, FIX and WC
+-- assume=capabilities: behind a kernel's line on fixed ranges or on its map, the capability register with VCNT, FIX and WC
 abbrev pub assumed_capabilities : (ℕ → Slot) → Option ℕ
-assumed_capabilities slots = if shows_only_fix (slots 0xfe) then Some (pair_count slots + 0x500) else None
+assumed_capabilities slots = if shows_part (slots 0xfe) then Some (pair_count slots + 0x500) else None
 
 -- assume=masks: a mask with ones from the size that a line shows up to the width. Such a line shows the bits up to that of the size.
 abbrev pub size_in : Slot → ℕ
@@ -113,6 +121,31 @@ has_pairs slots = is_of_table (slots 0x2ff) || shows_pairs slots 32
 abbrev pub assumed_zero : (ℕ → Slot) → ℕ → Option ℕ
 assumed_zero slots number = if is_unshown slots number && has_pairs slots then Some 0 else None
 
+-- No other register has a number between those of the fixed-range registers.
+abbrev pub is_fixed_number : ℕ → Bool
+is_fixed_number number = nat_lt 0x24f number && nat_lt number 0x270
+
+-- what SeaBIOS sets: WB below A0000H, UC up to C0000H, and WP above
+abbrev pub firmware_value : ℕ → ℕ
+firmware_value number = if number == 0x259 then 0 else if nat_lt number 0x260 then 0x0606060606060606 else 0x0505050505050505
+
+-- lines show a bit of one of these registers
+abbrev pub shows_one_of : (ℕ → Slot) → List ℕ → Bool
+shows_one_of slots [] = false
+shows_one_of slots (number ∷ numbers) = if (slots number).bits == 0 then shows_one_of slots numbers else true
+
+-- assume=fixed: the values that firmware of PCs sets, where no line shows a fixed-range register
+abbrev pub assumed_fixed : (ℕ → Slot) → ℕ → Option ℕ
+assumed_fixed slots number = if shows_one_of slots fixed_numbers then None else Some (firmware_value number)
+
+-- lines show FIX of the capability register as clear
+abbrev pub shows_fix_clear : Slot → Bool
+shows_fix_clear capabilities = is_bit_set capabilities.bits 8 && not (is_bit_set capabilities.value 8)
+
+-- assume=fixed: E, FE and UC, where no line shows a bit of IA32_MTRR_DEF_TYPE, and none FIX as clear
+abbrev pub assumed_default : (ℕ → Slot) → Option ℕ
+assumed_default slots = if (slots 0x2ff).bits == 0 && not (shows_fix_clear (slots 0xfe)) then Some 0xc00 else None
+
 abbrev pub only_if : Bool → Option ℕ → Option ℕ
 only_if true value = value
 only_if false value = None
@@ -125,12 +158,14 @@ assumed_value assumed slots known number =
     if number == 0x277 then only_if assumed.pat (Some (assumed_pat known.format))
     else if number == 0xfe then only_if assumed.capabilities (assumed_capabilities slots)
     else if is_pair_number number then assumed_pair assumed slots known.width number
+    else if is_fixed_number number then only_if assumed.fixed (assumed_fixed slots number)
+    else if number == 0x2ff then only_if assumed.fixed (assumed_default slots)
     else None
 
--- Sizes and kernels' tables are of processor 0, so that masks and the capability register are assumed of it alone.
+-- Sizes and kernels' tables are of processor 0, so that masks, fixed ranges and the capability register are assumed of it alone.
 abbrev pub assumed_of : ℕ → Assumed → Assumed
 assumed_of zero assumed = assumed
-assumed_of (suc k) assumed = record { pat = assumed.pat; pairs = assumed.pairs; masks = false; width = assumed.width; capabilities = false }
+assumed_of (suc k) assumed = record { pat = assumed.pat; pairs = assumed.pairs; masks = false; fixed = false; width = assumed.width; capabilities = false }
 
 abbrev pub value_by : Supplied → (ℕ → ℕ → Slot) → Known → ℕ → ℕ → Option ℕ
 value_by supplied slots known k number = or_supplied (firm_value supplied (slots k) number) (assumed_value (assumed_of k supplied.assumed) (slots k) known number)

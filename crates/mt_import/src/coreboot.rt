@@ -10,23 +10,21 @@ use crate::pieces::{
     shows_width, whole_number, word_place, word_text,
 };
 use crate::reading::{one_shown, two_shown};
-use mt_kinds::PAGE_BYTES;
+use mt_kinds::{DEF_TYPE_E, DEF_TYPE_FE, PAGE_BYTES, PHYSMASK_V};
 use mt_regs::{CAPABILITIES, DEFAULT_TYPE, FIRST_PAIR};
 use mt_text::{Line, NumberFault, Place, decimal, without_ending};
 
 const FIRST_MASK: u32 = FIRST_PAIR + 1;
 
-const VALID: u64 = 0x800;
+const VALID: u64 = 1 << PHYSMASK_V;
 
 const MOST_PAIRS: u64 = 31;
 
 const IDS: u64 = 0x10000;
 
-// FE of IA32_MTRR_DEF_TYPE.
-const FIXED_ENABLED: u64 = 0x400;
+const FIXED_ENABLED: u64 = 1 << DEF_TYPE_FE;
 
-// E of IA32_MTRR_DEF_TYPE.
-const ENABLED: u64 = 0x800;
+const ENABLED: u64 = 1 << DEF_TYPE_E;
 
 fn colon_number(word: &[u8]) -> Option<u64>
     ensures { result ≡ colon_number word.now }

@@ -1,17 +1,17 @@
-ghost use Rattle.std.specs.Prelude.{◌≡◌, ◌≤◌, ◌<◌, ◌+◌, Some, length, map};
+ghost use Rattle.std.specs.Prelude.{◌≡◌, ◌≤◌, ◌<◌, ◌+◌, ◌++◌, Some, length, map};
 ghost use Rattle.mt_regs.specs.Registers.{fixed_numbers};
 ghost use Rattle.mt_kinds.specs.Bits.{is_bit_set};
 ghost use Rattle.mt_regs.specs.RegisterFile.{low_byte};
-ghost use Rattle.mt_import.specs.Outcome.{dump_in, dump_outcome, ended_by, file_of, files_of, first_pairs, fixed_of, is_empty, refusal, remarks, value_or_zero, version_of};
-ghost use Rattle.mt_import.specs.Reader.{summary_in, values_in};
+ghost use Rattle.mt_import.specs.Outcome.{advice_of, dump_in, dump_outcome, ended_by, file_of, files_of, first_pairs, fixed_of, is_empty, refusal, remarks, value_or_zero, version_of};
+ghost use Rattle.mt_import.specs.Reader.{findings_in, summary_in, values_in};
 ghost use Rattle.mt_import.specs.Import.{IsWritten, dump_text};
 
 use crate::shape::Tally;
-use crate::text::{Outcome, count_line, is_empty, warning_text};
+use crate::text::{Outcome, count_line, is_empty};
 use crate::{LogReader, Supplied};
 use arrayvec::ArrayVec;
 use mt_dump::{Dump, TextBuffer, append_text, canonical_text};
-use mt_kinds::is_bit_set;
+use mt_kinds::{MTRRCAP_FIX, is_bit_set};
 use mt_ports::Status;
 use mt_regs::{DEFAULT_TYPE, FIRST_PAIR, PAT, RegFile};
 
@@ -82,7 +82,7 @@ impl LogReader {
         requires { k < 16 }
         ensures { result ≡ fixed_of (values_in supplied.now self.now k) (is_bit_set capabilities 8) }
     {
-        if is_bit_set(capabilities, 8) {
+        if is_bit_set(capabilities, MTRRCAP_FIX) {
             self.fixed(supplied, k)
         } else {
             [0; 11]
@@ -156,6 +156,18 @@ impl LogReader {
         }
     }
 
+    // What is missing, and the words that would supply it.
+    fn lacking(&self, is_auto: bool, supplied: &Supplied, missing: &[u8]) -> Outcome
+        requires { length missing.now ≤ 0x6000 }
+        ensures told { result ≡ refusal self.now.tally (missing.now ++ advice_of is_auto supplied.now (findings_in self.now)) }
+        ensures written { IsWritten result.status (dump_text result) }
+    {
+        let mut text = ArrayVec::new();
+        append_text(&mut text, missing);
+        append_text(&mut text, self.advice(is_auto, supplied).as_slice());
+        refusal(&self.tally(), text.as_slice())
+    }
+
     /// The dump of all lines that were taken, or what is missing.
     pub fn finish(&self, is_auto: bool, supplied: &Supplied) -> Outcome
         ensures told { result ≡ ended_by (summary_in is_auto supplied.now self.now) }
@@ -166,7 +178,7 @@ impl LogReader {
         if is_empty(text) {
             self.dump_outcome(is_auto, supplied, text)
         } else {
-            refusal(&self.tally(), text)
+            self.lacking(is_auto, supplied, text)
         }
     }
 }
@@ -179,7 +191,7 @@ fn remarks(is_auto: bool, tally: &Tally) -> TextBuffer
     if is_auto {
         append_text(&mut text, count_line(tally).as_slice());
     }
-    append_text(&mut text, warning_text(tally.warned));
+    tally.warned.append_lines(&mut text);
     text
 }
 
@@ -191,7 +203,7 @@ fn refusal(tally: &Tally, missing: &[u8]) -> Outcome
 {
     let mut reasons = ArrayVec::new();
     append_text(&mut reasons, count_line(tally).as_slice());
-    append_text(&mut reasons, warning_text(tally.warned));
+    tally.warned.append_lines(&mut reasons);
     append_text(&mut reasons, missing);
     Outcome {
         notes: ArrayVec::new(),

@@ -1,3 +1,4 @@
+use crate::shape::Warned;
 use mt_text::Place;
 
 /// What contradicts a line.
@@ -15,11 +16,24 @@ pub enum Rival {
     RegisterLine(u64),
 }
 
+/// Why a line isn't read.
+#[derive(Clone, Copy)]
+pub enum Reason {
+    /// It has more than 4,096 bytes.
+    LongLine,
+    /// A number isn't hexadecimal, or may be decimal.
+    BadNumber,
+    /// It names a processor and a line before doesn't, or the other way round.
+    MixedNumbers,
+    /// It is UTF-16.
+    Utf16,
+}
+
 /// Why a log shows no dump, and where.
 #[derive(Clone, Copy)]
 pub enum ImportFault {
-    /// The line has more than 4,096 bytes.
-    LongLine(Place),
+    /// A line isn't read.
+    BadLine(Reason, Place),
     /// The register is of a processor past the sixteenth, or of one whose number can't be read or isn't known.
     BadProcessor(Place),
     /// The capability register has more than 32 pairs.
@@ -30,4 +44,11 @@ pub enum ImportFault {
     Contradiction(Place, u32, Rival),
     /// The address width is another elsewhere.
     WidthContradiction(Place, Rival),
+}
+
+/// The first fault of a log, and what lines before it warn of.
+#[derive(Clone, Copy)]
+pub struct Stop {
+    pub fault: ImportFault,
+    pub warned: Warned,
 }

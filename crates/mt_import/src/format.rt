@@ -1,15 +1,21 @@
 ghost use Rattle.std.specs.Prelude.{◌≡◌};
-ghost use Rattle.mt_import.specs.Shown.{chosen, format_of, format_told, is_auto, is_telling, said_by_line, said_in, said_in_each, said_of, said_or_sizes, tells};
+ghost use Rattle.mt_import.specs.Tables.{each_said};
+ghost use Rattle.mt_import.specs.Shown.{chosen, format_of, format_told, is_auto, is_telling, said_by_line, said_in, said_in_each, said_of, first_said, said_or_sizes, tells, unmarked};
 
-use crate::LineSays;
+use crate::chipsec::chipsec_said;
 use crate::coreboot::coreboot_said;
 use crate::edk2::edk2_said;
 use crate::inteltool::inteltool_said;
-use crate::kernel::is_warning_line;
 use crate::linux::linux_said;
+use crate::plain::plain_said;
 use crate::rdmsr::rdmsr_said;
+use crate::reading::is_register;
+use crate::tables::each_said;
+use crate::warnings::warning_of;
+use crate::windbg::windbg_said;
 use crate::x86info::{sizes_said, x86info_said};
 use crate::xen::xen_said;
+use crate::{LineSays, Reason};
 use mt_text::Line;
 
 /// A kind of log.
@@ -29,6 +35,12 @@ pub enum Format {
     Linux,
     /// The console of Xen.
     Xen,
+    /// Registers that chipsec prints.
+    Chipsec,
+    /// WinDbg's `rdmsr`.
+    Windbg,
+    /// Lists of registers and values.
+    Plain,
 }
 
 /// The formats that a log may have.
@@ -72,6 +84,9 @@ impl Format {
             Format::Edk2 => edk2_said(line),
             Format::Linux => linux_said(line),
             Format::Xen => xen_said(line),
+            Format::Chipsec => chipsec_said(line),
+            Format::Windbg => windbg_said(line),
+            Format::Plain => plain_said(line),
         }
     }
 
@@ -80,15 +95,33 @@ impl Format {
         ensures { result ≡ said_of self line.now.number line.now.bytes.now }
     {
         if line.too_long() {
-            return LineSays::Long(line.past_limit());
+            return LineSays::Bad(Reason::LongLine, line.past_limit());
         }
+        let line = &unmarked(line);
         said_or_sizes(self.said_by_line(line), line)
     }
 
     fn tells(self, line: &Line<'_>) -> bool
         ensures { result ≡ tells self line.now.number line.now.bytes.now }
     {
-        is_telling(&self.said_by_line(line))
+        is_telling(&self.said_by_line(&unmarked(line)))
+    }
+}
+
+// The line without a byte-order mark of UTF-8 at its front.
+fn unmarked<'a>(line: &Line<'a>) -> Line<'a>
+    ensures number { result.number ≡ line.now.number }
+    ensures bytes { result.bytes.now ≡ unmarked line.now.bytes.now }
+{
+    let bytes = match line.bytes {
+        [0xef, 0xbb, 0xbf, rest @ ..] => rest,
+        bytes => bytes,
+    };
+    Line {
+        bytes,
+        offset: 0,
+        number: line.number,
+        next: bytes.len(),
     }
 }
 
@@ -96,10 +129,18 @@ impl Format {
 fn said_in_each(line: &Line<'_>) -> LineSays
     ensures { result ≡ said_in_each line.now.number line.now.bytes.now }
 {
-    if is_warning_line(line) {
-        LineSays::Warns
-    } else {
-        sizes_said(line)
+    match warning_of(line) {
+        Some(warning) => LineSays::Warns(warning, line.number),
+        None => sizes_or_each(sizes_said(line), line),
+    }
+}
+
+fn sizes_or_each(said: LineSays, line: &Line<'_>) -> LineSays
+    ensures { result ≡ first_said said (each_said line.now.number line.now.bytes.now) }
+{
+    match said {
+        LineSays::Nothing => each_said(line),
+        said => said,
     }
 }
 
@@ -123,6 +164,7 @@ fn is_telling(said: &LineSays) -> bool
         | LineSays::VariableRanges(..)
         | LineSays::Width(..) => true,
         LineSays::Turns(turn) => turn.tells(),
+        LineSays::Lists(_, shown) => is_register(shown.number as u64),
         _ => false,
     }
 }
@@ -146,6 +188,12 @@ fn format_told(line: &Line<'_>) -> Option<Format>
         Some(Format::X86info)
     } else if Format::Rdmsr.tells(line) {
         Some(Format::Rdmsr)
+    } else if Format::Chipsec.tells(line) {
+        Some(Format::Chipsec)
+    } else if Format::Windbg.tells(line) {
+        Some(Format::Windbg)
+    } else if Format::Plain.tells(line) {
+        Some(Format::Plain)
     } else {
         None
     }
@@ -167,7 +215,7 @@ pub(crate) fn said_in(format: Option<Format>, line: &Line<'_>) -> LineSays
 {
     match format {
         Some(format) => format.said_of(line),
-        None if line.too_long() => LineSays::Long(line.past_limit()),
-        None => said_in_each(line),
+        None if line.too_long() => LineSays::Bad(Reason::LongLine, line.past_limit()),
+        None => said_in_each(&unmarked(line)),
     }
 }

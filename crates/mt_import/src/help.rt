@@ -11,11 +11,12 @@ fn help_text() -> &'static [u8]
 Makes a dump for mtrr of another program's log. Writes what is missing or
 wrong to standard error.
 
-  FORMAT          auto, coreboot, edk2, inteltool, linux, rdmsr, x86info, xen
+  FORMAT          auto, chipsec, coreboot, edk2, inteltool, linux, plain, rdmsr,
+                  windbg, x86info, xen
   REGISTER=VALUE  supplies a register's value, both hexadecimal
   maxphyaddr=N    supplies the bits of a physical address, 32 to 52
-  assume=NAME     assumes what no line and no word says: capabilities, masks,
-                  pairs, pat, width or all; a comment names what was assumed
+  assume=NAME     assumes what no line and no word says: capabilities, fixed,
+                  masks, pairs, pat, width or all; comments name what was assumed
   LOG             names the log; without it, or if it is -, standard input is read
   -h, --help      this text
   --version       the version

@@ -1,17 +1,16 @@
 ghost use Rattle.std.specs.Prelude.{◌≡◌, ◌≤◌, ◌<◌, ◌+◌, IfSome};
-ghost use Rattle.mt_import.specs.Kernel.{addresses_said, all_fixed_shown, base_value, default_shown, disabled_said, enabled_by, fixed_by, fixed_said, fixed_shown, head_said, in_run, is_warning_line, is_warning_text, kernel_said, mask_value, pair_said, range_at, range_from, run_bytes, run_said, type_named, types_said, variable_said};
+ghost use Rattle.mt_import.specs.Kernel.{addresses_said, all_fixed_shown, base_value, default_shown, disabled_said, enabled_by, fixed_by, fixed_said, fixed_shown, head_said, in_run, kernel_said, mask_value, pair_said, range_at, range_from, run_bytes, run_said, type_named, types_said, variable_said};
 
-use crate::line_words::{LineWords, kernel_end};
+use crate::line_words::LineWords;
 use crate::pieces::{is_text, number_in, shown_bits, value_at};
 use crate::reading::{one_shown, two_shown};
 use crate::shape::FixedRun;
 use crate::{LineSays, Shown, Shows};
-use mt_kinds::PAGE_BYTES;
+use mt_kinds::{PAGE_BYTES, PHYSMASK_V};
 use mt_regs::{DEFAULT_TYPE, FIRST_PAIR};
-use mt_text::{Line, Place, decimal, hex64};
+use mt_text::{Place, decimal, hex64};
 
-// V of PhysMask.
-const VALID: u64 = 0x800;
+const VALID: u64 = 1 << PHYSMASK_V;
 
 // All of IA32_MTRR_DEF_TYPE but FE and E.
 const DEFAULT_BITS: u64 = 0xffff_ffff_ffff_f3ff;
@@ -288,21 +287,6 @@ fn disabled_said(pair: Option<u64>, place: Place) -> LineSays
         }
         None => LineSays::Nothing,
     }
-}
-
-fn is_warning_text(words: &LineWords<'_>) -> bool
-    ensures { result ≡ is_warning_text words.now.words }
-{
-    is_text(b"mtrr:", words.text(0))
-        && is_text(b"CPUs", words.text(2))
-        && is_text(b"inconsistent", words.text(4))
-}
-
-/// Whether Linux or Xen warns on this line that the processors' MTRRs differ.
-pub(crate) fn is_warning_line(line: &Line<'_>) -> bool
-    ensures { result ≡ is_warning_line line.now.bytes.now }
-{
-    is_warning_text(&LineWords::behind(kernel_end(line), line))
 }
 
 /// What a line of these words says. `alone` tells whether the line on fixed ranges shows FE also

@@ -1,6 +1,8 @@
 //! Logs of other programs, and the dump that they show.
 #![tactic(auto)]
 
+mod advice;
+mod chipsec;
 mod coreboot;
 mod digits;
 mod dumping;
@@ -14,6 +16,7 @@ mod line_words;
 mod linux;
 mod missing;
 mod pieces;
+mod plain;
 mod program;
 mod rdmsr;
 mod reader;
@@ -25,20 +28,25 @@ mod supplied;
 mod tables;
 mod text;
 mod values;
+mod warnings;
+mod windbg;
 mod writing;
 mod x86info;
 mod xen;
 
+pub use chipsec::CHIPSEC;
 pub use digits::rows_have_their_digits;
-pub use fault::{ImportFault, Rival};
+pub use fault::{ImportFault, Reason, Rival, Stop};
 pub use format::{Choice, Format};
 pub use inteltool::INTELTOOL;
+pub use plain::PLAIN;
 pub use program::program_status;
 pub use reader::{LogReader, read_log};
 pub use reading::{Context, LineSays, Shows, Turn};
 pub use running::{import, import_apart};
-pub use shape::{Announced, FixedLine, Reading, Shown, Slot, Tally};
+pub use shape::{Announced, FixedLine, Reading, Shown, Slot, Tally, Warned, Warning};
 pub use supplied::{Assumed, Supplied, command_of};
-pub use tables::{Row, Says};
+pub use tables::{EACH, Row, Says};
 pub use text::Outcome;
+pub use windbg::WINDBG;
 pub use x86info::X86INFO;

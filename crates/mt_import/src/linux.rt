@@ -7,11 +7,11 @@ use crate::line_words::{LineWords, head_end};
 use crate::pieces::{is_text, number_in, prefixed_number, shown_bits, shows_one, value_at};
 use crate::reading::{one_shown, two_shown};
 use crate::{LineSays, Shown};
+use mt_kinds::PHYSMASK_V;
 use mt_regs::{CAPABILITIES, FIRST_PAIR, PAT, POWER_UP_PAT};
 use mt_text::{Line, Place, decimal, hex64};
 
-// V of PhysMask.
-const VALID: u64 = 0x800;
+const VALID: u64 = 1 << PHYSMASK_V;
 
 // A map has fewer entries: 88 fixed ranges, and two for each of 255 pairs and TOM2.
 const MOST_ENTRIES: u64 = 999;

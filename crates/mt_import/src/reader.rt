@@ -3,20 +3,21 @@ ghost use Rattle.mt_text.specs.Text.{longest_input};
 ghost use Rattle.mt_ports.specs.Causes.{Rose};
 ghost use Rattle.mt_text.specs.Feed.{GaveTooMuch};
 ghost use Rattle.mt_text.specs.declared.fault.FeedFault.{FeedFault};
-ghost use Rattle.mt_import.specs.Readings.{fixed_clash, fixed_facts, is_line, is_register_value, is_width, line_facts, reading_facts, said_facts, shown_facts, shows_facts, starts, unlike, value_facts};
+ghost use Rattle.mt_import.specs.Readings.{fixed_clash, fixed_facts, is_line, is_register_value, is_width, line_facts, listed_facts, reading_facts, said_facts, shown_facts, shows_facts, starts, unlike, value_facts};
 ghost use Rattle.mt_import.specs.Shown.{context_behind, facts_of_line};
 ghost use Rattle.mt_import.specs.Outcome.{Seen, capabilities_after, count_of, fixed_line_after, is_fit_width, last_after, least_count, nothing_seen, one_if, shows_fixed};
 ghost use Rattle.mt_import.specs.Import.{IsWritten, dump_text, log_outcome};
 ghost use Rattle.mt_import.specs.Reader.{HasSlot, HasTakenFacts, IsFit, IsReader, IsShort, KeepsFact, MayKeep, TakesFacts, held_at, slot_of, slots_of};
 
+use crate::fault::Stop;
 use crate::format::{chosen, said_in};
 use crate::pieces::{count_on, shown_as};
 use crate::reading::{MOST_SHOWN, fixed_shows, is_register, named_processor};
-use crate::shape::{FixedLine, LastPair, Reading, Shown, Slot, Tally};
+use crate::shape::{FixedLine, LastPair, Reading, Shown, Slot, Tally, Warned};
 use crate::text::{Outcome, faulted};
 use crate::values::is_pair_number;
-use crate::{Choice, Context, Format, ImportFault, LineSays, Rival, Shows, Supplied};
-use mt_kinds::is_bit_set;
+use crate::{Choice, Context, Format, ImportFault, LineSays, Reason, Rival, Shows, Supplied};
+use mt_kinds::{PHYSMASK_V, is_bit_set};
 use mt_ports::Source;
 use mt_regs::{CAPABILITIES, DEFAULT_TYPE, FIRST_PAIR};
 use mt_text::{FeedFault, Line, LineReader, Place, read_lines};
@@ -30,9 +31,6 @@ use rivals::width_rival;
 const SLOTS: usize = 257;
 
 const LAST_REGISTER: u32 = 0x2ff;
-
-// V of PhysMask.
-const VALID: u8 = 11;
 
 // The fixed-range registers have numbers from here.
 const FIRST_FIXED: u32 = 0x250;
@@ -107,7 +105,7 @@ fn least_count(reading: &Reading) -> u64
 {
     if is_pair_number(reading.number)
         && reading.number % 2 == 1
-        && is_bit_set(reading.value, VALID)
+        && is_bit_set(reading.value, PHYSMASK_V)
     {
         ((reading.number - 0x1ff) / 2) as u64
     } else {
@@ -212,7 +210,7 @@ impl LogReader {
                 format,
                 lines: 0,
                 matches: 0,
-                warned: false,
+                warned: Warned::none(),
             },
         }
     }
@@ -280,6 +278,7 @@ impl LogReader {
         self.last = last_after(reading, self.last);
         self.line_of_fixed = fixed_line_after(reading, self.line_of_fixed);
         self.processors = greater(reading.processor + 1, self.processors);
+        self.tally.warned = self.tally.warned.by(reading);
     }
 
     // Takes a reading.
@@ -417,6 +416,22 @@ impl LogReader {
         )
     }
 
+    // Takes a line of a list.
+    fn take_listed(
+        &mut self,
+        supplied: &Supplied,
+        processor: Option<u32>,
+        shown: Shown,
+    ) -> Result<(), ImportFault>
+        ensures { TakesFacts supplied.now self.old self.new (listed_facts self.old.context processor shown) result }
+    {
+        if self.context.is_mixed(processor.is_some()) {
+            return Err(ImportFault::BadLine(Reason::MixedNumbers, shown.place));
+        }
+        let table = self.context.table;
+        self.take_shown(supplied, named_processor(processor, Some(0)), table, shown)
+    }
+
     // Takes what a line says.
     fn take_said(&mut self, supplied: &Supplied, said: &LineSays) -> Result<(), ImportFault>
         ensures { TakesFacts supplied.now self.old self.new (said_facts self.old.context said.now) result }
@@ -437,11 +452,12 @@ impl LogReader {
                 self.take_shows(supplied, 0, table, &shows)
             }
             LineSays::Width(width, place) => self.take_width(supplied, *width, *place),
-            LineSays::Warns => {
-                self.tally.warned = true;
+            LineSays::Warns(warning, number) => {
+                self.tally.warned = self.tally.warned.with(*warning, *number);
                 Ok(())
             }
-            LineSays::Long(place) => Err(ImportFault::LongLine(*place)),
+            LineSays::Lists(processor, shown) => self.take_listed(supplied, *processor, *shown),
+            LineSays::Bad(why, place) => Err(ImportFault::BadLine(*why, *place)),
             LineSays::Nothing | LineSays::Announces(..) | LineSays::Turns(_) => Ok(()),
         }
     }
@@ -516,19 +532,25 @@ struct CommandReader<'a> {
 impl<'a> LineReader for CommandReader<'a> {
     type Answer = Outcome;
 
-    type Fault = ImportFault;
+    type Fault = Stop;
 
     ghost use Rattle.mt_import.specs.Reader.{LeadsTo};
 
     ghost at = { λ c. LeadsTo c.is_auto c.supplied.now c.reader };
 
-    ghost fits = { λ answer. MatchResult answer (λ outcome. IsWritten outcome.status (dump_text outcome)) IsShort };
+    ghost fits = { λ answer. MatchResult answer (λ outcome. IsWritten outcome.status (dump_text outcome)) (λ stop. IsShort stop.fault) };
 
-    fn take_line(&mut self, line: &Line<'_>) -> Result<(), ImportFault> {
-        self.reader.take(self.supplied, line)
+    fn take_line(&mut self, line: &Line<'_>) -> Result<(), Stop> {
+        match self.reader.take(self.supplied, line) {
+            Ok(()) => Ok(()),
+            Err(fault) => {
+                let warned = self.reader.tally().warned;
+                Err(Stop { fault, warned })
+            }
+        }
     }
 
-    fn finish_at(self, _end: Place) -> Result<Outcome, ImportFault> {
+    fn finish_at(self, _end: Place) -> Result<Outcome, Stop> {
         Ok(self.reader.finish(self.is_auto, self.supplied))
     }
 }
@@ -555,7 +577,7 @@ pub fn read_log<S: Source>(
     };
     match read_lines(reader, source) {
         Ok(Ok(outcome)) => Ok(outcome),
-        Ok(Err(fault)) => Ok(faulted(&fault)),
+        Ok(Err(stop)) => Ok(faulted(&stop.fault, &stop.warned)),
         Err(fault) => Err(fault),
     }
 }

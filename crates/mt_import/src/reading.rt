@@ -1,22 +1,20 @@
 ghost use Rattle.std.specs.Prelude.{◌≡◌, true};
-ghost use Rattle.mt_import.specs.Readings.{all_registers, announced_after, context_after, fixed_after, fixed_shows, flag_shown, is_match, is_register, named_processor, one_shown, processor_after, processor_turned_to, starts, table_behind, two_shown, variable_bits, variable_shows};
+ghost use Rattle.mt_import.specs.Readings.{all_registers, announced_after, context_after, fixed_after, fixed_shows, flag_shown, is_match, is_mixed, is_register, lists_after, named_processor, one_shown, processor_after, processor_turned_to, starts, table_behind, two_shown, variable_bits, variable_shows};
 ghost use Rattle.mt_import.specs.Reader.{HasSlot};
 ghost use Rattle.mt_import.specs.Shown.{tells_turn};
 
-use crate::Format;
 use crate::pieces::{REGISTERS, UNREAD_PROCESSOR, count_on, shown_bits};
-use crate::shape::{Announced, FixedLine, Shown};
+use crate::shape::{Announced, FixedLine, Shown, Warning};
+use crate::{Format, Reason};
+use mt_kinds::{DEF_TYPE_E, DEF_TYPE_FE, MTRRCAP_FIX};
 use mt_regs::{CAPABILITIES, DEFAULT_TYPE, RegFile};
 use mt_text::Place;
 
-// FIX of IA32_MTRRCAP.
-const FIXED_RANGES: u64 = 0x100;
+const FIXED_RANGES: u64 = 1 << MTRRCAP_FIX;
 
-// FE of IA32_MTRR_DEF_TYPE.
-const FIXED_ENABLED: u64 = 0x400;
+const FIXED_ENABLED: u64 = 1 << DEF_TYPE_FE;
 
-// E of IA32_MTRR_DEF_TYPE.
-const ENABLED: u64 = 0x800;
+const ENABLED: u64 = 1 << DEF_TYPE_E;
 
 /// A line shows as many registers as this at most: all fixed-range registers.
 pub const MOST_SHOWN: usize = 11;
@@ -48,6 +46,8 @@ pub enum LineSays {
     Turns(Turn),
     /// Registers of this processor, or else of the one that the lines are of.
     Shows(Option<u32>, Shows),
+    /// A register of this processor, or of processor 0 in a log whose lines name none.
+    Lists(Option<u32>, Shown),
     /// A table of a kernel or of coreboot begins, and shows this.
     Begins(Shows),
     /// Whether fixed ranges are enabled, and whether the line shows FE whatever E is.
@@ -56,10 +56,10 @@ pub enum LineSays {
     VariableRanges(bool, Place),
     /// The address width, in bits.
     Width(u64, Place),
-    /// The kernel found that the processors' MTRRs differ.
-    Warns,
-    /// It has more than 4,096 bytes.
-    Long(Place),
+    /// It warns, and has this number.
+    Warns(Warning, u64),
+    /// It isn't read.
+    Bad(Reason, Place),
 }
 
 /// What the lines before a line lead to.
@@ -75,6 +75,8 @@ pub struct Context {
     pub table: u64,
     /// The last line on fixed ranges.
     pub fixed: Option<FixedLine>,
+    /// Whether the last line of a list names a processor.
+    pub lists_processors: Option<bool>,
 }
 
 /// Two registers, where they are some.
@@ -202,6 +204,15 @@ impl LineSays {
         }
     }
 
+    fn lists_behind(&self, before: Option<bool>) -> Option<bool>
+        ensures { result ≡ lists_after self.now before }
+    {
+        match self {
+            LineSays::Lists(processor, _) => Some(processor.is_some()),
+            _ => before,
+        }
+    }
+
     fn fixed_behind(&self, table: u64, before: Option<FixedLine>) -> Option<FixedLine>
         ensures { result ≡ fixed_after self.now table before }
     {
@@ -217,6 +228,17 @@ impl LineSays {
 }
 
 impl Context {
+    /// Whether lines of a list before name processors where this one doesn't, or the other way round.
+    pub(crate) fn is_mixed(&self, names: bool) -> bool
+        ensures { result ≡ is_mixed self.now.lists_processors names }
+    {
+        match self.lists_processors {
+            Some(true) => !names,
+            Some(false) => names,
+            None => false,
+        }
+    }
+
     /// Before all lines of a log, whose format may be known.
     pub fn starts(format: Option<Format>) -> Context
         ensures { result ≡ starts format }
@@ -227,6 +249,7 @@ impl Context {
             processor: Some(0),
             table: 0,
             fixed: None,
+            lists_processors: None,
         }
     }
 
@@ -240,6 +263,7 @@ impl Context {
             processor: said.processor_or(self.processor),
             table: said.table_behind(self.table),
             fixed: said.fixed_behind(self.table, self.fixed),
+            lists_processors: said.lists_behind(self.lists_processors),
         }
     }
 

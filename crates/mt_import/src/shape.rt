@@ -75,6 +75,34 @@ pub struct FixedRun {
     pub place: Place,
 }
 
+/// What a line warns of.
+#[derive(Clone, Copy)]
+pub enum Warning {
+    /// The kernel found that the processors' MTRRs differ.
+    Unlike,
+    /// The kernel read a mask of the firmware's as another.
+    WrongMask,
+    /// The kernel leaves out RAM that no pair covers.
+    LostMemory,
+    /// By AMD's rules RAM above 4 GB, up to TOM2, may be WB.
+    TopOfMemory,
+    /// AMD's SYSCFG changes how fixed ranges are read.
+    Syscfg,
+    /// A fixed range has RdMem or WrMem, bits 4:3, which AMD has and Intel reserves.
+    MemoryBits,
+}
+
+/// The last line that warns of each kind.
+#[derive(Clone, Copy)]
+pub struct Warned {
+    pub unlike: Option<u64>,
+    pub wrong_mask: Option<u64>,
+    pub lost_memory: Option<u64>,
+    pub top_of_memory: Option<u64>,
+    pub syscfg: Option<u64>,
+    pub memory_bits: Option<u64>,
+}
+
 /// How many lines were read, and what else is told of them.
 #[derive(Clone, Copy)]
 pub struct Tally {
@@ -83,6 +111,6 @@ pub struct Tally {
     pub lines: u64,
     /// How many are of the format.
     pub matches: u64,
-    /// Whether the kernel found that the processors' MTRRs differ.
-    pub warned: bool,
+    /// What they warn of.
+    pub warned: Warned,
 }

@@ -3,14 +3,11 @@ ghost use Rattle.mt_import.specs.Slot.{blank_slot, clashes, fresh_after, is_disa
 
 use crate::Reading;
 use crate::shape::Slot;
-use mt_kinds::is_bit_set;
+use mt_kinds::{PHYSMASK_V, is_bit_set};
 
 const ALL_BITS: u64 = u64::MAX;
 
-// V of PhysMask.
-const VALID: u8 = 11;
-
-const VALID_BIT: u64 = 0x800;
+const VALID: u64 = 1 << PHYSMASK_V;
 
 impl Slot {
     pub(crate) fn blank() -> Slot
@@ -80,6 +77,6 @@ impl Slot {
     pub(crate) fn is_disabled(&self) -> bool
         ensures { result ≡ is_disabled self.now }
     {
-        self.bits == VALID_BIT && !is_bit_set(self.value, VALID)
+        self.bits == VALID && !is_bit_set(self.value, PHYSMASK_V)
     }
 }

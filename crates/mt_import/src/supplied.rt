@@ -1,6 +1,7 @@
 ghost use Rattle.std.specs.Prelude.{◌≡◌, ◌≤◌, ◌+◌, ◌<◌, codes, length, map, string_bytes, position, IfSome, Some, None, true, false};
 ghost use Rattle.mt_regs.specs.RegisterFile.{low_byte};
 ghost use Rattle.mt_text.specs.Number.{decimal_number, hex_number};
+ghost use Rattle.mt_import.specs.Outcome.{allowing_all};
 ghost use Rattle.mt_import.specs.Pieces.{behind};
 ghost use Rattle.mt_import.specs.Supplied.{AreGiven, IsSupplied, all_assumed, are_both, assumed_too, assumption_named, command_of, command_with, format_named, given_assumption, given_at, given_by, given_of, given_register, given_unless, given_width, is_equals, nothing_assumed, nothing_supplied, supplied_value, value_among, with_given, with_word, with_words};
 
@@ -16,18 +17,20 @@ const LEAST_WIDTH: u64 = 32;
 
 const GREATEST_WIDTH: u64 = 52;
 
-// The width, 78 registers and five assumptions.
-const MOST_WORDS: usize = 84;
+// The width, 78 registers and six assumptions.
+const MOST_WORDS: usize = 85;
 
 /// What may be assumed where neither a line nor a word says it. docs/IMPORT.md has each in words.
 #[derive(Clone, Copy)]
 pub struct Assumed {
-    /// The PAT has its value of power-up, and in a log of Xen the one that Xen sets.
+    /// The PAT has its value of power-up, and in a log of Linux or Xen the one that the kernel sets.
     pub pat: bool,
     /// A pair that no line shows is 0.
     pub pairs: bool,
     /// A PhysMask of which a size is shown has ones up to the width.
     pub masks: bool,
+    /// The fixed-range registers have the values that firmware of PCs gives them, and `2FF` has E and FE.
+    pub fixed: bool,
     /// The width is that of the widest mask.
     pub width: bool,
     /// `0FE` has FIX, WC and VCNT: by the line `MTRR map`, or else by the last pair that is shown.
@@ -47,7 +50,7 @@ pub enum Given {
 pub struct Supplied {
     pub width: Option<u8>,
     /// Each register's number and value.
-    pub registers: ArrayVec<(u32, u64), 84>,
+    pub registers: ArrayVec<(u32, u64), 85>,
     pub assumed: Assumed,
 }
 
@@ -125,6 +128,8 @@ fn assumption_named(name: &[u8]) -> Option<Assumed>
         assumed.pairs = true;
     } else if is_text(b"masks", name) {
         assumed.masks = true;
+    } else if is_text(b"fixed", name) {
+        assumed.fixed = true;
     } else if is_text(b"width", name) {
         assumed.width = true;
     } else if is_text(b"capabilities", name) {
@@ -186,6 +191,12 @@ fn format_named(word: &[u8]) -> Option<Choice>
         Format::Linux
     } else if is_text(b"xen", word) {
         Format::Xen
+    } else if is_text(b"chipsec", word) {
+        Format::Chipsec
+    } else if is_text(b"windbg", word) {
+        Format::Windbg
+    } else if is_text(b"plain", word) {
+        Format::Plain
     } else {
         return None;
     };
@@ -200,6 +211,7 @@ impl Assumed {
             pat: false,
             pairs: false,
             masks: false,
+            fixed: false,
             width: false,
             capabilities: false,
         }
@@ -213,6 +225,7 @@ impl Assumed {
             pat: true,
             pairs: true,
             masks: true,
+            fixed: true,
             width: true,
             capabilities: true,
         }
@@ -225,6 +238,7 @@ impl Assumed {
         (self.pat && other.pat)
             || (self.pairs && other.pairs)
             || (self.masks && other.masks)
+            || (self.fixed && other.fixed)
             || (self.width && other.width)
             || (self.capabilities && other.capabilities)
     }
@@ -236,6 +250,7 @@ impl Assumed {
             pat: self.pat || other.pat,
             pairs: self.pairs || other.pairs,
             masks: self.masks || other.masks,
+            fixed: self.fixed || other.fixed,
             width: self.width || other.width,
             capabilities: self.capabilities || other.capabilities,
         }
@@ -260,6 +275,21 @@ impl Supplied {
         let _ = &self.width;
     }
 
+    /// The same with all assumptions, and with the greatest width if none is supplied.
+    pub(crate) fn allowing_all(&self) -> Supplied
+        ensures { result ≡ allowing_all self.now }
+    {
+        let mut registers = ArrayVec::new();
+        registers
+            .try_extend_from_slice(self.registers.as_slice())
+            .unwrap();
+        Supplied {
+            width: self.width.or(Some(GREATEST_WIDTH as u8)),
+            registers,
+            assumed: Assumed::all(),
+        }
+    }
+
     /// What may be assumed.
     pub fn assumed(&self) -> Assumed
         ensures { result ≡ self.now.assumed }
@@ -276,7 +306,7 @@ impl Supplied {
 
     // Adds what a word supplies, and says whether it wasn't supplied before.
     fn add(&mut self, given: Given) -> bool
-        requires room { length self.old.registers < 84 }
+        requires room { length self.old.registers < 85 }
         requires given { AreGiven given }
         ensures added { result ≡ true → with_given self.old given ≡ Some self.new }
         ensures twice { result ≡ false → with_given self.old given ≡ None }
@@ -310,7 +340,7 @@ impl Supplied {
 
 // What these words supply.
 fn with_words(words: &[String]) -> Option<Supplied>
-    requires { length words.now ≤ 84 }
+    requires { length words.now ≤ 85 }
     ensures { result ≡ with_words (Some nothing_supplied) (map string_bytes words.now) }
 {
     let mut supplied = Supplied::none();

@@ -1,12 +1,13 @@
 ghost use Rattle.std.specs.Prelude.{◌≡◌, ◌≤◌, ◌<◌, ◌+◌, ◌++◌, codes, decimal, length, Some, None};
 ghost use Rattle.arrayvec.specs.ArrayVec.{array_vec_len};
-ghost use Rattle.mt_import.specs.Outcome.{Outcome as Texts, assumption_text, contradiction_line, count_line, fault_line, format_name, hint_text, is_empty, missing_line, note_by, number_if, rival_text, unless, warning_text, width_hint, width_line, width_note};
+ghost use Rattle.mt_import.specs.Outcome.{Outcome as Texts, assumption_text, contradiction_line, count_line, fault_line, format_name, hint_text, is_empty, missing_line, note_by, number_if, reason_text, rival_text, run_text, unless, width_hint, width_line, width_note};
 ghost use Rattle.mt_import.specs.Import.{IsWritten, dump_text};
 ghost use Rattle.mt_import.specs.Reader.{IsShort};
 ghost use Rattle.mt_regs.specs.Registers.{HasThreeDigits};
 
-use crate::shape::Tally;
-use crate::{Format, ImportFault, Rival};
+use crate::shape::{Tally, Warned};
+use crate::values::is_pair_number;
+use crate::{Format, ImportFault, Reason, Rival};
 use arrayvec::ArrayVec;
 use mt_dump::{TextBuffer, append_text};
 use mt_output::{LineBuffer, append, append_decimal, append_number, append_value, bad_text};
@@ -90,12 +91,24 @@ fn width_line(place: Place, rival: Rival) -> LineBuffer
     line
 }
 
+fn reason_text(why: Reason) -> &'static [u8]
+    ensures text { result.now ≡ reason_text why }
+    ensures short { length result.now ≤ 20 }
+{
+    match why {
+        Reason::LongLine => b"bad line",
+        Reason::BadNumber => b"bad number",
+        Reason::MixedNumbers => b"mixed numbers",
+        Reason::Utf16 => b"UTF-16",
+    }
+}
+
 fn fault_line(fault: &ImportFault) -> LineBuffer
     requires { IsShort fault.now }
     ensures { result.items ≡ fault_line fault.now }
 {
     match fault {
-        ImportFault::LongLine(place) => bad_text(*place, b"bad line"),
+        ImportFault::BadLine(why, place) => bad_text(*place, reason_text(*why)),
         ImportFault::BadProcessor(place) => bad_text(*place, b"bad processor"),
         ImportFault::TooManyPairs(place) => bad_text(*place, b"too many pairs"),
         ImportFault::BadWidth(place) => bad_text(*place, b"bad width"),
@@ -106,13 +119,14 @@ fn fault_line(fault: &ImportFault) -> LineBuffer
     }
 }
 
-/// What a fault comes to.
-pub(crate) fn faulted(fault: &ImportFault) -> Outcome
+/// What a fault comes to, behind what lines before it warn of.
+pub(crate) fn faulted(fault: &ImportFault, warned: &Warned) -> Outcome
     requires { IsShort fault.now }
-    ensures told { (texts : Texts) → result ≡ unless (Some fault.now) texts }
+    ensures told { (texts : Texts) → result ≡ unless (Some fault.now) warned.now texts }
     ensures written { IsWritten result.status (dump_text result) }
 {
     let mut reasons = ArrayVec::new();
+    warned.append_lines(&mut reasons);
     append_text(&mut reasons, fault_line(fault).as_slice());
     Outcome {
         notes: ArrayVec::new(),
@@ -122,7 +136,8 @@ pub(crate) fn faulted(fault: &ImportFault) -> Outcome
     }
 }
 
-fn assumption_text(number: u32, value: u64) -> &'static [u8]
+/// The assumption that gives a register this value.
+pub(crate) fn assumption_text(number: u32, value: u64) -> &'static [u8]
     ensures text { result.now ≡ assumption_text number value }
     ensures short { length result.now ≤ 19 }
 {
@@ -130,6 +145,8 @@ fn assumption_text(number: u32, value: u64) -> &'static [u8]
         b"assume=pat"
     } else if number == CAPABILITIES {
         b"assume=capabilities"
+    } else if !is_pair_number(number) {
+        b"assume=fixed"
     } else if value == 0 {
         b"assume=pairs"
     } else {
@@ -138,9 +155,9 @@ fn assumption_text(number: u32, value: u64) -> &'static [u8]
 }
 
 fn append_hint(line: &mut LineBuffer, number: u32, hint: Option<u64>)
-    requires { array_vec_len line.old ≤ 24 }
+    requires { array_vec_len line.old ≤ 80 }
     ensures text { line.new.items ≡ line.old.items ++ hint_text number hint }
-    ensures short { array_vec_len line.new ≤ 47 }
+    ensures short { array_vec_len line.new ≤ array_vec_len line.old + 23 }
 {
     if let Some(value) = hint {
         append(line, b" or ");
@@ -148,15 +165,17 @@ fn append_hint(line: &mut LineBuffer, number: u32, hint: Option<u64>)
     }
 }
 
-/// The line on a register that is missing, with the words that would supply it.
-pub(crate) fn missing_line(number: u32, hint: Option<u64>) -> LineBuffer
-    requires { HasThreeDigits number }
-    ensures text { result.items ≡ missing_line number hint }
-    ensures short { array_vec_len result ≤ 48 }
+/// The line on a register that these processors lack, with the words that would supply it.
+pub(crate) fn missing_line(number: u32, processors: &[u8], hint: Option<u64>) -> LineBuffer
+    requires number { HasThreeDigits number }
+    requires few { length processors.now ≤ 56 }
+    ensures text { result.items ≡ missing_line number processors.now hint }
+    ensures short { array_vec_len result ≤ 104 }
 {
     let mut line = ArrayVec::new();
     append(&mut line, b"missing ");
     append_number(&mut line, number);
+    append(&mut line, processors);
     append(&mut line, b": ");
     append_number(&mut line, number);
     append(&mut line, b"=VALUE");
@@ -173,6 +192,37 @@ pub(crate) fn width_hint(hint: Option<u8>) -> &'static [u8]
     match hint {
         Some(_) => b"missing maxphyaddr: maxphyaddr=N or assume=width\n",
         None => b"missing maxphyaddr: maxphyaddr=N\n",
+    }
+}
+
+// Adds a mark of one byte and a processor's number.
+fn append_marked(text: &mut LineBuffer, mark: &[u8], k: u32)
+    requires few { k < 16 }
+    requires room { array_vec_len text.old ≤ 48 }
+    requires one { length mark.now ≤ 1 }
+    ensures text { text.new.items ≡ text.old.items ++ mark.now ++ decimal k }
+    ensures short { array_vec_len text.new ≤ array_vec_len text.old + 3 }
+{
+    append(text, mark);
+    append_decimal(text, k as u64);
+}
+
+/// Adds the number of a processor to those that lack a register, if a run of numbers begins or ends with it.
+pub(crate) fn append_run(text: &mut LineBuffer, before: bool, here: bool, behind: bool, k: u32)
+    requires few { k < 16 }
+    requires room { array_vec_len text.old ≤ 48 }
+    ensures text { text.new.items ≡ run_text before here behind k text.old.items }
+    ensures short { array_vec_len text.new ≤ array_vec_len text.old + 3 }
+{
+    if !here || (before && behind) {
+        return;
+    }
+    if before {
+        append_marked(text, b"-", k);
+    } else if is_empty(text.as_slice()) {
+        append_marked(text, b" ", k);
+    } else {
+        append_marked(text, b",", k);
     }
 }
 
@@ -234,7 +284,8 @@ pub(crate) fn width_note(width: u8) -> LineBuffer
     line
 }
 
-fn format_name(format: Option<Format>) -> &'static [u8]
+/// The name of a format.
+pub(crate) fn format_name(format: Option<Format>) -> &'static [u8]
     ensures text { result.now ≡ format_name format }
     ensures short { length result.now ≤ 10 }
 {
@@ -247,6 +298,9 @@ fn format_name(format: Option<Format>) -> &'static [u8]
         Some(Format::Edk2) => b"edk2",
         Some(Format::Linux) => b"linux",
         Some(Format::Xen) => b"xen",
+        Some(Format::Chipsec) => b"chipsec",
+        Some(Format::Windbg) => b"windbg",
+        Some(Format::Plain) => b"plain",
     }
 }
 
@@ -263,16 +317,4 @@ pub(crate) fn count_line(tally: &Tally) -> LineBuffer
     append(&mut line, format_name(tally.format));
     append(&mut line, b"\n");
     line
-}
-
-/// The line on a kernel's warning.
-pub(crate) fn warning_text(warned: bool) -> &'static [u8]
-    ensures text { result.now ≡ warning_text warned }
-    ensures short { length result.now ≤ 64 }
-{
-    if warned {
-        b"warning: the kernel found that the processors' MTRRs differ\n"
-    } else {
-        b""
-    }
 }

@@ -1,28 +1,32 @@
 ghost use Rattle.std.specs.Prelude.{◌≡◌, ◌≤◌, ◌<◌, ◌^◌, IfSome, Some};
 ghost use Rattle.mt_regs.specs.RegisterFile.{low_byte};
-ghost use Rattle.mt_import.specs.Reader.{IsFit, firm_in, hint_in, slots_of, values_in};
+ghost use Rattle.mt_import.specs.Reader.{IsFit, findings_in, firm_in, hint_in, slots_of, values_in};
+ghost use Rattle.mt_import.specs.Outcome.{hint_by};
 ghost use Rattle.mt_import.specs.Slot.{whole_value};
 ghost use Rattle.mt_import.specs.Supplied.{supplied_value};
-ghost use Rattle.mt_import.specs.Values.{assumed_capabilities, assumed_mask, assumed_of, assumed_pair, assumed_pat, assumed_value, assumed_zero, base_of, disabled_value, firm_value, firm_width, has_pairs, is_of_table, is_pair_number, is_unshown, mask_of, mask_of_size, masks_in, only_if, or_supplied, pair_count, shown_pairs, shows_only_fix, shows_pairs, size_in, widest, width_by, width_by_zeros};
+ghost use Rattle.mt_import.specs.Values.{assumed_capabilities, assumed_default, assumed_fixed, assumed_mask, assumed_of, assumed_pair, assumed_pat, assumed_value, assumed_zero, base_of, disabled_value, firm_value, firm_width, firmware_value, has_pairs, is_fixed_number, is_of_table, is_pair_number, is_unshown, mask_of, mask_of_size, masks_in, only_if, or_supplied, pair_count, shown_pairs, shows_fix_clear, shows_one_of, shows_pairs, shows_part, size_in, widest, width_by, width_by_zeros};
 
 use crate::shape::Slot;
 use crate::supplied::Assumed;
 use crate::{Format, LogReader, Supplied};
-use mt_kinds::is_bit_set;
+use mt_kinds::{DEF_TYPE_E, DEF_TYPE_FE, MTRRCAP_FIX, MTRRCAP_WC, PHYSMASK_V, is_bit_set};
 use mt_regs::{CAPABILITIES, DEFAULT_TYPE, FIRST_PAIR, PAT, POWER_UP_PAT};
 
 const FIRST_MASK: u32 = FIRST_PAIR + 1;
 
-// V of PhysMask.
-const VALID: u8 = 11;
+const VALID: u64 = 1 << PHYSMASK_V;
 
-const VALID_BIT: u64 = 0x800;
+const FIXED_AND_COMBINING: u64 = (1 << MTRRCAP_FIX) + (1 << MTRRCAP_WC);
 
-// FIX of IA32_MTRRCAP.
-const FIXED_RANGES: u8 = 8;
+// Of type UC.
+const ENABLED_DEFAULT: u64 = (1 << DEF_TYPE_E) + (1 << DEF_TYPE_FE);
 
-// FIX and WC of IA32_MTRRCAP.
-const FIXED_AND_COMBINING: u64 = 0x500;
+const FIXED_NUMBERS: [u32; 11] = [
+    0x250, 0x258, 0x259, 0x268, 0x269, 0x26a, 0x26b, 0x26c, 0x26d, 0x26e, 0x26f,
+];
+
+// The value of IA32_PAT that Linux sets.
+const LINUX_PAT: u64 = 0x0407_0506_0007_0106;
 
 // The value of IA32_PAT that Xen sets.
 const XEN_PAT: u64 = 0x0000_0501_0007_0406;
@@ -76,6 +80,26 @@ pub(crate) fn is_pair_number(number: u32) -> bool
     0x1ff < number && number < 0x240
 }
 
+/// Whether the register has a number between those of the fixed-range registers.
+pub(crate) fn is_fixed_number(number: u32) -> bool
+    ensures { result ≡ is_fixed_number number }
+{
+    0x24f < number && number < 0x270
+}
+
+// What SeaBIOS sets.
+fn firmware_value(number: u32) -> u64
+    ensures { result ≡ firmware_value number }
+{
+    if number == 0x259 {
+        0
+    } else if number < 0x260 {
+        0x0606_0606_0606_0606
+    } else {
+        0x0505_0505_0505_0505
+    }
+}
+
 fn base_of(number: u32) -> u32
     ensures { result ≡ base_of number }
 {
@@ -99,7 +123,7 @@ fn power_of_two(exponent: u8) -> u64
 fn size_in(slot: &Slot) -> u64
     ensures { result ≡ size_in slot.now }
 {
-    slot.value.saturating_sub(VALID_BIT)
+    slot.value.saturating_sub(VALID)
 }
 
 // The mask of a size, with ones up to the width.
@@ -110,7 +134,7 @@ fn mask_of_size(slot: &Slot, width: u8) -> Option<u64>
     let size = size_in(slot);
     let limit = power_of_two(width);
     if 0xfff < size && size < limit && slot.bits == 2 * size - 1 {
-        Some(limit - size + VALID_BIT)
+        Some(limit - size + VALID)
     } else {
         None
     }
@@ -139,6 +163,7 @@ fn assumed_pat(format: Option<Format>) -> u64
     ensures { result ≡ assumed_pat format }
 {
     match format {
+        Some(Format::Linux) => LINUX_PAT,
         Some(Format::Xen) => XEN_PAT,
         _ => POWER_UP_PAT,
     }
@@ -153,17 +178,24 @@ fn assumed_of(k: u32, assumed: Assumed) -> Assumed
     } else {
         Assumed {
             masks: false,
+            fixed: false,
             capabilities: false,
             ..assumed
         }
     }
 }
 
-// Whether lines show FIX of a capability register, but not all of it.
-fn shows_only_fix(slot: &Slot) -> bool
-    ensures { result ≡ shows_only_fix slot.now }
+// Whether lines show FIX or VCNT of a capability register, but not all of it.
+fn shows_part(slot: &Slot) -> bool
+    ensures { result ≡ shows_part slot.now }
 {
-    is_bit_set(slot.value, FIXED_RANGES) && !slot.is_whole()
+    (is_bit_set(slot.value, MTRRCAP_FIX) || slot.bits % 256 == 255) && !slot.is_whole()
+}
+
+fn shows_fix_clear(slot: &Slot) -> bool
+    ensures { result ≡ shows_fix_clear slot.now }
+{
+    is_bit_set(slot.bits, MTRRCAP_FIX) && !is_bit_set(slot.value, MTRRCAP_FIX)
 }
 
 fn is_of_table(slot: &Slot) -> bool
@@ -203,7 +235,7 @@ impl LogReader {
     {
         let mut count = 0;
         'pairs: for n in 0..PAIRS {
-            if is_bit_set(self.slot(k, FIRST_MASK + 2 * n).bits, VALID) {
+            if is_bit_set(self.slot(k, FIRST_MASK + 2 * n).bits, PHYSMASK_V) {
                 count = n + 1;
             }
         }
@@ -227,7 +259,7 @@ impl LogReader {
         requires { k < 16 }
         ensures { result ≡ assumed_capabilities (slots_of self.now k) }
     {
-        if shows_only_fix(&self.slot(k, CAPABILITIES)) {
+        if shows_part(&self.slot(k, CAPABILITIES)) {
             Some(self.pair_count(k) + FIXED_AND_COMBINING)
         } else {
             None
@@ -292,6 +324,44 @@ impl LogReader {
         )
     }
 
+    // Whether lines show a bit of one of these registers.
+    fn shows_one_of(&self, k: u32, numbers: &[u32]) -> bool
+        requires { k < 16 }
+        ensures { result ≡ shows_one_of (slots_of self.now k) numbers.now }
+    {
+        let Some((number, numbers)) = numbers.split_first() else {
+            return false;
+        };
+        if self.slot(k, *number).bits == 0 {
+            self.shows_one_of(k, numbers)
+        } else {
+            true
+        }
+    }
+
+    fn assumed_fixed(&self, k: u32, number: u32) -> Option<u64>
+        requires { k < 16 }
+        ensures { result ≡ assumed_fixed (slots_of self.now k) number }
+    {
+        if self.shows_one_of(k, &FIXED_NUMBERS) {
+            None
+        } else {
+            Some(firmware_value(number))
+        }
+    }
+
+    fn assumed_default(&self, k: u32) -> Option<u64>
+        requires { k < 16 }
+        ensures { result ≡ assumed_default (slots_of self.now k) }
+    {
+        let capabilities = self.slot(k, CAPABILITIES);
+        if self.slot(k, DEFAULT_TYPE).bits == 0 && !shows_fix_clear(&capabilities) {
+            Some(ENABLED_DEFAULT)
+        } else {
+            None
+        }
+    }
+
     fn assumed_value(
         &self,
         assumed: &Assumed,
@@ -310,6 +380,10 @@ impl LogReader {
             only_if(assumed.capabilities, self.assumed_capabilities(k))
         } else if is_pair_number(number) {
             self.assumed_pair(assumed, k, width, number)
+        } else if is_fixed_number(number) {
+            only_if(assumed.fixed, self.assumed_fixed(k, number))
+        } else if number == DEFAULT_TYPE {
+            only_if(assumed.fixed, self.assumed_default(k))
         } else {
             None
         }
@@ -339,13 +413,27 @@ impl LogReader {
         self.value(supplied, 0, CAPABILITIES)
     }
 
-    /// What processor 0's register would be if all were assumed.
+    // What processor 0's register would be if all were assumed.
+    fn hint_by(&self, supplied: &Supplied, number: u32) -> Option<u64>
+        requires { number < 0x1000 }
+        ensures { result ≡ hint_by supplied.now (findings_in self.now) number }
+    {
+        let width = or_widest(self.width(supplied));
+        self.assumed_value(&Assumed::all(), 0, width, number)
+    }
+
+    /// The same where no processor would lack it.
+    #[tactic(auto, unfolding(crate::specs::Outcome::hint_of))]
     pub(crate) fn hint(&self, supplied: &Supplied, number: u32) -> Option<u64>
         requires { number < 0x1000 }
         ensures { result ≡ hint_in supplied.now self.now number }
     {
-        let width = or_widest(self.width(supplied));
-        self.assumed_value(&Assumed::all(), 0, width, number)
+        let all = supplied.allowing_all();
+        if self.is_missing(&all, number) {
+            None
+        } else {
+            self.hint_by(supplied, number)
+        }
     }
 
     // A mask of processor 0 that is shown whole, or else supplied.

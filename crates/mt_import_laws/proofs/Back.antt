@@ -176,7 +176,7 @@ width_gathers files count prints (fact ∷ facts) seen place sound (inr before) 
     by (is_line number format matched) true_one = before
     by (is_register_value reading) true_one = before
     by (is_width width at) true_one = ap Some true_one
-    by is_warning true_one = before
+    by (is_warning warning number) true_one = before
     by (is_fault fault) true_one = absurd true_one
 
 -- words or facts give the width

@@ -17,7 +17,7 @@ use Rattle.mt_import.specs.Outcome.{capabilities_after, capabilities_shown, capa
 use Rattle.mt_import.specs.Import.{log_outcome}
 use Rattle.mt_import_laws.specs.Origins.{ContradictInCapabilities, IsAmong, readings_of, seen_of}
 use Rattle.mt_import_laws.proofs.Bits.{bit_first, bit_second, same_number, value_kept, value_new}
-use Rattle.mt_import_laws.proofs.Faults.{fault_of, faulty, fine_of}
+use Rattle.mt_import_laws.proofs.Faults.{fault_of, faulty, fine_of, till_of}
 use Rattle.mt_import_laws.proofs.Fine.{HasBit, IsFine, tests_of_rival}
 
 no_clash : (clash : Bool) (line : ℕ) (others : Option Rival) → (if clash then Some (Line line) else others) ≡ None → clash ≡ false
@@ -57,7 +57,7 @@ agreed supplied (other ∷ before) reading i fine (inr later) number one =
 pub capability_contradictions : (choice : Choice) (supplied : Supplied) (text : List ℕ) (a b : Reading) → IsAmong a (readings_of choice text) → IsAmong b (readings_of choice text) → ContradictInCapabilities a b
     → (log_outcome choice supplied text).status ≡ BadText
 capability_contradictions choice supplied text a b has_a has_b apart =
-    faulty (fault_of choice supplied text) (ended (is_auto choice) supplied (seen_of choice text)) (λ none.
+    faulty (fault_of choice supplied text) (till_of choice supplied text) (ended (is_auto choice) supplied (seen_of choice text)) (λ none.
     let fine = fine_of choice supplied text none in
     let one = agreed supplied (readings_of choice text) a apart.bit fine has_a apart.number apart.first in
     let two = agreed supplied (readings_of choice text) b apart.bit fine has_b apart.number_too apart.second in

@@ -22,7 +22,7 @@ use Rattle.mt_import.specs.Coreboot.{colon_number, coreboot_said, level_words, o
 use Rattle.mt_import.specs.LineWords.{behind_facility, behind_stamp, is_iso}
 use Rattle.mt_import.specs.Linux.{linux_words_said}
 use Rattle.mt_import.specs.Pieces.{before, is_text, shows_one}
-use Rattle.mt_import.specs.Shown.{format_told, is_telling, said_of, said_or_sizes, tells}
+use Rattle.mt_import.specs.Shown.{format_told, is_telling, said_of, said_or_sizes, tells, unmarked}
 use Rattle.mt_import_laws.specs.FirstLine.{IsOfNoHost}
 use Rattle.mt_import_laws.specs.Printed.{Key, number_at}
 use Rattle.mt_import_laws.specs.PrintedByCoreboot.{colon_if, display_line, is_tail_byte, name_of, number_word}
@@ -31,7 +31,7 @@ use Rattle.mt_import_laws.proofs.LineWords.{AreWords, IsWord, all_append, digits
 use Rattle.mt_import_laws.proofs.Below.{is_value, passes, some_value}
 use Rattle.mt_import_laws.proofs.Foreign.{and_left, if_nothing, if_off, kernel_none, linux_none, log_front}
 use Rattle.mt_import_laws.proofs.Keys.{IsKey}
-use Rattle.mt_import_laws.proofs.Tells.{linux_by, xen_by}
+use Rattle.mt_import_laws.proofs.Tells.{linux_by, no_mark, xen_by}
 
 -- ---- the value
 
@@ -213,8 +213,14 @@ module _ (key : Key) (value : ℕ) (name tail : List ℕ) (named : IsNamed key n
       ∙ ap (λ r. shows_one None r (colon_number (number_word value)) (place false number)) named.read
       ∙ ap (λ v. shows_one None (Some (number_at key)) v (place false number)) (number_read value fits)
 
+  -- it has no byte-order mark
+  marked_not : (leveled : Bool) → unmarked (display_line leveled value name tail) ≡ display_line leveled value name tail
+  marked_not true = refl
+  marked_not false = no_mark 48 (drop 1 (display_line false value name tail)) refl
+
   pub register_said : (leveled : Bool) (number : ℕ) → value < 2 ^ 64 → said_of Coreboot number (display_line leveled value name tail) ≡ shows_one None (Some (number_at key)) (Some value) (place leveled number)
-  register_said leveled number fits = rw (short leveled) (ap (λ s. said_or_sizes s number (display_line leveled value name tail)) (said leveled number fits))
+  register_said leveled number fits =
+      rw (short leveled) (ap (λ l. said_or_sizes (coreboot_said number l) number l) (marked_not leveled) ∙ ap (λ s. said_or_sizes s number (display_line leveled value name tail)) (said leveled number fits))
 
 -- ---- the line of 0FEH tells the format
 
@@ -274,7 +280,7 @@ module _ (value : ℕ) (tail : List ℕ) (few : length tail ≤ 200) (ends : goe
   no_linux leveled number host =
       let third = ap (λ ws. is_text (codes "kernel:") (text_of ws 2)) (sym (found leveled)) ∙ host.third in
       let fifth = ap (λ ws. is_text (codes "kernel:") (text_of ws 4)) (sym (found leveled)) ∙ host.fifth in
-      linux_by number (line leveled) (found_words leveled) (found leveled)
+      linux_by number (line leveled) (marked_not None value first_name tail first_named few ends all leveled) (found_words leveled) (found leveled)
       ∙ ap (λ at. is_telling (linux_words_said number (drop (behind_stamp at (found_words leveled)) (found_words leveled)))) (log_front (found_words leveled) third fifth)
       ∙ by leveled
     where
@@ -286,12 +292,13 @@ module _ (value : ℕ) (tail : List ℕ) (few : length tail ≤ 200) (ends : goe
           ∙ ap is_telling (not_linux number 0)
 
   no_xen : (leveled : Bool) (number : ℕ) → tells Xen number (line leveled) ≡ false
-  no_xen true number = xen_by number (line true) (found_words true) (found true)
-  no_xen false number = xen_by number (line false) (found_words false) (found false)
+  no_xen true number = xen_by number (line true) refl (found_words true) (found true)
+  no_xen false number = xen_by number (line false) (marked_not None value first_name tail first_named few ends all false) (found_words false) (found false)
 
   own : (leveled : Bool) (number : ℕ) → value < 2 ^ 64 → tells Coreboot number (line leveled) ≡ true
   unfolding tells
-  own leveled number fits = ap is_telling (said None value first_name tail first_named few ends all leveled number fits)
+  own leveled number fits =
+      ap (λ l. is_telling (coreboot_said number l)) (marked_not None value first_name tail first_named few ends all leveled) ∙ ap is_telling (said None value first_name tail first_named few ends all leveled number fits)
 
   pub told : (leveled : Bool) (number : ℕ) → value < 2 ^ 64 → IsOfNoHost (line leveled) → format_told number (line leveled) ≡ Some Coreboot
   told leveled number fits host = rw (short None value first_name tail first_named few ends all leveled, no_xen leveled number, no_linux leveled number host, own leveled number fits) refl

@@ -17,7 +17,7 @@ use Rattle.mt_import.specs.Supplied.{Supplied, supplied_value}
 use Rattle.mt_import.specs.Outcome.{capabilities_shown, capability_rival, count_of, count_rival, counted, counts_fewer, ended, last_after, last_shown, least_count, uncounted_rival, unless}
 use Rattle.mt_import.specs.Import.{log_outcome}
 use Rattle.mt_import_laws.specs.Origins.{CountsPair, IsAmong, readings_of, seen_of}
-use Rattle.mt_import_laws.proofs.Faults.{fault_of, fine_of}
+use Rattle.mt_import_laws.proofs.Faults.{fault_of, fine_of, till_of}
 use Rattle.mt_import_laws.proofs.Fine.{IsFine, tests_of_rival}
 
 none_below : (capabilities : Option ℕ) → counts_fewer capabilities 0 ≡ false
@@ -85,7 +85,7 @@ most (reading ∷ before) a among = by (most before a) (nat_lt (count_of (last_s
 pub pairs_counted : (choice : Choice) (supplied : Supplied) (text : List ℕ) → (log_outcome choice supplied text).status ≡ Done → (a : Reading) → IsAmong a (readings_of choice text) → CountsPair supplied (readings_of choice text) a
 pairs_counted choice supplied text done a among = by (fault_of choice supplied text) refl done
   where
-    by : (fault : Option ImportFault) → fault_of choice supplied text ≡ fault → (unless fault (ended (is_auto choice) supplied (seen_of choice text))).status ≡ Done → CountsPair supplied (readings_of choice text) a
+    by : (fault : Option ImportFault) → fault_of choice supplied text ≡ fault → (unless fault (till_of choice supplied text) (ended (is_auto choice) supplied (seen_of choice text))).status ≡ Done → CountsPair supplied (readings_of choice text) a
     by (Some fault) is done = cc done
     by None is done =
         let both = counts_all supplied (readings_of choice text) (fine_of choice supplied text is) in

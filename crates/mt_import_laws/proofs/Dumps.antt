@@ -10,13 +10,13 @@ use Rattle.mt_import.specs.Shown.{is_auto}
 use Rattle.mt_import.specs.Slot.{is_disabled, whole_value}
 use Rattle.mt_import.specs.Supplied.{Supplied, supplied_value}
 use Rattle.mt_import.specs.Values.{assumed_of, assumed_value, disabled_value, firm_value, is_pair_number, mask_of, or_supplied, width_by}
-use Rattle.mt_import.specs.Outcome.{Outcome, Seen, Summary, dump_outcome, ended, file_of, findings_of, hint_of, is_empty, is_missing, known_by, missing_line, missing_lines, missing_of, missing_width, needed, processors, refusal, slot_shown, summary_of, unless, values_of}
+use Rattle.mt_import.specs.Outcome.{Outcome, Seen, Summary, dump_outcome, ended, file_of, findings_of, hint_of, is_empty, is_missing, known_by, missing_line, missing_lines, missing_of, missing_width, needed, processors, refusal, slot_shown, summary_of, unless, values_of, processors_text}
 use Rattle.mt_import.specs.Import.{log_outcome}
 use Rattle.mt_import.proofs.Parts.{length_files}
 use Rattle.mt_import.proofs.Same.{value_is}
 use Rattle.mt_import_laws.specs.Origins.{HasOrigins, IsAmong, IsUnshown, IsUntold, Origin, by_assumption, by_disabled, by_lines, by_word, seen_of}
 use Rattle.mt_import_laws.proofs.Fine.{IsFine}
-use Rattle.mt_import_laws.proofs.Faults.{fault_of, fine_of}
+use Rattle.mt_import_laws.proofs.Faults.{fault_of, fine_of, till_of}
 use Rattle.mt_import_laws.proofs.Sections.{line_of, section_at}
 use Rattle.mt_import_laws.proofs.Shown.{is_shown, only_valid, shown_clear}
 
@@ -89,17 +89,17 @@ not_missing values (suc count) number k less none = by (λ below before. not_mis
 
 module _ (hints : ℕ → Option ℕ) (values : ℕ → ℕ → Option ℕ) (count : ℕ) where
   -- a line has bytes
-  no_line : (number : ℕ) (test : Bool) → (if test then missing_line number (hints number) else []) ≡ [] → test ≡ false
+  no_line : (number : ℕ) (test : Bool) → (if test then missing_line number (processors_text values count number) (hints number) else []) ≡ [] → test ≡ false
   no_line number true is = cc is
   no_line number false is = refl
 
   none_missing : (numbers : List ℕ) (number : ℕ) → missing_lines hints values count numbers ≡ [] → IsAmong number numbers → is_missing values count number ≡ false
   none_missing [] number empty among = absurd among
   none_missing (n ∷ ns) number empty (inl same) =
-      let both = empty_both (if is_missing values count n then missing_line n (hints n) else []) (missing_lines hints values count ns) empty in
+      let both = empty_both (if is_missing values count n then missing_line n (processors_text values count n) (hints n) else []) (missing_lines hints values count ns) empty in
       subst (λ m. is_missing values count m ≡ false) same (no_line n (is_missing values count n) both.0)
   none_missing (n ∷ ns) number empty (inr later) =
-      none_missing ns number (empty_both (if is_missing values count n then missing_line n (hints n) else []) (missing_lines hints values count ns) empty).1 later
+      none_missing ns number (empty_both (if is_missing values count n then missing_line n (processors_text values count n) (hints n) else []) (missing_lines hints values count ns) empty).1 later
 
 some_value : (o : Option ℕ) → is_none o ≡ false → (value : ℕ) × (o ≡ Some value)
 some_value (Some value) is = (value, refl)
@@ -145,8 +145,8 @@ module _ (supplied : Supplied) (seen : Seen) (auto : Bool) (fine : IsFine suppli
   dumped None capabilities is_width is_capabilities empty done = cc done
 
   pub ended_dump : (test : Bool) → is_empty missing ≡ test
-      → (if test then dump_outcome (refusal seen.tally missing) summary summary.width (values 0 0xfe) else refusal seen.tally missing).status ≡ Done
-      → HasOrigins supplied seen (if test then dump_outcome (refusal seen.tally missing) summary summary.width (values 0 0xfe) else refusal seen.tally missing)
+      → (if test then dump_outcome (refusal seen.tally missing) summary summary.width (values 0 0xfe) else refusal seen.tally (missing ++ summary.advice)).status ≡ Done
+      → HasOrigins supplied seen (if test then dump_outcome (refusal seen.tally missing) summary summary.width (values 0 0xfe) else refusal seen.tally (missing ++ summary.advice))
   ended_dump true is done = dumped (width_by supplied (slot_shown seen.readings) seen.width) (values 0 0xfe) refl refl (empty_text missing is) done
   ended_dump false is done = cc done
 
@@ -156,7 +156,7 @@ origins choice supplied text done = by (fault_of choice supplied text) refl done
     told : Outcome
     told = ended (is_auto choice) supplied (seen_of choice text)
 
-    by : (fault : Option ImportFault) → fault_of choice supplied text ≡ fault → (unless fault told).status ≡ Done → HasOrigins supplied (seen_of choice text) (unless fault told)
+    by : (fault : Option ImportFault) → fault_of choice supplied text ≡ fault → (unless fault (till_of choice supplied text) told).status ≡ Done → HasOrigins supplied (seen_of choice text) (unless fault (till_of choice supplied text) told)
     by (Some fault) is done = cc done
     by None is done =
         ended_dump supplied (seen_of choice text) (is_auto choice) (fine_of choice supplied text is)

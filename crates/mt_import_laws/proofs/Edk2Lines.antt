@@ -13,11 +13,11 @@ use Rattle.mt_regs.specs.Registers.{fixed_numbers}
 use Rattle.mt_import.specs.declared.format.Format.TheVariants.{Coreboot, Edk2, Linux, Xen}
 use Rattle.mt_import.specs.declared.reading.LineSays.{LineSays}
 use Rattle.mt_import.specs.declared.reading.LineSays.TheVariants.{Shows}
-use Rattle.mt_import.specs.Edk2.{fixed_number, said_by_words, shows_pair}
+use Rattle.mt_import.specs.Edk2.{edk2_said, fixed_number, said_by_words, shows_pair}
 use Rattle.mt_import.specs.Linux.{pair_numbered}
 use Rattle.mt_import.specs.Pieces.{shown_as, shows_one, sixteen_digits as sixteen_read_of}
 use Rattle.mt_import.specs.Readings.{two_shown}
-use Rattle.mt_import.specs.Shown.{format_told, is_telling, said_of, said_or_sizes, tells}
+use Rattle.mt_import.specs.Shown.{format_told, is_telling, said_of, said_or_sizes, tells, unmarked}
 use Rattle.mt_import_laws.specs.PrintedByEdk2.{default_line, fixed_line, pair_line, sixteen_digits, two_digits}
 use Rattle.mt_import_laws.proofs.PrintedDigits.{sixteen_all, sixteen_long, sixteen_number}
 use Rattle.mt_import_laws.proofs.Tells.{coreboot_by, edk2_by, linux_by, xen_by}
@@ -83,12 +83,12 @@ module _ (number : ℕ) (line : List ℕ) (first : ℕ × List ℕ) (others : Li
   plain_of : list_all is_plain line ≡ true
   plain_of = ap (list_all is_plain) is ∙ pieces_plain (first ∷ others) [] are refl
 
-  said_by : (said : LineSays) → said_by_words number (take 7 (placed 0 (first ∷ others) [])) ≡ said → said_or_sizes said number line ≡ said → said_of Edk2 number line ≡ said
-  said_by said by same =
+  said_by : (said : LineSays) → unmarked line ≡ line → said_by_words number (take 7 (placed 0 (first ∷ others) [])) ≡ said → said_or_sizes said number line ≡ said → said_of Edk2 number line ≡ said
+  said_by said own by same =
       let words : words_of line ≡ placed 0 (first ∷ others) [] = ap words_of is ∙ words_of_pieces first others [] are apart refl refl in
       let long_line = ap length is ∙ length_of_pieces (first ∷ others) [] in
       let short : nat_lt 4096 (length line) ≡ false = within_limit (length line) (omega (arith, long_line, size)) in
-      rw short (ap (λ s. said_or_sizes s number line) (ap (λ ws. said_by_words number (take 7 ws)) words ∙ by) ∙ same)
+      rw short (ap (λ l. said_or_sizes (edk2_said number l) number l) own ∙ ap (λ s. said_or_sizes s number line) (ap (λ ws. said_by_words number (take 7 ws)) words ∙ by) ∙ same)
 
 -- ---- the default type
 
@@ -114,7 +114,7 @@ module _ (value : ℕ) where
   pub default_said : (number : ℕ) → value < 2 ^ 64 → said_of Edk2 number (default_line value) ≡ shows_one (Some 0) (Some 0x2ff) (Some value) (default_place number)
   unfolding default_place
   default_said number fits =
-      said_by number (default_line value) (0, codes "MTRR") default_others default_is default_words refl default_size (shows_one (Some 0) (Some 0x2ff) (Some value) (default_place number))
+      said_by number (default_line value) (0, codes "MTRR") default_others default_is default_words refl default_size (shows_one (Some 0) (Some 0x2ff) (Some value) (default_place number)) refl
       (ap (λ v. shows_one (Some 0) (Some 0x2ff) v (default_place number)) (value_read value fits)) refl
 
   default_found : words_of (default_line value) ≡ placed 0 ((0, codes "MTRR") ∷ default_others) []
@@ -128,11 +128,11 @@ module _ (value : ℕ) where
   default_told number fits =
       let line = default_line value in
       let ws = placed 0 ((0, codes "MTRR") ∷ default_others) [] in
-      let xen : tells Xen number line ≡ false = xen_by number line ws default_found in
-      let linux : tells Linux number line ≡ false = linux_by number line ws default_found in
-      let coreboot : tells Coreboot number line ≡ false = coreboot_by number line ws default_found in
+      let xen : tells Xen number line ≡ false = xen_by number line refl ws default_found in
+      let linux : tells Linux number line ≡ false = linux_by number line refl ws default_found in
+      let coreboot : tells Coreboot number line ≡ false = coreboot_by number line refl ws default_found in
       let own : tells Edk2 number line ≡ true =
-      edk2_by number line ws default_found ∙ ap (λ v. is_telling (shows_one (Some 0) (Some 0x2ff) v (place_of number (take 7 ws) 3))) (value_read value fits) in
+      edk2_by number line refl ws default_found ∙ ap (λ v. is_telling (shows_one (Some 0) (Some 0x2ff) v (place_of number (take 7 ws) 3))) (value_read value fits) in
       rw (default_short, xen, linux, coreboot, own) refl
 
 -- ---- a fixed-range register
@@ -162,7 +162,7 @@ module _ (place value : ℕ) (few : place < 11) where
   pub fixed_said : (number : ℕ) → value < 2 ^ 64 → said_of Edk2 number (fixed_line place value) ≡ shows_one (Some 0) (Some (slice_index fixed_numbers place)) (Some value) (fixed_place number)
   unfolding fixed_place
   fixed_said number fits =
-      said_by number (fixed_line place value) (0, codes "Fixed") fixed_others fixed_is fixed_words refl fixed_size (shows_one (Some 0) (Some (slice_index fixed_numbers place)) (Some value) (fixed_place number))
+      said_by number (fixed_line place value) (0, codes "Fixed") fixed_others fixed_is fixed_words refl fixed_size (shows_one (Some 0) (Some (slice_index fixed_numbers place)) (Some value) (fixed_place number)) refl
       (ap (λ k. shows_one (Some 0) (fixed_number k) (sixteen_read_of (sixteen_digits value)) (fixed_place number)) (fixed_read place below)
       ∙ ap (λ r. shows_one (Some 0) r (sixteen_read_of (sixteen_digits value)) (fixed_place number)) (slice_at fixed_numbers place few)
       ∙ ap (λ v. shows_one (Some 0) (Some (slice_index fixed_numbers place)) v (fixed_place number)) (value_read value fits)) refl
@@ -204,7 +204,7 @@ module _ (n : ℕ) (pair : ℕ × ℕ) (few : n < 32) where
   unfolding base_place mask_place
   pair_said number base_fits mask_fits =
       said_by number (pair_line n pair) (0, codes "Variable") pair_others pair_is pair_words refl pair_size
-      (Shows (Some 0) (two_shown (shown_as (0x200 + 2 * n) pair.0 (base_place number)) (shown_as (0x201 + 2 * n) pair.1 (mask_place number))))
+      (Shows (Some 0) (two_shown (shown_as (0x200 + 2 * n) pair.0 (base_place number)) (shown_as (0x201 + 2 * n) pair.1 (mask_place number)))) refl
       (ap (λ k. shows_pair k (base_place number) (sixteen_read_of (sixteen_digits pair.0)) (mask_place number) (sixteen_read_of (sixteen_digits pair.1))) (pair_read n few)
       ∙ ap (λ v. shows_pair (Some n) (base_place number) v (mask_place number) (sixteen_read_of (sixteen_digits pair.1))) (value_read pair.0 base_fits)
       ∙ ap (λ v. shows_pair (Some n) (base_place number) (Some pair.0) (mask_place number) v) (value_read pair.1 mask_fits)) refl

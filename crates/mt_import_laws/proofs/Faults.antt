@@ -5,9 +5,10 @@ use Rattle.mt_ports.specs.declared.status.Status.TheVariants.{BadText}
 use Rattle.mt_import.specs.declared.fault.ImportFault.{ImportFault}
 use Rattle.mt_import.specs.declared.format.Choice.{Choice}
 use Rattle.mt_import.specs.declared.shape.Reading.{Reading}
+use Rattle.mt_import.specs.declared.shape.Warned.{Warned}
 use Rattle.mt_import.specs.Shown.{format_of, is_auto, shown}
 use Rattle.mt_import.specs.Supplied.{Supplied}
-use Rattle.mt_import.specs.Outcome.{Outcome, ended, facts_fault, nothing_seen, slot_shown, unless}
+use Rattle.mt_import.specs.Outcome.{Outcome, ended, facts_fault, nothing_seen, slot_shown, unless, warned_till}
 use Rattle.mt_import.specs.Import.{log_outcome}
 use Rattle.mt_import_laws.specs.Origins.{Contradict, ContradictsWord, IsAmong, readings_of, seen_of}
 use Rattle.mt_import_laws.proofs.Fine.{IsFine, agreed, fine_after, word_agrees}
@@ -15,17 +16,21 @@ use Rattle.mt_import_laws.proofs.Fine.{IsFine, agreed, fine_after, word_agrees}
 abbrev pub fault_of : Choice → Supplied → List ℕ → Option ImportFault
 fault_of choice supplied text = facts_fault supplied (nothing_seen (format_of choice)) (shown (format_of choice) text)
 
+-- what lines before the first fault warn of
+abbrev pub till_of : Choice → Supplied → List ℕ → Warned
+till_of choice supplied text = warned_till supplied (nothing_seen (format_of choice)) (shown (format_of choice) text)
+
 pub fine_of : (choice : Choice) (supplied : Supplied) (text : List ℕ) → fault_of choice supplied text ≡ None → IsFine supplied (readings_of choice text)
 fine_of choice supplied text none = fine_after supplied (shown (format_of choice) text) (nothing_seen (format_of choice)) none tt
 
-pub faulty : (fault : Option ImportFault) (told : Outcome) → (fault ≡ None → ⊥) → (unless fault told).status ≡ BadText
-faulty None told not_none = absurd (not_none refl)
-faulty (Some fault) told not_none = refl
+pub faulty : (fault : Option ImportFault) (warned : Warned) (told : Outcome) → (fault ≡ None → ⊥) → (unless fault warned told).status ≡ BadText
+faulty None warned told not_none = absurd (not_none refl)
+faulty (Some fault) warned told not_none = refl
 
 pub contradictions : (choice : Choice) (supplied : Supplied) (text : List ℕ) (a b : Reading) → IsAmong a (readings_of choice text) → IsAmong b (readings_of choice text) → Contradict a b
     → (log_outcome choice supplied text).status ≡ BadText
 contradictions choice supplied text a b has_a has_b apart =
-    faulty (fault_of choice supplied text) (ended (is_auto choice) supplied (seen_of choice text)) (λ none.
+    faulty (fault_of choice supplied text) (till_of choice supplied text) (ended (is_auto choice) supplied (seen_of choice text)) (λ none.
     let fine = fine_of choice supplied text none in
     let one = agreed supplied (readings_of choice text) a apart.bit fine has_a apart.first in
     let two = agreed supplied (readings_of choice text) b apart.bit fine has_b apart.second in
@@ -34,5 +39,5 @@ contradictions choice supplied text a b has_a has_b apart =
 
 pub word_contradictions : (choice : Choice) (supplied : Supplied) (text : List ℕ) (a : Reading) → IsAmong a (readings_of choice text) → ContradictsWord supplied a → (log_outcome choice supplied text).status ≡ BadText
 word_contradictions choice supplied text a has apart =
-    faulty (fault_of choice supplied text) (ended (is_auto choice) supplied (seen_of choice text)) (λ none.
+    faulty (fault_of choice supplied text) (till_of choice supplied text) (ended (is_auto choice) supplied (seen_of choice text)) (λ none.
     apart.differ (word_agrees supplied (readings_of choice text) a apart.value apart.bit (fine_of choice supplied text none) has apart.given apart.shown_bit))

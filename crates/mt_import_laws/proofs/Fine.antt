@@ -65,7 +65,7 @@ fine_after supplied (fact ∷ facts) seen none fine =
     by (is_line number format matched) one = fine
     by (is_register_value reading) one = (no_rival supplied seen.readings reading one, fine)
     by (is_width width place) one = fine
-    by is_warning one = fine
+    by (is_warning warning number) one = fine
     by (is_fault fault) one = fine
 
 -- ---- a reading among others

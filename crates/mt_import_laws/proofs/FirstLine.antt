@@ -1,5 +1,5 @@
 -- `auto` comes to what the format of the first telling line comes to.
-use Rattle.std.proofs.Common.{◌≡◌, ◌∙◌, ◌+◌, ℕ, Bool, true, false, List, [], ◌∷◌, ◌++◌, take, Option, Some, None, Result, Ok, Err, refl, sym, ap, subst, inl, inr}
+use Rattle.std.proofs.Common.{◌≡◌, ◌∙◌, ◌+◌, ℕ, Bool, true, false, List, [], ◌∷◌, ◌++◌, get_or, take, Option, Some, None, Result, Ok, Err, refl, sym, ap, subst, inl, inr}
 use Rattle.std.specs.Prelude.{if◌then◌else◌}
 use Rattle.std.specs.Option.{option_or}
 use Rattle.mt_text.specs.Text.{is_too_long, lines_of, past_limit, words_of}
@@ -10,15 +10,24 @@ use Rattle.mt_import.specs.declared.format.Choice.TheVariants.{Auto, Only}
 use Rattle.mt_import.specs.declared.format.Format.{Format}
 use Rattle.mt_import.specs.declared.reading.Context.{Context}
 use Rattle.mt_import.specs.declared.reading.LineSays.{LineSays}
-use Rattle.mt_import.specs.declared.reading.LineSays.TheVariants.{Nothing, Announces, Value, Turns, Shows, Begins, FixedRanges, VariableRanges, Width, Warns, Long}
+use Rattle.mt_import.specs.declared.reading.LineSays.TheVariants.{Nothing, Announces, Value, Turns, Shows, Lists, Begins, FixedRanges, VariableRanges, Width, Warns, Bad}
 use Rattle.mt_import.specs.declared.reading.Turn.TheVariants.{To}
 use Rattle.mt_import.specs.declared.shape.Tally.{Tally}
+use Rattle.mt_import.specs.declared.shape.Warned.{Warned}
+use Rattle.mt_import.specs.declared.shape.Warning.{Warning}
 use Rattle.mt_import.specs.Import.{log_outcome}
-use Rattle.mt_import.specs.Kernel.{is_warning_line}
-use Rattle.mt_import.specs.Outcome.{Seen, Summary, Outcome, dump_outcome, ended, ended_by, fact_fault, facts_fault, findings_of, is_empty, nothing_seen, refusal, seen_after, seen_with, summary_of, unless}
+use Rattle.mt_import.specs.Warnings.{warning_of}
+use Rattle.mt_import.specs.Outcome.{Seen, Summary, Outcome, advice_of, dump_outcome, ended, ended_by, fact_fault, facts_fault, findings_of, is_empty, nothing_seen, refusal, seen_after, seen_with, summary_of, unless, warned_till}
 use Rattle.mt_import.specs.Pieces.{shows_width}
-use Rattle.mt_import.specs.Readings.{Fact, announced_after, context_after, fixed_after, is_fault, is_line, is_match, is_register_value, is_warning, is_width, line_facts, processor_after, said_facts, starts, table_behind}
-use Rattle.mt_import.specs.Shown.{context_behind, facts_from, facts_of_line, format_told, said_in, said_of, shown}
+use Rattle.mt_import.specs.Readings.{Fact, announced_after, context_after, fixed_after, is_fault, is_line, is_match, is_register_value, is_warning, is_width, line_facts, lists_after, processor_after, said_facts, starts, table_behind}
+use Rattle.mt_import.specs.Shown.{context_behind, facts_from, facts_of_line, first_said, format_told, said_in, said_of, shown, unmarked, warns_or}
+use Rattle.mt_import.specs.Tables.{each_said, rows_in, said_or}
+use Rattle.mt_import.specs.declared.fault.Reason.TheVariants.{LongLine, Utf16}
+use Rattle.mt_import.specs.declared.tables.Says.TheVariants as says
+use Rattle.mt_import.specs.declared.tables.Says.TheVariants.{TurnToFirst}
+use Rattle.mt_import.specs.declared.tables.TheConstants.{EACH}
+use Rattle.mt_rows.specs.declared.row.Fields.{Fields}
+use Rattle.mt_rows.specs.Scan.{scanned}
 use Rattle.mt_import.specs.Supplied.{Supplied}
 use Rattle.mt_import.specs.X86info.{is_listed, is_size, is_sizes, sizes_said}
 use Rattle.mt_import_laws.specs.FirstLine.{ComeToSame, LinesTellFirst, SaysAlike, TellsFirst, only_turns, says_same}
@@ -37,28 +46,28 @@ module _ (supplied : Supplied) where
   fault_untold seen (is_line number format matched) = refl
   fault_untold seen (is_register_value reading) = refl
   fault_untold seen (is_width width place) = refl
-  fault_untold seen is_warning = refl
+  fault_untold seen (is_warning warning number) = refl
   fault_untold seen (is_fault fault) = refl
 
   fault_uncounted : (seen : Seen) (fact : Fact) → fact_fault supplied seen fact ≡ fact_fault supplied (uncounted seen) fact
   fault_uncounted seen (is_line number format matched) = refl
   fault_uncounted seen (is_register_value reading) = refl
   fault_uncounted seen (is_width width place) = refl
-  fault_uncounted seen is_warning = refl
+  fault_uncounted seen (is_warning warning number) = refl
   fault_uncounted seen (is_fault fault) = refl
 
   next_untold : (seen : Seen) (fact : Fact) → untold (seen_with seen fact) ≡ untold (seen_with (untold seen) fact)
   next_untold seen (is_line number format matched) = refl
   next_untold seen (is_register_value reading) = refl
   next_untold seen (is_width width place) = refl
-  next_untold seen is_warning = refl
+  next_untold seen (is_warning warning number) = refl
   next_untold seen (is_fault fault) = refl
 
   next_uncounted : (seen : Seen) (fact : Fact) → uncounted (seen_with seen fact) ≡ uncounted (seen_with (uncounted seen) fact)
   next_uncounted seen (is_line number format matched) = refl
   next_uncounted seen (is_register_value reading) = refl
   next_uncounted seen (is_width width place) = refl
-  next_uncounted seen is_warning = refl
+  next_uncounted seen (is_warning warning number) = refl
   next_uncounted seen (is_fault fault) = refl
 
   -- two lists of facts come to the same
@@ -116,18 +125,41 @@ keeps_sizes number line processor = by (is_sizes (take 7 (words_of line))) (is_s
     by false false true x y z one two three = three
     by false false false x y z one two three = refl
 
+keeps_first : (a b : LineSays) (processor : Option ℕ) → processor_after a processor ≡ processor → processor_after b processor ≡ processor → processor_after (first_said a b) processor ≡ processor
+keeps_first Nothing b processor one two = two
+keeps_first (Announces next number) b processor one two = one
+keeps_first (Value value place) b processor one two = one
+keeps_first (Turns turn) b processor one two = one
+keeps_first (Shows next shows) b processor one two = one
+keeps_first (Lists next shown) b processor one two = one
+keeps_first (Begins shows) b processor one two = one
+keeps_first (FixedRanges enabled alone place) b processor one two = one
+keeps_first (VariableRanges enabled place) b processor one two = one
+keeps_first (Width width place) b processor one two = one
+keeps_first (Warns warning at) b processor one two = one
+keeps_first (Bad why place) b processor one two = one
+
+keeps_each : (number : ℕ) (line : List ℕ) (processor : Option ℕ) → processor_after (each_said number line) processor ≡ processor
+keeps_each number line processor = by (scanned (get_or (rows_in EACH) 0 ([], TurnToFirst)).0 line) (scanned (get_or (rows_in EACH) 1 ([], TurnToFirst)).0 line)
+  where
+    by : (one two : Option Fields) → processor_after (said_or (says.Bad Utf16) number one (said_or (says.Bad Utf16) number two Nothing)) processor ≡ processor
+    by (Some fields) two = refl
+    by None (Some fields) = refl
+    by None None = refl
+
 -- a line that is of no format turns to no processor
 keeps_none : (number : ℕ) (line : List ℕ) (processor : Option ℕ) → processor_after (said_in None number line) processor ≡ processor
-keeps_none number line processor = by (is_too_long line) (is_warning_line line) (keeps_sizes number line processor)
+keeps_none number line processor = by (is_too_long line) (warning_of (unmarked line))
+    (keeps_first (sizes_said number (unmarked line)) (each_said number (unmarked line)) processor (keeps_sizes number (unmarked line) processor) (keeps_each number (unmarked line) processor))
   where
-    by : (long warns : Bool) → processor_after (sizes_said number line) processor ≡ processor
-        → processor_after (if long then Long (past_limit number) else if warns then Warns else sizes_said number line) processor ≡ processor
-    by true warns sizes = refl
-    by false true sizes = refl
-    by false false sizes = sizes
+    by : (long : Bool) (warns : Option Warning) → processor_after (first_said (sizes_said number (unmarked line)) (each_said number (unmarked line))) processor ≡ processor
+        → processor_after (if long then Bad LongLine (past_limit number) else warns_or warns number (first_said (sizes_said number (unmarked line)) (each_said number (unmarked line)))) processor ≡ processor
+    by true warns both = refl
+    by false (Some warning) both = refl
+    by false None both = both
 
 abbrev with_format : Option Format → Context → Context
-with_format format context = record { format = format; announced = context.announced; processor = context.processor; table = context.table; fixed = context.fixed }
+with_format format context = record { format = format; announced = context.announced; processor = context.processor; table = context.table; fixed = context.fixed; lists_processors = context.lists_processors }
 
 abbrev next : Context → LineSays → Context
 next context said = record {
@@ -136,6 +168,7 @@ next context said = record {
   processor = processor_after said context.processor;
   table = table_behind said context.table;
   fixed = fixed_after said context.table context.fixed;
+  lists_processors = lists_after said context.lists_processors;
 }
 
 -- what a line shows doesn't depend on the format
@@ -149,8 +182,9 @@ same_facts (Begins shows) a b context = refl
 same_facts (FixedRanges enabled alone place) a b context = refl
 same_facts (VariableRanges enabled place) a b context = refl
 same_facts (Width width place) a b context = refl
-same_facts Warns a b context = refl
-same_facts (Long place) a b context = refl
+same_facts (Warns warning number) a b context = refl
+same_facts (Lists processor shown) a b context = refl
+same_facts (Bad why place) a b context = refl
 
 module _ (format : Format) (supplied : Supplied) where
   abbrev apart : Context → Context
@@ -222,19 +256,19 @@ module _ (format : Format) (supplied : Supplied) where
 -- ---- the outcome
 
 -- the same to tell, beside another count and with or without the name of the format
-same_end : (told : Summary) (auto : Bool) (tally : Tally) → ComeToSame (ended_by told) (ended_by (record told { tally = tally; auto = auto }))
-same_end told auto tally = by (is_empty told.missing) told.width (told.values 0 0xfe)
+same_end : (told : Summary) (auto : Bool) (tally : Tally) (advice : List ℕ) → ComeToSame (ended_by told) (ended_by (record told { tally = tally; auto = auto; advice = advice }))
+same_end told auto tally advice = by (is_empty told.missing) told.width (told.values 0 0xfe)
   where
     by : (test : Bool) (width capabilities : Option ℕ)
-        → ComeToSame (if test then dump_outcome (refusal told.tally told.missing) told width capabilities else refusal told.tally told.missing)
-        (if test then dump_outcome (refusal tally told.missing) (record told { tally = tally; auto = auto }) width capabilities else refusal tally told.missing)
+        → ComeToSame (if test then dump_outcome (refusal told.tally told.missing) told width capabilities else refusal told.tally (told.missing ++ told.advice))
+        (if test then dump_outcome (refusal tally told.missing) (record told { tally = tally; auto = auto; advice = advice }) width capabilities else refusal tally (told.missing ++ advice))
     by true None c = record { notes = refl; dump = refl; status = refl }
     by true (Some w) None = record { notes = refl; dump = refl; status = refl }
     by true (Some w) (Some c) = record { notes = refl; dump = refl; status = refl }
     by false w c = record { notes = refl; dump = refl; status = refl }
 
 uncounted_end : (auto other : Bool) (supplied : Supplied) (seen : Seen) → ComeToSame (ended auto supplied seen) (ended other supplied (uncounted seen))
-uncounted_end auto other supplied seen = same_end (summary_of auto supplied (findings_of seen) seen.tally) other (uncounted seen).tally
+uncounted_end auto other supplied seen = same_end (summary_of auto supplied (findings_of seen) seen.tally) other (uncounted seen).tally (advice_of other supplied (findings_of seen))
 
 both_ends : (supplied : Supplied) (a b : Seen) → uncounted a ≡ uncounted b → ComeToSame (ended true supplied a) (ended false supplied b)
 both_ends supplied a b same =
@@ -247,14 +281,15 @@ both_ends supplied a b same =
       status = one.status ∙ ap (λ (t : Outcome). t.status) ends ∙ sym two.status;
     }
 
-by_fault : (fault : Option ImportFault) (a b : Outcome) → ComeToSame a b → ComeToSame (unless fault a) (unless fault b)
-by_fault None a b same = same
-by_fault (Some fault) a b same = record { notes = refl; dump = refl; status = refl }
+by_fault : (fault : Option ImportFault) (v w : Warned) (a b : Outcome) → ComeToSame a b → ComeToSame (unless fault v a) (unless fault w b)
+by_fault None v w a b same = same
+by_fault (Some fault) v w a b same = record { notes = refl; dump = refl; status = refl }
 
 pub auto_comes : (format : Format) (supplied : Supplied) (text : List ℕ) → TellsFirst format text → ComeToSame (log_outcome Auto supplied text) (log_outcome (Only format) supplied text)
 auto_comes format supplied text tells =
     let same = main format supplied (lines_of text) (starts None) 1 (nothing_seen None) (nothing_seen (Some format)) refl refl tells in
-    subst (λ f. ComeToSame (log_outcome Auto supplied text) (unless f (ended false supplied (seen_after (nothing_seen (Some format)) (shown (Some format) text))))) same.fault
-    (by_fault (facts_fault supplied (nothing_seen None) (shown None text)) (ended true supplied (seen_after (nothing_seen None) (shown None text)))
+    let till : Option Format → Warned = λ o. warned_till supplied (nothing_seen o) (shown o text) in
+    subst (λ f. ComeToSame (log_outcome Auto supplied text) (unless f (till (Some format)) (ended false supplied (seen_after (nothing_seen (Some format)) (shown (Some format) text))))) same.fault
+    (by_fault (facts_fault supplied (nothing_seen None) (shown None text)) (till None) (till (Some format)) (ended true supplied (seen_after (nothing_seen None) (shown None text)))
     (ended false supplied (seen_after (nothing_seen (Some format)) (shown (Some format) text)))
     (both_ends supplied (seen_after (nothing_seen None) (shown None text)) (seen_after (nothing_seen (Some format)) (shown (Some format) text)) same.seen))

@@ -6,7 +6,7 @@ use Rattle.mt_text.specs.Text.{lines_of}
 use Rattle.mt_import.specs.declared.format.Choice.{Choice}
 use Rattle.mt_import.specs.declared.reading.Context.{Context}
 use Rattle.mt_import.specs.declared.reading.LineSays.{LineSays}
-use Rattle.mt_import.specs.declared.reading.LineSays.TheVariants.{Nothing, Announces, Value, Turns, Shows, Begins, FixedRanges, VariableRanges, Width, Warns, Long}
+use Rattle.mt_import.specs.declared.reading.LineSays.TheVariants.{Nothing, Announces, Value, Turns, Shows, Lists, Begins, FixedRanges, VariableRanges, Width, Warns, Bad}
 use Rattle.mt_import.specs.declared.shape.FixedLine.{FixedLine}
 use Rattle.mt_import.specs.Readings.{fixed_after, fixed_clash, fixed_shows, is_line, is_match, said_facts, shows_facts, starts, unless_clash, unlike}
 use Rattle.mt_import.specs.Shown.{chosen, context_behind, facts_from, facts_of_line, format_of, is_auto, said_in}
@@ -15,7 +15,7 @@ use Rattle.mt_import.specs.Outcome.{Seen, ended, facts_fault, nothing_seen, seen
 use Rattle.mt_import.specs.Import.{log_outcome}
 use Rattle.mt_import.proofs.Facts.{fault_append}
 use Rattle.mt_import_laws.specs.Origins.{LinesSayFixed, LogSaysFixed, SaysFixed, seen_of}
-use Rattle.mt_import_laws.proofs.Faults.{fault_of, faulty}
+use Rattle.mt_import_laws.proofs.Faults.{fault_of, faulty, till_of}
 use Rattle.mt_import_laws.proofs.Fine.{both_none}
 
 agree : (flag on : Bool) → unlike flag on ≡ false → on ≡ flag
@@ -39,8 +39,9 @@ never_both (Shows processor shows) on off = on
 never_both (Begins shows) on off = on
 never_both (VariableRanges enabled place) on off = on
 never_both (Width width place) on off = on
-never_both Warns on off = on
-never_both (Long place) on off = on
+never_both (Warns warning number) on off = on
+never_both (Lists processor shown) on off = on
+never_both (Bad why place) on off = on
 
 -- The last line on fixed ranges says this.
 record LastSays (fixed : Option FixedLine) (on : Bool) : Type 0 where
@@ -65,8 +66,9 @@ module _ (supplied : Supplied) where
   as_last context seen (Begins shows) flag on none last says = absurd says
   as_last context seen (VariableRanges enabled place) flag on none last says = absurd says
   as_last context seen (Width width place) flag on none last says = absurd says
-  as_last context seen Warns flag on none last says = absurd says
-  as_last context seen (Long place) flag on none last says = absurd says
+  as_last context seen (Warns warning number) flag on none last says = absurd says
+  as_last context seen (Lists processor shown) flag on none last says = absurd says
+  as_last context seen (Bad why place) flag on none last says = absurd says
 
   -- behind a line that says so, or behind another line
   says_on : (said : LineSays) (table : ℕ) (before : Option FixedLine) (on : Bool) → SaysFixed said on → LastSays (fixed_after said table before) on
@@ -79,8 +81,9 @@ module _ (supplied : Supplied) where
   says_on (Begins shows) table before on says = absurd says
   says_on (VariableRanges enabled place) table before on says = absurd says
   says_on (Width width place) table before on says = absurd says
-  says_on Warns table before on says = absurd says
-  says_on (Long place) table before on says = absurd says
+  says_on (Warns warning number) table before on says = absurd says
+  says_on (Lists processor shown) table before on says = absurd says
+  says_on (Bad why place) table before on says = absurd says
 
   still : (said : LineSays) (table : ℕ) (before : Option FixedLine) (flag : Bool) → ((on : Bool) → SaysFixed said on → on ≡ flag) → LastSays before flag → LastSays (fixed_after said table before) flag
   still (FixedRanges enabled alone place) table before flag same last = record { line = record { is_enabled = enabled; table = table; line = place.line }; last = refl; says = same enabled refl }
@@ -92,8 +95,9 @@ module _ (supplied : Supplied) where
   still (Begins shows) table before flag same last = last
   still (VariableRanges enabled place) table before flag same last = last
   still (Width width place) table before flag same last = last
-  still Warns table before flag same last = last
-  still (Long place) table before flag same last = last
+  still (Warns warning number) table before flag same last = last
+  still (Lists processor shown) table before flag same last = last
+  still (Bad why place) table before flag same last = last
 
   -- ---- lines without a fault
 
@@ -135,5 +139,5 @@ module _ (supplied : Supplied) where
 
 pub fixed_lines_contradict : (choice : Choice) (supplied : Supplied) (text : List ℕ) → LogSaysFixed choice text true → LogSaysFixed choice text false → (log_outcome choice supplied text).status ≡ BadText
 fixed_lines_contradict choice supplied text on off =
-    faulty (fault_of choice supplied text) (ended (is_auto choice) supplied (seen_of choice text)) (λ none.
+    faulty (fault_of choice supplied text) (till_of choice supplied text) (ended (is_auto choice) supplied (seen_of choice text)) (λ none.
     never supplied (lines_of text) (starts (format_of choice)) 1 (nothing_seen (format_of choice)) none on off)

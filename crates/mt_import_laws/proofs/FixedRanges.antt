@@ -17,7 +17,7 @@ use Rattle.mt_import.specs.Outcome.{capabilities_shown, ended, fix_shown, fixles
 use Rattle.mt_import.specs.Import.{log_outcome}
 use Rattle.mt_import_laws.specs.Origins.{IsAmong, readings_of, seen_of}
 use Rattle.mt_import_laws.proofs.Capabilities.{agreed}
-use Rattle.mt_import_laws.proofs.Faults.{fault_of, faulty, fine_of}
+use Rattle.mt_import_laws.proofs.Faults.{fault_of, faulty, fine_of, till_of}
 use Rattle.mt_import_laws.proofs.Fine.{HasNoRival, IsFine}
 
 -- ---- what the tests say
@@ -119,13 +119,13 @@ word_has supplied (r ∷ before) a fine (inr earlier) fixed = word_has supplied 
 pub fixed_contradictions : (choice : Choice) (supplied : Supplied) (text : List ℕ) (a b : Reading) → IsAmong a (readings_of choice text) → IsAmong b (readings_of choice text)
     → shows_fixed a ≡ true → shows_no_fix b ≡ true → (log_outcome choice supplied text).status ≡ BadText
 fixed_contradictions choice supplied text a b has_a has_b fixed clear =
-    faulty (fault_of choice supplied text) (ended (is_auto choice) supplied (seen_of choice text)) (λ none.
+    faulty (fault_of choice supplied text) (till_of choice supplied text) (ended (is_auto choice) supplied (seen_of choice text)) (λ none.
     never_both supplied (readings_of choice text) a b (fine_of choice supplied text none) has_a has_b fixed clear)
 
 pub fixed_word_contradictions : (choice : Choice) (supplied : Supplied) (text : List ℕ) (a : Reading) (word : ℕ) → IsAmong a (readings_of choice text)
     → shows_fixed a ≡ true → supplied_value supplied 0xfe ≡ Some word → is_bit_set word 8 ≡ false → (log_outcome choice supplied text).status ≡ BadText
 fixed_word_contradictions choice supplied text a word has fixed given clear =
-    faulty (fault_of choice supplied text) (ended (is_auto choice) supplied (seen_of choice text)) (λ none.
+    faulty (fault_of choice supplied text) (till_of choice supplied text) (ended (is_auto choice) supplied (seen_of choice text)) (λ none.
     let lacks_it : lacks_fix (supplied_value supplied 0xfe) ≡ true = rw (given, clear) refl in
     let e : false ≡ true = sym (word_has supplied (readings_of choice text) a (fine_of choice supplied text none) has fixed) ∙ lacks_it in
     cc e)

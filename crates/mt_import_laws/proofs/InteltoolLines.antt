@@ -175,10 +175,10 @@ module _ (register value : ℕ) (name : List ℕ) (few : length name ≤ 64) (na
   unfolding tells
   told number small fits =
       let ws = placed 0 ((1, codes "MSR") ∷ others) [] in
-      let xen : tells Xen number line ≡ false = xen_by number line ws words in
-      let linux : tells Linux number line ≡ false = linux_by number line ws words in
-      let coreboot : tells Coreboot number line ≡ false = coreboot_by number line ws words in
-      let edk2 : tells Edk2 number line ≡ false = edk2_by number line ws words in
+      let xen : tells Xen number line ≡ false = xen_by number line refl ws words in
+      let linux : tells Linux number line ≡ false = linux_by number line refl ws words in
+      let coreboot : tells Coreboot number line ≡ false = coreboot_by number line refl ws words in
+      let edk2 : tells Edk2 number line ≡ false = edk2_by number line refl ws words in
       let own : tells Inteltool number line ≡ true = ap is_telling (own_said number small fits).1 in
       rw (short, xen, linux, coreboot, edk2, own) refl
 

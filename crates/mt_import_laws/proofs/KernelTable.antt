@@ -3,8 +3,7 @@ use Rattle.std.proofs.Common.{◌≡◌, ◌∙◌, ◌+◌, ◌*◌, ◌/◌, �
 use Rattle.std.specs.Prelude.{◌⊎◌, ◌||◌, if◌then◌else◌}
 use Rattle.std.specs.Int.{bit_at}
 use Rattle.std.specs.List.{AllByRecursion, list_all}
-use Rattle.std.proofs.lemmas.Bool.{and_parts, eqb-true}
-use Rattle.std.proofs.lemmas.Bool.Decides.{nat_tests}
+use Rattle.std.proofs.lemmas.Bool.{and_parts, eqb-true, lt-ltb}
 use Rattle.mt_text.specs.declared.place.Place.{Place}
 use Rattle.mt_text.proofs.Plain.{is_plain}
 use Rattle.mt_regs.specs.declared.registers.Register.TheVariants.{PhysBase, PhysMask, FixedRange, Pat, DefaultType}
@@ -635,7 +634,7 @@ module _ (format : Format) (alone : Bool) (style : Style) (kernel : IsKernel for
     pair_numbers n small = (between (0x200 + 2 * n) (omega arith) (omega (arith, small)), between (0x201 + 2 * n) (omega arith) (omega (arith, small)))
       where
         between : (number : ℕ) → 0x200 ≤ number → number < 0x240 → is_pair_number number ≡ true
-        between number low high = grind (arith, nat_tests, low, high)
+        between number low high = rw (lt-ltb 0x1ff number (omega (arith, low)), lt-ltb number 0x240 high) refl
 
     off_back : (key : Key) (n : ℕ) → (within : n < length file.pairs) → is_valid (pair_at file.pairs n) ≡ false → IsInFile file key → is_pair_number (number_at key) ≡ true → mask_of (number_at key) ≡ 0x201 + 2 * n
         → (value_in file key ≡ 0) ⊎ (supplied_value supplied (number_at key) ≡ Some (value_in file key)) → Back key

@@ -111,7 +111,7 @@ module _ (file : RegisterFile) where
   no_more_table : (format : Format) (context : Context) (said : LineSays) → context.table ≡ 1 → SaysNoMore format file said → AllByRecursion (IsOfTable 1) (said_facts context said)
   no_more_table format context said one (no_match is) = rw is tt
   no_more_table format context said one (only_width place is) = rw is (tt, tt)
-  no_more_table format context said one (only_warns is) = rw is (tt, tt)
+  no_more_table format context said one (only_warns warning at is) = rw is (tt, tt)
   no_more_table format context said one (only_turns is) = rw is tt
   no_more_table format context said one (only_shows processor shows is own others) =
       rw is (subst (λ t. AllByRecursion (IsOfTable 1) (shows_facts (named_processor processor context.processor) t shows)) (sym one) (table_of (named_processor processor context.processor) 1 shows))
@@ -129,7 +129,7 @@ module _ (file : RegisterFile) where
     pub no_more_next : (context : Context) (number : ℕ) (line : List ℕ) → IsWithin format table fixed context → SaysNoMore format file (said_of format number line) → IsWithin format table fixed (context_behind context number line)
     no_more_next context number line is (no_match said) = keeps context number line Nothing said refl refl refl is
     no_more_next context number line is (only_width place said) = keeps context number line (Width file.width place) said refl refl refl is
-    no_more_next context number line is (only_warns said) = keeps context number line Warns said refl refl refl is
+    no_more_next context number line is (only_warns warning at said) = keeps context number line (Warns warning at) said refl refl refl is
     no_more_next context number line is (only_turns said) = keeps context number line (Turns (To 0)) said (sym is.processor_is) refl refl is
     no_more_next context number line is (only_shows processor shows said own others) = keeps context number line (Shows processor shows) said refl refl refl is
 

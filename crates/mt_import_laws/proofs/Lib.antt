@@ -42,6 +42,7 @@ mod CorebootTable
 mod Edk2Lines
 mod Edk2Table
 mod HexDigits
+mod RowTables
 mod X86infoLines
 mod X86infoTable
 mod PartsBack

@@ -1,5 +1,5 @@
 -- Each reading is of one line, and of the table that the last heading begins.
-use Rattle.std.proofs.Common.{◌≡◌, ◌+◌, ℕ, Bool, true, false, List, [], ◌∷◌, ◌++◌, length, Option, Some, None, refl, sym, ◌∙◌, ap, subst, inl, inr, arith}
+use Rattle.std.proofs.Common.{◌≡◌, ◌+◌, ℕ, Bool, true, false, List, [], ◌∷◌, ◌++◌, length, Option, Some, None, is_some, refl, sym, ◌∙◌, ap, subst, inl, inr, arith}
 use Rattle.std.specs.Prelude.{◌⊎◌, if◌then◌else◌}
 use Rattle.mt_ports.specs.Causes.{one_more}
 use Rattle.mt_text.specs.Text.{lines_of}
@@ -7,12 +7,14 @@ use Rattle.mt_text.specs.declared.place.Place.{Place}
 use Rattle.mt_import.specs.declared.format.Choice.{Choice}
 use Rattle.mt_import.specs.declared.reading.Context.{Context}
 use Rattle.mt_import.specs.declared.reading.LineSays.{LineSays}
-use Rattle.mt_import.specs.declared.reading.LineSays.TheVariants.{Nothing, Announces, Value, Turns, Shows, Begins, FixedRanges, VariableRanges, Width, Warns, Long}
+use Rattle.mt_import.specs.declared.reading.LineSays.TheVariants.{Nothing, Announces, Value, Turns, Shows, Lists, Begins, FixedRanges, VariableRanges, Width, Warns, Bad}
 use Rattle.mt_import.specs.declared.shape.Announced.{Announced}
 use Rattle.mt_import.specs.declared.shape.Reading.{Reading}
 use Rattle.mt_import.specs.declared.shape.Shown.{Shown}
 use Rattle.mt_import.specs.Pieces.{shown_as}
-use Rattle.mt_import.specs.Readings.{Fact, fixed_clash, fixed_facts, fixed_shows, is_fault, is_line, is_register, is_register_value, is_warning, is_width, named_processor, reading_facts, said_facts, shown_facts, shows_facts, starts, table_behind, unless_clash, value_facts, variable_shows}
+use Rattle.mt_import.specs.declared.fault.ImportFault.TheVariants.{BadLine}
+use Rattle.mt_import.specs.declared.fault.Reason.TheVariants.{MixedNumbers}
+use Rattle.mt_import.specs.Readings.{Fact, fixed_clash, fixed_facts, fixed_shows, is_fault, is_line, is_mixed, is_register, is_register_value, is_warning, is_width, listed_facts, named_processor, reading_facts, said_facts, shown_facts, shows_facts, starts, table_behind, unless_clash, value_facts, variable_shows}
 use Rattle.mt_import.specs.Shown.{chosen, context_behind, facts_from, facts_of_line, format_of, said_in, shown}
 use Rattle.mt_import.specs.Outcome.{Seen, nothing_seen, seen_after, seen_with}
 use Rattle.mt_import_laws.specs.Origins.{IsAmong, IsOfLine, IsRead, context_after_lines, heads, is_heading, readings_of, tables_behind}
@@ -31,7 +33,7 @@ gathered (fact ∷ facts) seen reading among = elim (gathered facts (seen_with s
     by (is_register_value other) (inl same) = inl (inl (ap is_register_value same))
     by (is_register_value other) (inr before) = inr before
     by (is_width width place) among = inr among
-    by is_warning among = inr among
+    by (is_warning warning number) among = inr among
     by (is_fault fault) among = inr among
 
 record AtLine (context : Context) (number : ℕ) (all : List (List ℕ)) (fact : Fact) : Type 0 where
@@ -75,8 +77,9 @@ heading_by (Begins shows) tables = refl
 heading_by (FixedRanges enabled alone place) tables = refl
 heading_by (VariableRanges enabled place) tables = refl
 heading_by (Width width place) tables = refl
-heading_by Warns tables = refl
-heading_by (Long place) tables = refl
+heading_by (Warns warning number) tables = refl
+heading_by (Lists processor shown) tables = refl
+heading_by (Bad why place) tables = refl
 
 heading_behind : (context : Context) (number : ℕ) (line : List ℕ) → (context_behind context number line).table ≡ (if heads context number line then one_more context.table else context.table)
 heading_behind context number line = heading_by (said_in (chosen context.format number line) number line) context.table
@@ -126,6 +129,14 @@ of_fixed context enabled alone place = by (fixed_clash context.fixed enabled)
     by (Some line) reading (inr none) = absurd none
     by None reading among = of_shows 0 context.table (fixed_shows enabled alone place) reading among
 
+of_listed : (context : Context) (processor : Option ℕ) (shown : Shown) → AreOf context.table (listed_facts context processor shown)
+of_listed context processor shown = by (is_mixed context.lists_processors (is_some processor))
+  where
+    by : (mixed : Bool) → AreOf context.table (if mixed then is_fault (BadLine MixedNumbers shown.place) ∷ [] else reading_facts (named_processor processor (Some 0)) context.table shown)
+    by true reading (inl same) = cc same
+    by true reading (inr none) = absurd none
+    by false reading among = of_reading (named_processor processor (Some 0)) context.table shown reading among
+
 of_said : (context : Context) (said : LineSays) → AreOf (table_behind said context.table) (said_facts context said)
 of_said context Nothing reading among = absurd among
 of_said context (Announces processor number) reading among = absurd among
@@ -137,10 +148,11 @@ of_said context (FixedRanges enabled alone place) reading among = of_fixed conte
 of_said context (VariableRanges enabled place) reading among = of_shows 0 context.table (variable_shows context enabled place) reading among
 of_said context (Width width place) reading (inl same) = cc same
 of_said context (Width width place) reading (inr none) = absurd none
-of_said context Warns reading (inl same) = cc same
-of_said context Warns reading (inr none) = absurd none
-of_said context (Long place) reading (inl same) = cc same
-of_said context (Long place) reading (inr none) = absurd none
+of_said context (Warns warning number) reading (inl same) = cc same
+of_said context (Warns warning number) reading (inr none) = absurd none
+of_said context (Lists processor shown) reading among = of_listed context processor shown reading among
+of_said context (Bad why place) reading (inl same) = cc same
+of_said context (Bad why place) reading (inr none) = absurd none
 
 of_line : (context : Context) (number : ℕ) (line : List ℕ) → AreOf (context_behind context number line).table (facts_of_line context number line)
 of_line context number line reading (inl same) = cc same

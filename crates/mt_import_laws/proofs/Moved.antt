@@ -4,28 +4,35 @@ use Rattle.std.specs.Prelude.{if◌then◌else◌}
 use Rattle.mt_text.specs.Text.{words_of}
 use Rattle.mt_text.specs.declared.fault.NumberFault.{NumberFault}
 use Rattle.mt_text.specs.declared.place.Place.{Place}
+use Rattle.mt_import.specs.declared.shape.Warning.{Warning}
+use Rattle.mt_import.specs.Warnings.{warning_of}
 use Rattle.mt_import.specs.declared.format.Format.{Format}
-use Rattle.mt_import.specs.declared.format.Format.TheVariants.{Rdmsr, X86info, Inteltool, Coreboot, Edk2, Linux, Xen}
+use Rattle.mt_import.specs.declared.format.Format.TheVariants.{Rdmsr, X86info, Inteltool, Coreboot, Edk2, Linux, Xen, Chipsec, Windbg, Plain}
 use Rattle.mt_import.specs.declared.reading.LineSays.{LineSays}
-use Rattle.mt_import.specs.declared.reading.LineSays.TheVariants.{Nothing, Announces, Value, Turns, Shows, Begins, FixedRanges, VariableRanges, Width, Warns, Long}
+use Rattle.mt_import.specs.declared.reading.LineSays.TheVariants.{Nothing, Announces, Value, Turns, Shows, Lists, Begins, FixedRanges, VariableRanges, Width, Warns, Bad}
 use Rattle.mt_import.specs.declared.shape.Shown.{Shown}
-use Rattle.mt_import.specs.Pieces.{register_in, shows_one, shows_width, value_at}
+use Rattle.mt_import.specs.Pieces.{register_in, shows_one, shows_width, unread_processor, value_at}
 use Rattle.mt_import.specs.Readings.{one_shown, two_shown}
 use Rattle.mt_import.specs.Coreboot.{flag_said, fixed_of, level_words, other_from, said_from, said_of_id, set_from, shows_pair as shows_set_pair, size_from}
 use Rattle.mt_import.specs.Edk2.{said_by_words as edk2_words, shows_pair}
 use Rattle.mt_import.specs.declared.inteltool.TheConstants.{INTELTOOL}
 use Rattle.mt_import.specs.declared.tables.Says.{Says}
-use Rattle.mt_import.specs.declared.tables.Says.TheVariants.{Halves, Register, Turn, TurnToFirst, TurnToUnread}
-use Rattle.mt_import.specs.Tables.{Row, halves_value, place_of, rows_in, said_in as said_in_rows, said_or, says_of}
+use Rattle.mt_import.specs.declared.tables.Says.TheVariants as says
+use Rattle.mt_import.specs.Tables.{Row, bare_place, each_said, halves_value, lists_one, place_of, processor_in, rows_in, said_in as said_in_rows, said_or, says_of}
+use Rattle.mt_import.specs.declared.chipsec.TheConstants.{CHIPSEC}
+use Rattle.mt_import.specs.declared.plain.TheConstants.{PLAIN}
+use Rattle.mt_import.specs.declared.tables.TheConstants.{EACH}
+use Rattle.mt_import.specs.declared.windbg.TheConstants.{WINDBG}
+use Rattle.mt_rows.specs.declared.row.Field.{Field}
 use Rattle.mt_rows.specs.declared.row.Fields.{Fields}
 use Rattle.mt_rows.specs.Scan.{scanned}
 use Rattle.mt_import.specs.Kernel.{addresses_said, all_fixed_shown, default_shown, disabled_said, fixed_run, fixed_said, fixed_shown, head_said, kernel_said, pair_said, run_said, types_said, variable_said}
 use Rattle.mt_import.specs.LineWords.{head_end, words_behind}
 use Rattle.mt_import.specs.Linux.{cleanup_said, count_said, is_map, linux_words_said, map_said, pair_shown, pat_changed, pat_said, region_said, size_shown}
 use Rattle.mt_import.specs.Rdmsr.{announced, call_behind, call_from, option_at, said_by_words as rdmsr_words, said_value}
-use Rattle.mt_import.specs.X86info.{sizes_by_words}
+use Rattle.mt_import.specs.X86info.{sizes_by_words, sizes_said}
 use Rattle.mt_import.specs.declared.x86info.TheConstants.{X86INFO}
-use Rattle.mt_import.specs.Shown.{chosen, format_told, is_telling, said_by_line, said_in, said_in_each, said_of, said_or_sizes, tells}
+use Rattle.mt_import.specs.Shown.{chosen, first_said, format_told, is_telling, said_by_line, said_in, said_in_each, said_of, said_or_sizes, tells, unmarked, warns_or}
 use Rattle.mt_import_laws.specs.Spare.{moved_place}
 
 -- what maps to the same in both cases
@@ -51,8 +58,9 @@ module _ (move : ℕ → ℕ) where
   moved_said (FixedRanges enabled alone place) = FixedRanges enabled alone (moved_place move place)
   moved_said (VariableRanges enabled place) = VariableRanges enabled (moved_place move place)
   moved_said (Width width place) = Width width (moved_place move place)
-  moved_said Warns = Warns
-  moved_said (Long place) = Long (moved_place move place)
+  moved_said (Warns warning number) = Warns warning (move number)
+  moved_said (Lists processor shown) = Lists processor (record { number = shown.number; bits = shown.bits; value = shown.value; place = moved_place move shown.place })
+  moved_said (Bad why place) = Bad why (moved_place move place)
 
   if_said : (test : Bool) (x y v w : LineSays) → moved_said x ≡ v → moved_said y ≡ w → moved_said (if test then x else y) ≡ (if test then v else w)
   if_said = each moved_said
@@ -113,12 +121,27 @@ module _ (move : ℕ → ℕ) where
 
   -- ---- rows
 
+  list : (number : ℕ) (processor register : Option ℕ) (value : Field) → moved_said (lists_one number processor register value) ≡ lists_one (move number) processor register value
+  list number processor None value = refl
+  list number processor (Some register) value = refl
+
   of_says : (meaning : Says) (number : ℕ) (fields : Fields) → moved_said (says_of meaning number fields) ≡ says_of meaning (move number) fields
-  of_says Register number fields = one None (register_in (Ok fields.second_last.value)) (Some fields.last.value) (place_of number fields.last)
-  of_says Halves number fields = one None (register_in (Ok fields.third_last.value)) (halves_value fields.second_last.value fields.last.value) (place_of number fields.second_last)
-  of_says (Turn first) number fields = refl
-  of_says TurnToFirst number fields = refl
-  of_says TurnToUnread number fields = refl
+  of_says says.Register number fields = one None (register_in (Ok fields.second_last.value)) (Some fields.last.value) (place_of number fields.last)
+  of_says says.Halves number fields = one None (register_in (Ok fields.third_last.value)) (halves_value fields.second_last.value fields.last.value) (place_of number fields.second_last)
+  of_says (says.Turn first) number fields = refl
+  of_says says.TurnToFirst number fields = refl
+  of_says says.TurnToUnread number fields = refl
+  of_says says.Bare number fields = one None (register_in (Ok fields.second_last.value)) (Some fields.last.value) (bare_place number fields.last)
+  of_says says.BareHalves number fields = one None (register_in (Ok fields.third_last.value)) (halves_value fields.second_last.value fields.last.value) (bare_place number fields.second_last)
+  of_says says.OfProcessor number fields =
+      one (Some (processor_in fields.third_last.value)) (register_in (Ok fields.second_last.value)) (Some fields.last.value) (bare_place number fields.last)
+  of_says says.ValueFirst number fields =
+      one (Some (processor_in fields.last.value)) (register_in (Ok fields.second_last.value)) (Some fields.third_last.value) (place_of number fields.third_last)
+  of_says says.Lists number fields = list number None (register_in (Ok fields.second_last.value)) fields.last
+  of_says says.ListsProcessor number fields = list number (Some (processor_in fields.third_last.value)) (register_in (Ok fields.second_last.value)) fields.last
+  of_says says.ListsUnread number fields = list number (Some unread_processor) (register_in (Ok fields.second_last.value)) fields.last
+  of_says says.Width number fields = search if_said
+  of_says (says.Bad why) number fields = refl
 
   by_rows : (rows : List Row) (number : ℕ) (line : List ℕ) → moved_said (said_in_rows rows number line) ≡ said_in_rows rows (move number) line
   by_rows [] number line = refl
@@ -268,29 +291,48 @@ module _ (move : ℕ → ℕ) where
   by_line Edk2 number line = by_edk2 number (take 7 (words_of line))
   by_line Linux number line = by_linux number (words_behind (head_end (words_of line)) line)
   by_line Xen number line = search (if_said, by_kernel)
+  by_line Chipsec number line = by_rows (rows_in CHIPSEC) number line
+  by_line Windbg number line = by_rows (rows_in WINDBG) number line
+  by_line Plain number line = by_rows (rows_in PLAIN) number line
+
+  first : (a b : LineSays) → moved_said (first_said a b) ≡ first_said (moved_said a) (moved_said b)
+  first Nothing b = refl
+  first (Announces processor register) b = refl
+  first (Value value place) b = refl
+  first (Turns turn) b = refl
+  first (Shows processor shows) b = refl
+  first (Lists processor shown) b = refl
+  first (Begins shows) b = refl
+  first (FixedRanges enabled alone place) b = refl
+  first (VariableRanges enabled place) b = refl
+  first (Width width place) b = refl
+  first (Warns warning at) b = refl
+  first (Bad why place) b = refl
 
   in_each : (number : ℕ) (line : List ℕ) → moved_said (said_in_each number line) ≡ said_in_each (move number) line
-  in_each number line = let last = sizes number (take 7 (words_of line)) in search (if_said, last)
+  in_each number line =
+      by (warning_of line)
+      (first (sizes_by_words number (take 7 (words_of line))) (said_in_rows (rows_in EACH) number line)
+      ∙ ap (λ s. first_said s (moved_said (said_in_rows (rows_in EACH) number line))) (sizes number (take 7 (words_of line)))
+      ∙ ap (first_said (sizes_by_words (move number) (take 7 (words_of line)))) (by_rows (rows_in EACH) number line))
+    where
+      by : (warns : Option Warning) → moved_said (first_said (sizes_said number line) (each_said number line)) ≡ first_said (sizes_said (move number) line) (each_said (move number) line)
+          → moved_said (warns_or warns number (first_said (sizes_said number line) (each_said number line))) ≡ warns_or warns (move number) (first_said (sizes_said (move number) line) (each_said (move number) line))
+      by None last = last
+      by (Some warning) last = refl
 
   or_sizes : (said : LineSays) (number : ℕ) (line : List ℕ) → moved_said (said_or_sizes said number line) ≡ said_or_sizes (moved_said said) (move number) line
-  or_sizes Nothing number line = in_each number line
-  or_sizes (Announces processor register) number line = refl
-  or_sizes (Value value place) number line = refl
-  or_sizes (Turns turn) number line = refl
-  or_sizes (Shows processor shows) number line = refl
-  or_sizes (Begins shows) number line = refl
-  or_sizes (FixedRanges enabled alone place) number line = refl
-  or_sizes (VariableRanges enabled place) number line = refl
-  or_sizes (Width width place) number line = refl
-  or_sizes Warns number line = refl
-  or_sizes (Long place) number line = refl
+  or_sizes said number line = first said (said_in_each number line) ∙ ap (first_said (moved_said said)) (in_each number line)
 
   of_format : (format : Format) (number : ℕ) (line : List ℕ) → moved_said (said_of format number line) ≡ said_of format (move number) line
   of_format format number line =
-      let whole = or_sizes (said_by_line format number line) number line ∙ ap (λ s. said_or_sizes s (move number) line) (by_line format number line) in search (if_said, whole)
+      let whole =
+      or_sizes (said_by_line format number (unmarked line)) number (unmarked line)
+      ∙ ap (λ s. said_or_sizes s (move number) (unmarked line)) (by_line format number (unmarked line)) in
+      search (if_said, whole)
 
   pub in_format : (format : Option Format) (number : ℕ) (line : List ℕ) → moved_said (said_in format number line) ≡ said_in format (move number) line
-  in_format None number line = let other = in_each number line in search (if_said, other)
+  in_format None number line = let other = in_each number (unmarked line) in search (if_said, other)
   in_format (Some format) number line = of_format format number line
 
   -- ---- the format that it tells
@@ -305,16 +347,17 @@ module _ (move : ℕ → ℕ) where
   telling (FixedRanges enabled alone place) = refl
   telling (VariableRanges enabled place) = refl
   telling (Width width place) = refl
-  telling Warns = refl
-  telling (Long place) = refl
+  telling (Warns warning number) = refl
+  telling (Lists processor shown) = refl
+  telling (Bad why place) = refl
 
   same_tells : (format : Format) (number : ℕ) (line : List ℕ) → tells format (move number) line ≡ tells format number line
   unfolding tells
-  same_tells format number line = ap is_telling (sym (by_line format number line)) ∙ telling (said_by_line format number line)
+  same_tells format number line = ap is_telling (sym (by_line format number (unmarked line))) ∙ telling (said_by_line format number (unmarked line))
 
   same_told : (number : ℕ) (line : List ℕ) → format_told (move number) line ≡ format_told number line
   same_told number line =
-      rw (same_tells Xen number line, same_tells Linux number line, same_tells Coreboot number line, same_tells Edk2 number line, same_tells Inteltool number line, same_tells X86info number line, same_tells Rdmsr number line) refl
+      rw (same_tells Xen number line, same_tells Linux number line, same_tells Coreboot number line, same_tells Edk2 number line, same_tells Inteltool number line, same_tells X86info number line, same_tells Rdmsr number line, same_tells Chipsec number line, same_tells Windbg number line, same_tells Plain number line) refl
 
   pub same_chosen : (format : Option Format) (number : ℕ) (line : List ℕ) → chosen format (move number) line ≡ chosen format number line
   same_chosen None number line = same_told number line

@@ -1,12 +1,17 @@
 -- Lines with other numbers come to the same facts, faults and readings but for the lines that they name.
-use Rattle.std.proofs.Common.{◌≡◌, ◌∙◌, ◌+◌, ◌==◌, ◌&&◌, nat_lt, max, ℕ, Bool, true, false, List, [], ◌∷◌, ◌++◌, bit_or, map, Option, Some, None, refl, sym, ap}
-use Rattle.std.specs.Prelude.{⊤, if◌then◌else◌}
+use Rattle.std.proofs.Common.{◌≡◌, ◌∙◌, ◌+◌, ◌==◌, ◌&&◌, nat_lt, max, ℕ, Bool, true, false, List, [], ◌∷◌, ◌++◌, bit_or, map, Option, Some, None, is_some, refl, sym, ap}
+use Rattle.std.specs.Prelude.{⊤, if◌then◌else◌, is_some}
 use Rattle.std.specs.Option.{option_or}
 use Rattle.std.proofs.Math.Path.{fun_ext}
 use Rattle.std.proofs.lemmas.List.{map-append}
 use Rattle.mt_ports.specs.Causes.{one_more}
 use Rattle.mt_regs.specs.RegisterFile.{low_byte}
 use Rattle.mt_text.specs.declared.place.Place.{Place}
+use Rattle.mt_import.specs.Warnings.{has_memory_bits, warned_by, warned_with}
+use Rattle.mt_import.specs.declared.shape.Warning.TheVariants.{Unlike, WrongMask, LostMemory, TopOfMemory, Syscfg, MemoryBits}
+use Rattle.mt_import.specs.declared.shape.Tally.{Tally}
+use Rattle.mt_import.specs.declared.shape.Warned.{Warned}
+use Rattle.mt_import.specs.declared.shape.Warning.{Warning}
 use Rattle.mt_import.specs.declared.fault.ImportFault.{ImportFault}
 use Rattle.mt_import.specs.declared.fault.ImportFault.TheVariants.{TooManyPairs}
 use Rattle.mt_import.specs.declared.fault.Rival.{Rival}
@@ -14,7 +19,7 @@ use Rattle.mt_import.specs.declared.fault.Rival.TheVariants.{CapabilityWord, Lin
 use Rattle.mt_import.specs.declared.format.Format.{Format}
 use Rattle.mt_import.specs.declared.reading.Context.{Context}
 use Rattle.mt_import.specs.declared.reading.LineSays.{LineSays}
-use Rattle.mt_import.specs.declared.reading.LineSays.TheVariants.{Nothing, Announces, Value, Turns, Shows, Begins, FixedRanges, VariableRanges, Width, Warns, Long}
+use Rattle.mt_import.specs.declared.reading.LineSays.TheVariants.{Nothing, Announces, Value, Turns, Shows, Lists, Begins, FixedRanges, VariableRanges, Width, Warns, Bad}
 use Rattle.mt_import.specs.declared.shape.Announced.{Announced}
 use Rattle.mt_import.specs.declared.shape.FixedLine.{FixedLine}
 use Rattle.mt_import.specs.declared.shape.LastPair.{LastPair}
@@ -22,13 +27,13 @@ use Rattle.mt_import.specs.declared.shape.Reading.{Reading}
 use Rattle.mt_import.specs.declared.shape.Shown.{Shown}
 use Rattle.mt_import.specs.declared.shape.Slot.{Slot}
 use Rattle.mt_import.specs.Pieces.{shown_as}
-use Rattle.mt_import.specs.Readings.{Fact, context_after, fixed_facts, fixed_shows, is_fault, is_line, is_match, is_register, is_register_value, is_warning, is_width, line_facts, named_processor, reading_facts, said_facts, shown_facts, shows_facts, unless_clash, unlike, value_facts, variable_bits, variable_shows}
+use Rattle.mt_import.specs.Readings.{Fact, context_after, fixed_facts, fixed_shows, is_fault, is_line, is_match, is_mixed, is_register, is_register_value, is_warning, is_width, line_facts, named_processor, reading_facts, said_facts, shown_facts, shows_facts, unless_clash, unlike, value_facts, variable_bits, variable_shows}
 use Rattle.mt_import.specs.Shown.{chosen, context_behind, facts_from, facts_of_line, said_in}
 use Rattle.mt_import.specs.Slot.{clashes, slot_with}
 use Rattle.mt_import.specs.Supplied.{Supplied, bits_differ, differs, supplied_value}
-use Rattle.mt_import.specs.Outcome.{Seen, capabilities_shown, capability_rival, contradiction, count_rival, counted, counts_fewer, fact_fault, facts_fault, fix_shown, fixed_rival, fixless_rival, lacks_fix, last_after, last_fixed_line, last_shown, least_count, pairs_fault, processors, ranged_rival, reading_fault, rival, seen_after, seen_with, shows_fixed, shows_no_fix, slot_shown, uncounted_rival, width_contradiction, width_fault, width_rival}
+use Rattle.mt_import.specs.Outcome.{Seen, capabilities_shown, capability_rival, contradiction, count_rival, counted, counts_fewer, fact_fault, facts_fault, fix_shown, fixed_rival, fixless_rival, lacks_fix, last_after, last_fixed_line, last_shown, least_count, pairs_fault, processors, ranged_rival, reading_fault, rival, seen_after, seen_with, shows_fixed, shows_no_fix, slot_shown, uncounted_rival, width_contradiction, width_fault, width_rival, warned_till}
 use Rattle.mt_import_laws.specs.Origins.{context_after_lines}
-use Rattle.mt_import_laws.specs.Spare.{moved_fault, moved_place, moved_rival}
+use Rattle.mt_import_laws.specs.Spare.{moved_fault, moved_place, moved_rival, moved_warned}
 use Rattle.mt_import_laws.proofs.Moved.{each, in_format, moved_said, moved_shown, same_chosen}
 
 module _ (move : ℕ → ℕ) where
@@ -39,7 +44,7 @@ module _ (move : ℕ → ℕ) where
   moved_fact (is_line number format matched) = is_line (move number) format matched
   moved_fact (is_register_value reading) = is_register_value (moved_reading reading)
   moved_fact (is_width width place) = is_width width (moved_place move place)
-  moved_fact is_warning = is_warning
+  moved_fact (is_warning warning number) = is_warning warning (move number)
   moved_fact (is_fault fault) = is_fault (moved_fault move fault)
 
   abbrev moved_fixed : Option FixedLine → Option FixedLine
@@ -47,7 +52,7 @@ module _ (move : ℕ → ℕ) where
   moved_fixed (Some line) = Some (record { is_enabled = line.is_enabled; table = line.table; line = move line.line })
 
   abbrev pub moved_context : Context → Context
-  moved_context context = record { format = context.format; announced = context.announced; processor = context.processor; table = context.table; fixed = moved_fixed context.fixed }
+  moved_context context = record { format = context.format; announced = context.announced; processor = context.processor; table = context.table; fixed = moved_fixed context.fixed; lists_processors = context.lists_processors }
 
   -- ---- the facts of a line
 
@@ -81,29 +86,29 @@ module _ (move : ℕ → ℕ) where
   of_flags : (table : ℕ) (enabled alone : Bool) (place : Place) → map moved_fact (shows_facts 0 table (fixed_shows enabled alone place)) ≡ shows_facts 0 table (fixed_shows enabled alone (moved_place move place))
   of_flags table enabled alone place = of_shows 0 table (fixed_shows enabled alone place) ∙ ap (shows_facts 0 table) (flags enabled alone place)
 
-  of_fixed : (format : Option Format) (announced : Option Announced) (processor : Option ℕ) (table : ℕ) (fixed : Option FixedLine) (enabled alone : Bool) (place : Place)
-      → let context : Context = record { format = format; announced = announced; processor = processor; table = table; fixed = fixed } in
+  of_fixed : (format : Option Format) (announced : Option Announced) (processor : Option ℕ) (table : ℕ) (fixed : Option FixedLine) (lists : Option Bool) (enabled alone : Bool) (place : Place)
+      → let context : Context = record { format = format; announced = announced; processor = processor; table = table; fixed = fixed; lists_processors = lists } in
       map moved_fact (fixed_facts context enabled alone place) ≡ fixed_facts (moved_context context) enabled alone (moved_place move place)
-  of_fixed format announced processor table None enabled alone place = of_flags table enabled alone place
-  of_fixed format announced processor table (Some line) enabled alone place = by (unlike line.is_enabled enabled)
+  of_fixed format announced processor table None lists enabled alone place = of_flags table enabled alone place
+  of_fixed format announced processor table (Some line) lists enabled alone place = by (unlike line.is_enabled enabled)
     where
       by : (test : Bool) → map moved_fact (unless_clash (if test then Some line.line else None) place (shows_facts 0 table (fixed_shows enabled alone place)))
           ≡ unless_clash (if test then Some (move line.line) else None) (moved_place move place) (shows_facts 0 table (fixed_shows enabled alone (moved_place move place)))
       by true = refl
       by false = of_flags table enabled alone place
 
-  same_bits : (format : Option Format) (announced : Option Announced) (processor : Option ℕ) (table : ℕ) (fixed : Option FixedLine) (enabled : Bool)
-      → let context : Context = record { format = format; announced = announced; processor = processor; table = table; fixed = fixed } in
+  same_bits : (format : Option Format) (announced : Option Announced) (processor : Option ℕ) (table : ℕ) (fixed : Option FixedLine) (lists : Option Bool) (enabled : Bool)
+      → let context : Context = record { format = format; announced = announced; processor = processor; table = table; fixed = fixed; lists_processors = lists } in
       variable_bits context enabled ≡ variable_bits (moved_context context) enabled
-  same_bits format announced processor table None enabled = refl
-  same_bits format announced processor table (Some line) enabled = refl
+  same_bits format announced processor table None lists enabled = refl
+  same_bits format announced processor table (Some line) lists enabled = refl
 
   of_variable : (context : Context) (enabled : Bool) (place : Place)
       → map moved_fact (shows_facts 0 context.table (variable_shows context enabled place)) ≡ shows_facts 0 context.table (variable_shows (moved_context context) enabled (moved_place move place))
   of_variable context enabled place =
       of_shows 0 context.table (variable_shows context enabled place)
       ∙ ap (λ bits. shows_facts 0 context.table (Some (record { number = 0x2ff; bits = bits; value = if enabled then 0x800 else 0; place = moved_place move place }) ∷ None ∷ None ∷ None ∷ None ∷ None ∷ None ∷ None ∷ None ∷ None ∷ None ∷ []))
-      (same_bits context.format context.announced context.processor context.table context.fixed enabled)
+      (same_bits context.format context.announced context.processor context.table context.fixed context.lists_processors enabled)
 
   of_said : (context : Context) (said : LineSays) → map moved_fact (said_facts context said) ≡ said_facts (moved_context context) (moved_said move said)
   of_said context Nothing = refl
@@ -112,11 +117,13 @@ module _ (move : ℕ → ℕ) where
   of_said context (Turns turn) = refl
   of_said context (Shows processor shows) = of_shows (named_processor processor context.processor) context.table shows
   of_said context (Begins shows) = of_shows 0 (one_more context.table) shows
-  of_said context (FixedRanges enabled alone place) = of_fixed context.format context.announced context.processor context.table context.fixed enabled alone place
+  of_said context (FixedRanges enabled alone place) = of_fixed context.format context.announced context.processor context.table context.fixed context.lists_processors enabled alone place
   of_said context (VariableRanges enabled place) = of_variable context enabled place
   of_said context (Width width place) = refl
-  of_said context Warns = refl
-  of_said context (Long place) = refl
+  of_said context (Warns warning number) = refl
+  of_said context (Lists processor shown) =
+      each (map moved_fact) (is_mixed context.lists_processors (is_some processor)) _ _ _ _ refl (of_reading (named_processor processor (Some 0)) context.table shown)
+  of_said context (Bad why place) = refl
 
   matched : (said : LineSays) → is_match (moved_said move said) ≡ is_match said
   matched Nothing = refl
@@ -128,8 +135,9 @@ module _ (move : ℕ → ℕ) where
   matched (FixedRanges enabled alone place) = refl
   matched (VariableRanges enabled place) = refl
   matched (Width width place) = refl
-  matched Warns = refl
-  matched (Long place) = refl
+  matched (Warns warning number) = refl
+  matched (Lists processor shown) = refl
+  matched (Bad why place) = refl
 
   next_context : (context : Context) (format : Option Format) (said : LineSays) → moved_context (context_after context format said) ≡ context_after (moved_context context) format (moved_said move said)
   next_context context format Nothing = refl
@@ -141,8 +149,9 @@ module _ (move : ℕ → ℕ) where
   next_context context format (FixedRanges enabled alone place) = refl
   next_context context format (VariableRanges enabled place) = refl
   next_context context format (Width width place) = refl
-  next_context context format Warns = refl
-  next_context context format (Long place) = refl
+  next_context context format (Warns warning number) = refl
+  next_context context format (Lists processor shown) = refl
+  next_context context format (Bad why place) = refl
 
   -- ---- lines, whose numbers move to those from another on
 
@@ -202,7 +211,7 @@ module _ (move : ℕ → ℕ) where
     width = seen.width;
     line_of_width = move seen.line_of_width;
     readings = map moved_reading seen.readings;
-    tally = record { format = seen.tally.format; lines = move seen.tally.lines; matches = seen.tally.matches; warned = seen.tally.warned };
+    tally = record { format = seen.tally.format; lines = move seen.tally.lines; matches = seen.tally.matches; warned = moved_warned move seen.tally.warned };
   }
 
   abbrev moved_or_none : Option Rival → Option Rival
@@ -344,15 +353,41 @@ module _ (move : ℕ → ℕ) where
       of_fact seen (is_line number format matched) = refl
       of_fact seen (is_register_value reading) = of_reading_fault seen.readings reading
       of_fact seen (is_width width place) = of_width seen width place
-      of_fact seen is_warning = refl
+      of_fact seen (is_warning warning number) = refl
       of_fact seen (is_fault fault) = refl
+
+      abbrev with_warned : Tally → Warned → Tally
+      with_warned tally warned = record { format = tally.format; lines = move tally.lines; matches = tally.matches; warned = warned }
+
+      warning_moved : (warning : Warning) (number : ℕ) (warned : Warned) → moved_warned move (warned_with warning number warned) ≡ warned_with warning (move number) (moved_warned move warned)
+      warning_moved Unlike number warned = refl
+      warning_moved WrongMask number warned = refl
+      warning_moved LostMemory number warned = refl
+      warning_moved TopOfMemory number warned = refl
+      warning_moved Syscfg number warned = refl
+      warning_moved MemoryBits number warned = refl
+
+      warned_moved : (reading : Reading) (warned : Warned) → moved_warned move (warned_by reading warned) ≡ warned_by (moved_reading reading) (moved_warned move warned)
+      warned_moved reading warned = each (moved_warned move) (has_memory_bits reading) _ _ _ _ refl refl
 
       next_seen : (seen : Seen) (fact : Fact) → moved_seen (seen_with seen fact) ≡ seen_with (moved_seen seen) (moved_fact fact)
       next_seen seen (is_line number format matched) = refl
-      next_seen seen (is_register_value reading) = refl
+      next_seen seen (is_register_value reading) = ap (λ w. let s : Seen = record { width = seen.width; line_of_width = move seen.line_of_width; readings = moved_reading reading ∷ map moved_reading seen.readings; tally = with_warned seen.tally w } in s) (warned_moved reading seen.tally.warned)
       next_seen seen (is_width width place) = refl
-      next_seen seen is_warning = refl
+      next_seen seen (is_warning warning number) = ap (λ w. let s : Seen = record { width = seen.width; line_of_width = move seen.line_of_width; readings = map moved_reading seen.readings; tally = with_warned seen.tally w } in s) (warning_moved warning number seen.tally.warned)
       next_seen seen (is_fault fault) = refl
+
+      is_some_moved : (fault : Option ImportFault) → is_some (moved_faults fault) ≡ is_some fault
+      is_some_moved None = refl
+      is_some_moved (Some fault) = refl
+
+      pub till_moved : (facts : List Fact) (seen : Seen) → moved_warned move (warned_till supplied seen facts) ≡ warned_till supplied (moved_seen seen) (map moved_fact facts)
+      till_moved [] seen = refl
+      till_moved (fact ∷ facts) seen =
+          each (moved_warned move) (is_some (fact_fault supplied seen fact)) _ _ (moved_warned move seen.tally.warned) (warned_till supplied (seen_with (moved_seen seen) (moved_fact fact)) (map moved_fact facts)) refl
+          (till_moved facts (seen_with seen fact) ∙ ap (λ (s : Seen). warned_till supplied s (map moved_fact facts)) (next_seen seen fact))
+          ∙ ap (λ test. if test then moved_warned move seen.tally.warned else warned_till supplied (seen_with (moved_seen seen) (moved_fact fact)) (map moved_fact facts))
+          (sym (is_some_moved (fact_fault supplied seen fact)) ∙ ap is_some (of_fact seen fact))
 
       pub fault_moved : (facts : List Fact) (seen : Seen) → moved_faults (facts_fault supplied seen facts) ≡ facts_fault supplied (moved_seen seen) (map moved_fact facts)
       fault_moved [] seen = refl

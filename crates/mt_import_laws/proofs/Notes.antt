@@ -8,7 +8,7 @@ use Rattle.std.proofs.lemmas.List.Folds.{concat-append}
 use Rattle.mt_import.specs.declared.shape.Slot.{Slot}
 use Rattle.mt_import.specs.declared.supplied.Assumed.{Assumed}
 use Rattle.mt_import.specs.Supplied.{Supplied}
-use Rattle.mt_import.specs.Values.{Known, assumed_of, assumed_pat, assumed_value, assumed_zero, firm_value, firm_width, is_pair_number, is_unshown, has_pairs, only_if, or_supplied, width_by}
+use Rattle.mt_import.specs.Values.{Known, assumed_of, assumed_pat, assumed_value, assumed_zero, firm_value, firm_width, has_pairs, is_fixed_number, is_pair_number, is_unshown, only_if, or_supplied, width_by}
 use Rattle.mt_import.specs.Outcome.{Seen, Outcome, findings_of, firm_of, is_noted, is_value, known_by, needed, note_by, note_line, note_lines, noted, noted_of, number_if, processors, slot_shown, values_of, width_note}
 use Rattle.mt_import.proofs.Parts.{noted_at}
 use Rattle.mt_import.proofs.Same.{value_is}
@@ -179,14 +179,17 @@ pat_value assumed slots known number value same is = only_some assumed.pat (assu
 
 -- Of processors behind the first it is the PAT's value, or 0.
 later_value : (k : ℕ) (assumed : Assumed) (slots : ℕ → Slot) (known : Known) (number value : ℕ) → assumed_value (assumed_of (suc k) assumed) slots known number ≡ Some value → ((number == 0x277) ≡ true) ⊎ (value ≡ 0)
-later_value k assumed slots known number value is = by (number == 0x277) (number == 0xfe) (is_pair_number number) is
+later_value k assumed slots known number value is = by (number == 0x277) (number == 0xfe) (is_pair_number number) (is_fixed_number number) (number == 0x2ff) is
   where
-    by : (pat capabilities pair : Bool)
-        → (if pat then only_if assumed.pat (Some (assumed_pat known.format)) else if capabilities then None else if pair then only_if assumed.pairs (assumed_zero slots number) else None) ≡ Some value → (pat ≡ true) ⊎ (value ≡ 0)
-    by true capabilities pair is = inl refl
-    by false true pair is = cc is
-    by false false true is = inr (only_zero assumed.pairs (is_unshown slots number && has_pairs slots) value is)
-    by false false false is = cc is
+    by : (pat capabilities pair fixed default : Bool)
+        → (if pat then only_if assumed.pat (Some (assumed_pat known.format)) else if capabilities then None else if pair then only_if assumed.pairs (assumed_zero slots number)
+        else if fixed then None else if default then None else None) ≡ Some value → (pat ≡ true) ⊎ (value ≡ 0)
+    by true capabilities pair fixed default is = inl refl
+    by false true pair fixed default is = cc is
+    by false false true fixed default is = inr (only_zero assumed.pairs (is_unshown slots number && has_pairs slots) value is)
+    by false false false true default is = cc is
+    by false false false false true is = cc is
+    by false false false false false is = cc is
 
 none_of : (o : Option ℕ) → o ≡ None → is_none o ≡ true
 none_of None is = refl

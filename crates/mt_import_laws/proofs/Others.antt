@@ -6,7 +6,7 @@ use Rattle.mt_text.specs.declared.place.Place.{Place}
 use Rattle.mt_import.specs.Slot.{all_bits}
 use Rattle.mt_import.specs.declared.format.Format.TheVariants.{Inteltool, Linux}
 use Rattle.mt_import.specs.declared.reading.LineSays.{LineSays}
-use Rattle.mt_import.specs.declared.reading.LineSays.TheVariants.{Nothing, Announces, Value, Turns, Shows, Begins, FixedRanges, VariableRanges, Width, Warns, Long}
+use Rattle.mt_import.specs.declared.reading.LineSays.TheVariants.{Nothing, Announces, Value, Turns, Shows, Lists, Begins, FixedRanges, VariableRanges, Width, Warns, Bad}
 use Rattle.mt_import.specs.Shown.{said_of}
 use Rattle.mt_import_laws.specs.Printed.{IsSame, SaysNoMore, no_match, only_shows, only_turns, only_warns, only_width}
 use Rattle.mt_import_laws.specs.WorkedPrinted.{ordinary_pc}
@@ -22,14 +22,15 @@ width_in (Shows processor shows) = 0
 width_in (Begins shows) = 0
 width_in (FixedRanges enabled alone place) = 0
 width_in (VariableRanges enabled place) = 0
-width_in Warns = 0
-width_in (Long place) = 0
+width_in (Warns warning number) = 0
+width_in (Lists processor shown) = 0
+width_in (Bad why place) = 0
 
 pub other_width : SaysNoMore Linux ordinary_pc (said_of Linux 1 (codes "Address sizes: 39 bits physical, 48 bits virtual")) → ⊥
 unfolding width_in
 other_width (no_match is) = let e : 39 ≡ 0 = ap width_in is in omega (arith, e)
 other_width (only_width place is) = let e : 39 ≡ 36 = ap width_in is in omega (arith, e)
-other_width (only_warns is) = let e : 39 ≡ 0 = ap width_in is in omega (arith, e)
+other_width (only_warns warning number is) = let e : 39 ≡ 0 = ap width_in is in omega (arith, e)
 other_width (only_turns is) = let e : 39 ≡ 0 = ap width_in is in omega (arith, e)
 other_width (only_shows processor shows is own others) = let e : 39 ≡ 0 = ap width_in is in omega (arith, e)
 

@@ -28,7 +28,7 @@ abbrev pub IsOfTable : ℕ → Fact → Type 0
 IsOfTable table (is_line number format matched) = ⊤
 IsOfTable table (is_register_value reading) = reading.table ≡ table
 IsOfTable table (is_width width place) = ⊤
-IsOfTable table is_warning = ⊤
+IsOfTable table (is_warning warning number) = ⊤
 IsOfTable table (is_fault fault) = ⊤
 
 -- a reading behind which, as it is itself, all are of a table
@@ -51,7 +51,7 @@ recent_gathers table (fact ∷ facts) seen reading of (inr before) = recent_gath
     by (is_line number format matched) is = before
     by (is_register_value other) is = (is, inr before)
     by (is_width width place) is = before
-    by is_warning is = before
+    by (is_warning warning number) is = before
     by (is_fault fault) is = before
 
 -- ---- one register

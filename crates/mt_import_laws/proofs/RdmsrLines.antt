@@ -11,9 +11,10 @@ use Rattle.mt_text.proofs.Plain.{digits_plain, is_plain}
 use Rattle.mt_import.specs.declared.format.Format.TheVariants.{Rdmsr}
 use Rattle.mt_import.specs.declared.reading.LineSays.TheVariants.{Announces, Value}
 use Rattle.mt_import.specs.Rdmsr.{announced, is_traced, rdmsr_said, register_named, said_by_words, said_value}
-use Rattle.mt_import.specs.Shown.{said_of, said_or_sizes}
+use Rattle.mt_import.specs.Shown.{said_of, said_or_sizes, unmarked}
 use Rattle.mt_import_laws.specs.PrintedByRdmsr.{all_line, call_line, hex_text}
 use Rattle.mt_import_laws.proofs.HexDigits.{hex_alone, hex_digits, hex_prefixed, hex_short, hex_some}
+use Rattle.mt_import_laws.proofs.Tells.{no_mark}
 use Rattle.mt_import_laws.proofs.LineWords.{AreWords, IsWord, digits_are_word, length_of_pieces, line_with, pieces_plain, placed, word_append, words_of_pieces}
 
 hex_word : (value : ℕ) → IsWord (hex_text value)
@@ -90,6 +91,13 @@ module _ (register : ℕ) (small : register < 0x1000) where
 
 -- ---- a value
 
+digits_unmarked : (digits : List ℕ) → list_all is_hex_digit digits ≡ true → unmarked digits ≡ digits
+digits_unmarked [] all = refl
+digits_unmarked (digit ∷ digits) all = no_mark digit digits (other digit (and_parts (is_hex_digit digit) (list_all is_hex_digit digits) all).0)
+  where
+    other : (byte : ℕ) → is_hex_digit byte ≡ true → nat_eq byte 239 ≡ false
+    other byte is = grind (arith, nat_tests, is)
+
 no_plus : (digits : List ℕ) → list_all is_hex_digit digits ≡ true → 1 ≤ length digits → is_traced digits ≡ false
 no_plus [] all some = absurd (omega (arith, some))
 no_plus (digit ∷ digits) all some = rw (apart digit (and_parts (is_hex_digit digit) (list_all is_hex_digit digits) all).0) refl
@@ -116,4 +124,4 @@ module _ (value : ℕ) (fits : value < 2 ^ 64) where
       let said : rdmsr_said number (hex_text value) ≡ Value value (value_place number) =
       ap (said_by_words number) words
       ∙ rw (no_plus (hex_text value) (hex_digits value) (hex_some value)) (ap (said_value (value_place number)) (hex_alone value fits)) in
-      rw short (ap (λ s. said_or_sizes s number (hex_text value)) said)
+      rw short (ap (λ l. said_or_sizes (rdmsr_said number l) number l) (digits_unmarked (hex_text value) (hex_digits value)) ∙ ap (λ s. said_or_sizes s number (hex_text value)) said)

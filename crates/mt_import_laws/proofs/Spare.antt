@@ -1,34 +1,38 @@
 -- A line that matches nothing may be left out.
-use Rattle.std.proofs.Common.{◌≡◌, ◌≢◌, ◌∙◌, ◌+◌, ◌-◌, ◌≤◌, ◌<◌, nat_le, ℕ, Bool, true, false, List, [], ◌∷◌, ◌++◌, length, map, Option, Some, None, refl, sym, ap, subst, arith, length-append}
+use Rattle.std.proofs.Common.{◌≡◌, ◌≢◌, ◌∙◌, ◌+◌, ◌-◌, ◌≤◌, ◌<◌, nat_le, ℕ, Bool, true, false, List, [], ◌∷◌, ◌++◌, length, map, Option, Some, None, is_some, refl, sym, ap, subst, arith, length-append}
 use Rattle.std.specs.Prelude.{if◌then◌else◌}
 use Rattle.std.specs.Option.{option_or}
 use Rattle.std.proofs.lemmas.Bool.Decides.{nat_tests}
-use Rattle.std.proofs.lemmas.List.{map-append}
+use Rattle.std.proofs.lemmas.List.{append-nil, map-append}
 use Rattle.mt_text.specs.Text.{lines_of}
 use Rattle.mt_text.specs.declared.place.Place.{Place}
 use Rattle.mt_import.specs.declared.fault.ImportFault.{ImportFault}
+use Rattle.mt_import.specs.declared.fault.ImportFault.TheVariants.{BadLine}
+use Rattle.mt_import.specs.declared.fault.Reason.TheVariants.{MixedNumbers}
 use Rattle.mt_import.specs.declared.format.Choice.{Choice}
 use Rattle.mt_import.specs.declared.format.Format.{Format}
 use Rattle.mt_import.specs.declared.reading.Context.{Context}
 use Rattle.mt_import.specs.declared.reading.LineSays.{LineSays}
-use Rattle.mt_import.specs.declared.reading.LineSays.TheVariants.{Nothing, Announces, Value, Turns, Shows, Begins, FixedRanges, VariableRanges, Width, Warns, Long}
+use Rattle.mt_import.specs.declared.reading.LineSays.TheVariants.{Nothing, Announces, Value, Turns, Shows, Lists, Begins, FixedRanges, VariableRanges, Width, Warns, Bad}
 use Rattle.mt_import.specs.declared.shape.Announced.{Announced}
 use Rattle.mt_import.specs.declared.shape.Shown.{Shown}
 use Rattle.mt_import.specs.declared.shape.Tally.{Tally}
+use Rattle.mt_import.specs.declared.shape.Warned.{Warned}
 use Rattle.mt_import.specs.Import.{log_outcome}
-use Rattle.mt_import.specs.Outcome.{Findings, Outcome, Seen, Slots, Summary, dump_outcome, ended, ended_by, facts_fault, findings_of, firm_of, hint_of, is_empty, missing_of, notes_of, nothing_seen, processors, refusal, remarks, seen_after, seen_with, slot_shown, summary_of, unless, values_of, warning_text}
+use Rattle.mt_import.specs.Outcome.{Findings, Outcome, Seen, Slots, Summary, advice_of, count_line, dump_outcome, ended, ended_by, facts_fault, findings_of, firm_of, hint_of, is_empty, missing_of, notes_of, nothing_seen, processors, refusal, remarks, seen_after, seen_with, slot_shown, summary_of, unless, values_of, warned_till}
 use Rattle.mt_import.specs.Pieces.{shown_as}
-use Rattle.mt_import.specs.Readings.{Fact, context_after, fixed_clash, fixed_facts, fixed_shows, is_line, is_match, is_register, is_register_value, line_facts, reading_facts, said_facts, shown_facts, shows_facts, starts, unless_clash, value_facts, variable_shows}
+use Rattle.mt_import.specs.Readings.{Fact, context_after, fixed_clash, fixed_facts, fixed_shows, is_fault, is_line, is_match, is_mixed, is_register, is_register_value, line_facts, named_processor, reading_facts, said_facts, shown_facts, shows_facts, starts, unless_clash, value_facts, variable_shows}
 use Rattle.mt_ports.specs.declared.status.Status.TheVariants.{Done}
 use Rattle.mt_import.specs.Shown.{chosen, context_behind, facts_from, facts_of_line, format_of, is_auto, said_in, shown}
 use Rattle.mt_import.specs.Supplied.{Supplied}
 use Rattle.mt_import.specs.Values.{Known, width_by}
-use Rattle.mt_import.proofs.Facts.{fault_append, seen_append}
+use Rattle.mt_import.specs.Warnings.{none_warned, warning_lines}
+use Rattle.mt_import.proofs.Facts.{fault_append, seen_append, till_goes, till_stops}
 use Rattle.mt_import.proofs.Same.{same_summary}
 use Rattle.mt_import_laws.specs.Origins.{context_after_lines, seen_of}
-use Rattle.mt_import_laws.specs.Spare.{AreMovedReasons, ComeToSameWithout, HasSpareLine, TakesNoneBack, no_value_next, none_waits, number_without, of_count, of_fault, one_line_less, same_reasons}
+use Rattle.mt_import_laws.specs.Spare.{AreMovedReasons, ComeToSameWithout, HasSpareLine, TakesNoneBack, no_value_next, none_waits, number_without, moved_warned, of_count, of_fault, of_warnings, one_line_less}
 use Rattle.mt_import_laws.proofs.TableLines.{facts_split}
-use Rattle.mt_import_laws.proofs.MovedFacts.{Moves, all_slots, context_moved, facts_moved, fault_moved, moved_context, moved_fact, moved_faults, moved_seen, moved_slot, same_processors, seen_moved}
+use Rattle.mt_import_laws.proofs.MovedFacts.{Moves, all_slots, context_moved, facts_moved, fault_moved, moved_context, moved_fact, moved_faults, moved_seen, moved_slot, same_processors, seen_moved, till_moved}
 
 -- ---- the count of lines and the format
 
@@ -78,8 +82,11 @@ keeps_said context (Begins shows) seen = keeps_shows 0 _ shows seen
 keeps_said context (FixedRanges enabled alone place) seen = keeps_fixed context enabled alone place seen
 keeps_said context (VariableRanges enabled place) seen = keeps_shows 0 context.table (variable_shows context enabled place) seen
 keeps_said context (Width width place) seen = (refl, refl)
-keeps_said context Warns seen = (refl, refl)
-keeps_said context (Long place) seen = (refl, refl)
+keeps_said context (Warns warning number) seen = (refl, refl)
+keeps_said context (Lists processor shown) seen =
+    keeps_if (is_mixed context.lists_processors (is_some processor)) (is_fault (BadLine MixedNumbers shown.place) ∷ []) (reading_facts (named_processor processor (Some 0)) context.table shown)
+    (λ seen. (refl, refl)) (keeps_reading (named_processor processor (Some 0)) context.table shown) seen
+keeps_said context (Bad why place) seen = (refl, refl)
 
 -- All lines in front of this number are counted, and the format is the one that they lead to.
 record IsTallied (context : Context) (number : ℕ) (seen : Seen) : Type 0 where
@@ -102,7 +109,7 @@ tallied (line ∷ lines) context number seen is =
 -- ---- a call that waits for its value
 
 abbrev quiet : Context → Context
-quiet context = record { format = context.format; announced = None; processor = context.processor; table = context.table; fixed = context.fixed }
+quiet context = record { format = context.format; announced = None; processor = context.processor; table = context.table; fixed = context.fixed; lists_processors = context.lists_processors }
 
 record SaysNothing (context : Context) (format : Option Format) (said : LineSays) : Type 0 where
   facts : said_facts (quiet context) said ≡ said_facts context said
@@ -119,12 +126,13 @@ no_value context format (Begins shows) other = record { facts = refl; behind = r
 no_value context format (FixedRanges enabled alone place) other = record { facts = refl; behind = refl }
 no_value context format (VariableRanges enabled place) other = record { facts = refl; behind = refl }
 no_value context format (Width width place) other = record { facts = refl; behind = refl }
-no_value context format Warns other = record { facts = refl; behind = refl }
-no_value context format (Long place) other = record { facts = refl; behind = refl }
+no_value context format (Warns warning number) other = record { facts = refl; behind = refl }
+no_value context format (Lists processor shown) other = record { facts = refl; behind = refl }
+no_value context format (Bad why place) other = record { facts = refl; behind = refl }
 
 quiet_facts : (context : Context) (number : ℕ) (others : List (List ℕ)) → TakesNoneBack context number others → facts_from (quiet context) number others ≡ facts_from context number others
 quiet_facts context number others (none_waits none) =
-    ap (λ waiting. facts_from (record { format = context.format; announced = waiting; processor = context.processor; table = context.table; fixed = context.fixed }) number others) (sym none)
+    ap (λ waiting. facts_from (record { format = context.format; announced = waiting; processor = context.processor; table = context.table; fixed = context.fixed; lists_processors = context.lists_processors }) number others) (sym none)
 quiet_facts context number [] (no_value_next next) = refl
 quiet_facts context number (line ∷ lines) (no_value_next next) =
     let format : Option Format = chosen context.format number line in
@@ -176,6 +184,10 @@ module _ (move : ℕ → ℕ) (supplied : Supplied) (slots : Slots) (count : ℕ
   unfolding values_of hint_of
   same_missing = refl
 
+  same_advice : (auto : Bool) → advice_of auto supplied moved ≡ advice_of auto supplied found
+  unfolding values_of hint_of
+  same_advice auto = refl
+
   same_notes : notes_of supplied moved ≡ notes_of supplied found
   unfolding values_of firm_of
   same_notes = refl
@@ -188,22 +200,24 @@ module _ (move : ℕ → ℕ) (supplied : Supplied) (slots : Slots) (count : ℕ
   same_width = refl
 
   pub unmoved : (auto : Bool) (tally : Tally) → ended_by (summary_of auto supplied moved tally) ≡ ended_by (summary_of auto supplied found tally)
-  unmoved auto tally = same_summary (summary_of auto supplied moved tally) (summary_of auto supplied found tally) same_values same_notes refl refl refl same_missing same_width
+  unmoved auto tally = same_summary (summary_of auto supplied moved tally) (summary_of auto supplied found tally) same_values same_notes refl refl refl same_missing (same_advice auto) same_width
 
 module _ (at : ℕ) where
-  remarked : (auto : Bool) (tally : Tally) → AreMovedReasons auto Done at (remarks auto tally) (remarks auto (one_line_less tally))
-  remarked true tally = of_count tally (warning_text tally.warned) refl refl
-  remarked false tally = same_reasons refl refl refl
+  remarked : (auto : Bool) (tally : Tally) → AreMovedReasons auto Done at (remarks auto tally) (remarks auto (one_line_less at tally))
+  remarked true tally =
+      of_count tally [] (ap (λ (t : List ℕ). count_line tally ++ t) (sym (append-nil (warning_lines tally.warned))))
+      (ap (λ (t : List ℕ). count_line (one_line_less at tally) ++ t) (sym (append-nil (warning_lines (one_line_less at tally).warned))))
+  remarked false tally = of_warnings refl refl tally.warned refl refl
 
-  refused : (auto : Bool) (tally : Tally) (missing : List ℕ) → ComeToSameWithout auto at (refusal tally missing) (refusal (one_line_less tally) missing)
-  refused auto tally missing = record { same = record { notes = refl; dump = refl; status = refl }; reasons = of_count tally (warning_text tally.warned ++ missing) refl refl }
+  refused : (auto : Bool) (tally : Tally) (missing : List ℕ) → ComeToSameWithout auto at (refusal tally missing) (refusal (one_line_less at tally) missing)
+  refused auto tally missing = record { same = record { notes = refl; dump = refl; status = refl }; reasons = of_count tally missing refl refl }
 
   abbrev less_by_one : Summary → Summary
-  less_by_one told = record told { tally = one_line_less told.tally }
+  less_by_one told = record told { tally = one_line_less at told.tally }
 
   dumped : (told : Summary) (width capabilities : Option ℕ)
       → ComeToSameWithout told.auto at (dump_outcome (refusal told.tally told.missing) told width capabilities)
-      (dump_outcome (refusal (one_line_less told.tally) told.missing) (less_by_one told) width capabilities)
+      (dump_outcome (refusal (one_line_less at told.tally) told.missing) (less_by_one told) width capabilities)
   dumped told (Some width) (Some capabilities) = record { same = record { notes = refl; dump = refl; status = refl }; reasons = remarked told.auto told.tally }
   dumped told (Some width) None = refused told.auto told.tally told.missing
   dumped told None capabilities = refused told.auto told.tally told.missing
@@ -212,10 +226,10 @@ module _ (at : ℕ) where
   less told = by (is_empty told.missing)
     where
       by : (test : Bool)
-          → ComeToSameWithout told.auto at (if test then dump_outcome (refusal told.tally told.missing) told told.width (told.values 0 0xfe) else refusal told.tally told.missing)
-          (if test then dump_outcome (refusal (one_line_less told.tally) told.missing) (less_by_one told) told.width (told.values 0 0xfe) else refusal (one_line_less told.tally) told.missing)
+          → ComeToSameWithout told.auto at (if test then dump_outcome (refusal told.tally told.missing) told told.width (told.values 0 0xfe) else refusal told.tally (told.missing ++ told.advice))
+          (if test then dump_outcome (refusal (one_line_less at told.tally) told.missing) (less_by_one told) told.width (told.values 0 0xfe) else refusal (one_line_less at told.tally) (told.missing ++ told.advice))
       by true = dumped told told.width (told.values 0 0xfe)
-      by false = refused told.auto told.tally told.missing
+      by false = refused told.auto told.tally (told.missing ++ told.advice)
 
   moved_ended : (auto : Bool) (supplied : Supplied) (seen : Seen) → 1 ≤ seen.tally.lines → at ≤ seen.tally.lines
       → ComeToSameWithout auto at (ended auto supplied seen) (ended auto supplied (moved_seen (number_without at) seen))
@@ -224,8 +238,8 @@ module _ (at : ℕ) where
       let known : Known = (findings_of seen).shown in
       let count : ℕ = processors seen.readings in
       let tally : Tally = (moved_seen (number_without at) seen).tally in
-      let fewer : tally ≡ one_line_less seen.tally = ap (λ n. let t : Tally = record { format = seen.tally.format; lines = n; matches = seen.tally.matches; warned = seen.tally.warned } in t) (above at seen.tally.lines later) in
-      let same : ended_by (summary_of auto supplied (findings_of seen) (one_line_less seen.tally)) ≡ ended auto supplied (moved_seen (number_without at) seen) =
+      let fewer : tally ≡ one_line_less at seen.tally = ap (λ n. let t : Tally = record { format = seen.tally.format; lines = n; matches = seen.tally.matches; warned = moved_warned (number_without at) seen.tally.warned } in t) (above at seen.tally.lines later) in
+      let same : ended_by (summary_of auto supplied (findings_of seen) (one_line_less at seen.tally)) ≡ ended auto supplied (moved_seen (number_without at) seen) =
       ap (λ (t : Tally). ended_by (summary_of auto supplied (findings_of seen) t)) (sym fewer)
       ∙ sym (unmoved (number_without at) supplied slots count known auto tally)
       ∙ ap (λ (s : Slots). ended_by (summary_of auto supplied (record { slots = s; count = count; shown = known }) tally)) (all_slots (number_without at) (zero_stays at) seen.readings)
@@ -233,10 +247,10 @@ module _ (at : ℕ) where
       (sym (same_processors (number_without at) (zero_stays at) seen.readings)) in
       subst (ComeToSameWithout auto at (ended auto supplied seen)) same (less (summary_of auto supplied (findings_of seen) seen.tally))
 
-  by_fault : (auto : Bool) (fault : Option ImportFault) (longer shorter : Outcome)
-      → ComeToSameWithout auto at longer shorter → ComeToSameWithout auto at (unless fault longer) (unless (moved_faults (number_without at) fault) shorter)
-  by_fault auto None longer shorter same = same
-  by_fault auto (Some fault) longer shorter same = record { same = record { notes = refl; dump = refl; status = refl }; reasons = of_fault refl fault refl refl }
+  by_fault : (auto : Bool) (fault : Option ImportFault) (warned : Warned) (longer shorter : Outcome) → ComeToSameWithout auto at longer shorter
+      → ComeToSameWithout auto at (unless fault warned longer) (unless (moved_faults (number_without at) fault) (moved_warned (number_without at) warned) shorter)
+  by_fault auto None warned longer shorter same = same
+  by_fault auto (Some fault) warned longer shorter same = record { same = record { notes = refl; dump = refl; status = refl }; reasons = of_fault refl warned fault refl refl }
 
 -- ---- the two logs
 
@@ -304,7 +318,7 @@ module _ (choice : Choice) (supplied : Supplied) (longer shorter : List ℕ) (ha
 
   start_stays : moved_seen (number_without at) start ≡ start
   start_stays =
-      ap (λ n. let s : Seen = record { width = None; line_of_width = n; readings = []; tally = record { format = format_of choice; lines = n; matches = 0; warned = false } } in s) (zero_stays at)
+      ap (λ n. let s : Seen = record { width = None; line_of_width = n; readings = []; tally = record { format = format_of choice; lines = n; matches = 0; warned = none_warned } } in s) (zero_stays at)
 
   same_fault : moved_faults (number_without at) (facts_fault supplied start (shown (format_of choice) longer)) ≡ facts_fault supplied start (shown (format_of choice) shorter)
   same_fault =
@@ -315,6 +329,19 @@ module _ (choice : Choice) (supplied : Supplied) (longer shorter : List ℕ) (ha
       ∙ ap (λ (s : Seen). option_or (facts_fault supplied start first) (facts_fault supplied s (later at))) same_behind
       ∙ sym (fault_append supplied start first (later at))
       ∙ ap (facts_fault supplied start) (sym shorter_facts)
+
+  till_later : (fault : Option ImportFault) → facts_fault supplied start first ≡ fault → warned_till supplied start (first ++ moved_blank ∷ later at) ≡ warned_till supplied start (first ++ later at)
+  till_later (Some fault) is = till_stops supplied (moved_blank ∷ later at) start first fault is ∙ sym (till_stops supplied (later at) start first fault is)
+  till_later None is =
+      till_goes supplied (moved_blank ∷ later at) start first is ∙ ap (λ (s : Seen). warned_till supplied s (later at)) same_behind ∙ sym (till_goes supplied (later at) start first is)
+
+  same_warned : moved_warned (number_without at) (warned_till supplied start (shown (format_of choice) longer)) ≡ warned_till supplied start (shown (format_of choice) shorter)
+  same_warned =
+      till_moved (number_without at) (zero_stays at) supplied (shown (format_of choice) longer) start
+      ∙ ap (λ (s : Seen). warned_till supplied s (map (moved_fact (number_without at)) (shown (format_of choice) longer))) start_stays
+      ∙ ap (warned_till supplied start) moved_facts
+      ∙ till_later (facts_fault supplied start first) refl
+      ∙ ap (warned_till supplied start) (sym shorter_facts)
 
   same_seen : moved_seen (number_without at) (seen_of choice longer) ≡ seen_of choice shorter
   same_seen =
@@ -336,7 +363,9 @@ module _ (choice : Choice) (supplied : Supplied) (longer shorter : List ℕ) (ha
   pub without : ComeToSameWithout (is_auto choice) at (log_outcome choice supplied longer) (log_outcome choice supplied shorter)
   without =
       let some = counts_all in
-      subst (λ f. ComeToSameWithout (is_auto choice) at (log_outcome choice supplied longer) (unless f (ended (is_auto choice) supplied (seen_of choice shorter)))) same_fault
-      (by_fault at (is_auto choice) (facts_fault supplied start (shown (format_of choice) longer)) (ended (is_auto choice) supplied (seen_of choice longer)) (ended (is_auto choice) supplied (seen_of choice shorter))
+      let till : Warned = warned_till supplied start (shown (format_of choice) longer) in
+      subst (λ f. ComeToSameWithout (is_auto choice) at (log_outcome choice supplied longer) (unless f (warned_till supplied start (shown (format_of choice) shorter)) (ended (is_auto choice) supplied (seen_of choice shorter)))) same_fault
+      (subst (λ w. ComeToSameWithout (is_auto choice) at (log_outcome choice supplied longer) (unless (moved_faults (number_without at) (facts_fault supplied start (shown (format_of choice) longer))) w (ended (is_auto choice) supplied (seen_of choice shorter)))) same_warned
+      (by_fault at (is_auto choice) (facts_fault supplied start (shown (format_of choice) longer)) till (ended (is_auto choice) supplied (seen_of choice longer)) (ended (is_auto choice) supplied (seen_of choice shorter))
       (subst (λ (s : Seen). ComeToSameWithout (is_auto choice) at (ended (is_auto choice) supplied (seen_of choice longer)) (ended (is_auto choice) supplied s)) same_seen
-      (moved_ended at (is_auto choice) supplied (seen_of choice longer) (omega (arith, some)) some)))
+      (moved_ended at (is_auto choice) supplied (seen_of choice longer) (omega (arith, some)) some))))

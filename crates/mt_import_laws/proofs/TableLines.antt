@@ -7,7 +7,7 @@ use Rattle.mt_text.specs.declared.place.Place.{Place}
 use Rattle.mt_import.specs.declared.format.Format.{Format}
 use Rattle.mt_import.specs.declared.reading.Context.{Context}
 use Rattle.mt_import.specs.declared.reading.LineSays.{LineSays}
-use Rattle.mt_import.specs.declared.reading.LineSays.TheVariants.{Nothing, Announces, Value, Turns, Shows, Begins, FixedRanges, VariableRanges, Width, Warns, Long}
+use Rattle.mt_import.specs.declared.reading.LineSays.TheVariants.{Nothing, Announces, Value, Turns, Shows, Lists, Begins, FixedRanges, VariableRanges, Width, Warns, Bad}
 use Rattle.mt_import.specs.declared.shape.Reading.{Reading}
 use Rattle.mt_import.specs.declared.shape.Shown.{Shown}
 use Rattle.mt_import.specs.Readings.{Fact, is_fault, is_line, is_match, is_register, is_register_value, is_warning, is_width, named_processor, processor_after, processor_turned_to, reading_facts, said_facts, shown_facts, shows_facts}
@@ -39,7 +39,7 @@ gathers (fact ∷ facts) seen reading (inr before) = gathers facts (seen_with se
     by (is_line number format matched) = before
     by (is_register_value other) = inr before
     by (is_width width place) = before
-    by is_warning = before
+    by (is_warning warning number) = before
     by (is_fault fault) = before
 
 -- ---- bits of a register that a line shows
@@ -106,15 +106,16 @@ module _ (file : RegisterFile) (prints : Prints) where
   IsTrueSaid at (FixedRanges enabled alone place) = ⊥
   IsTrueSaid at (VariableRanges enabled place) = ⊥
   IsTrueSaid at (Width width place) = width ≡ file.width
-  IsTrueSaid at Warns = ⊤
-  IsTrueSaid at (Long place) = ⊥
+  IsTrueSaid at (Warns warning number) = ⊤
+  IsTrueSaid at (Lists processor shown) = ⊥
+  IsTrueSaid at (Bad why place) = ⊥
 
 -- What says no more of a dump is true of it, if the bits that it shows are printed.
 pub no_more_true : (format : Format) (file : RegisterFile) (prints : Prints) (said : LineSays) → IsRegisterFile file → ((shown : Shown) (key : Key) → IsSame format file shown → shown.number ≡ number_at key → prints key shown.bits ≡ true)
     → SaysNoMore format file said → IsTrueSaid file prints 0 said
 no_more_true format file prints said is printed (no_match same) = rw same tt
 no_more_true format file prints said is printed (only_width place same) = rw same refl
-no_more_true format file prints said is printed (only_warns same) = rw same tt
+no_more_true format file prints said is printed (only_warns warning at same) = rw same tt
 no_more_true format file prints said is printed (only_turns same) = rw same refl
 no_more_true format file prints said is printed (only_shows processor shows same own others) = rw same (own, all_true shows others)
   where
@@ -167,8 +168,9 @@ still file prints at (Begins shows) current own tells = absurd tells
 still file prints at (FixedRanges enabled alone place) current own tells = absurd tells
 still file prints at (VariableRanges enabled place) current own tells = absurd tells
 still file prints at (Width width place) current own tells = own
-still file prints at Warns current own tells = own
-still file prints at (Long place) current own tells = absurd tells
+still file prints at (Warns warning number) current own tells = own
+still file prints at (Lists processor shown) current own tells = absurd tells
+still file prints at (Bad why place) current own tells = absurd tells
 
 -- no processor is named, or this one
 own_by : (named : Option ℕ) (at : ℕ) (current : Option ℕ) → unwrap_or named at ≡ at → current ≡ Some at → named_processor named current ≡ at
@@ -218,8 +220,9 @@ module _ (files : ℕ → RegisterFile) (count : ℕ) (prints : Prints) where
   said_true k context (FixedRanges enabled alone place) less width own tells = absurd tells
   said_true k context (VariableRanges enabled place) less width own tells = absurd tells
   said_true k context (Width other place) less width own tells = (tells ∙ width, tt)
-  said_true k context Warns less width own tells = (tt, tt)
-  said_true k context (Long place) less width own tells = absurd tells
+  said_true k context (Warns warning number) less width own tells = (tt, tt)
+  said_true k context (Lists processor shown) less width own tells = absurd tells
+  said_true k context (Bad why place) less width own tells = absurd tells
 
 -- what lines come to, and those behind them
 pub facts_split : (front : List (List ℕ)) (context : Context) (number : ℕ) (behind : List (List ℕ))

@@ -207,7 +207,7 @@ module _ (files : ℕ → RegisterFile) (count : ℕ) (prints : Prints) where
   IsSound (is_line number format matched) = ⊤
   IsSound (is_register_value reading) = IsPart files count prints reading
   IsSound (is_width width place) = width ≡ (files 0).width
-  IsSound is_warning = ⊤
+  IsSound (is_warning warning number) = ⊤
   IsSound (is_fault fault) = ⊥
 
   abbrev pub IsWidth : Option ℕ → Type 0
@@ -222,7 +222,7 @@ module _ (files : ℕ → RegisterFile) (count : ℕ) (prints : Prints) where
   seen_next seen (is_line number format matched) is sound = record { readings = is.readings; width = is.width }
   seen_next seen (is_register_value reading) is sound = record { readings = (sound, is.readings); width = is.width }
   seen_next seen (is_width width place) is sound = record { readings = is.readings; width = sound }
-  seen_next seen is_warning is sound = record { readings = is.readings; width = is.width }
+  seen_next seen (is_warning warning number) is sound = record { readings = is.readings; width = is.width }
   seen_next seen (is_fault fault) is sound = absurd sound
 
   pub seen_last : (facts : List Fact) (seen : Seen) → IsSeen seen → AllByRecursion IsSound facts → IsSeen (seen_after seen facts)
@@ -516,7 +516,7 @@ module _ (files : ℕ → RegisterFile) (count : ℕ) (prints : Prints) (alike :
     no_fact_fault seen (is_line number format matched) is sound = refl
     no_fact_fault seen (is_register_value reading) is sound = no_reading_fault seen.readings reading is.readings sound
     no_fact_fault seen (is_width width place) is sound = no_width_fault seen width place is sound
-    no_fact_fault seen is_warning is sound = refl
+    no_fact_fault seen (is_warning warning number) is sound = refl
     no_fact_fault seen (is_fault fault) is sound = absurd sound
 
     pub no_fault : (facts : List Fact) (seen : Seen) → IsSeen files count prints seen → AllByRecursion (IsSound files count prints) facts → facts_fault supplied seen facts ≡ None

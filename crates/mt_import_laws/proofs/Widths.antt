@@ -15,7 +15,7 @@ use Rattle.mt_import.specs.Outcome.{Seen, ended, fact_fault, facts_fault, is_fit
 use Rattle.mt_import.specs.Import.{log_outcome}
 use Rattle.mt_import_laws.specs.Origins.{HasOrigins, IsAmong, WidthOrigin, readings_of, seen_of, width_by_line, width_by_masks, width_by_word}
 use Rattle.mt_import_laws.proofs.Bits.{not_false}
-use Rattle.mt_import_laws.proofs.Faults.{fault_of, faulty}
+use Rattle.mt_import_laws.proofs.Faults.{fault_of, faulty, till_of}
 use Rattle.mt_import_laws.proofs.Fine.{both_none}
 use Rattle.mt_import_laws.proofs.Lines.{fact_of_line}
 
@@ -36,7 +36,7 @@ gathered (fact ∷ facts) seen width is = elim (gathered facts (seen_with seen f
     by (is_line number format matched) is = inr is
     by (is_register_value reading) is = inr is
     by (is_width other place) is = let e : other ≡ width = cc is in inl (record { place = place; among = inl (ap (λ w. is_width w place) e) })
-    by is_warning is = inr is
+    by (is_warning warning number) is = inr is
     by (is_fault fault) is = inr is
 
 module _ (choice : Choice) (supplied : Supplied) (text : List ℕ) (width : ℕ) where
@@ -86,7 +86,7 @@ module _ (supplied : Supplied) where
       by (is_line number format matched) one = is
       by (is_register_value reading) one = is
       by (is_width other place) one = ap Some (sym (agrees seen.width other width (tests supplied seen other place one).1 is))
-      by is_warning one = is
+      by (is_warning warning number) one = is
       by (is_fault fault) one = is
 
   at_end : (facts : List Fact) (seen : Seen) (width : ℕ) (place : Place) → facts_fault supplied seen facts ≡ None → IsAmong (is_width width place) facts → (seen_after seen facts).width ≡ Some width
@@ -108,7 +108,7 @@ module _ (supplied : Supplied) where
 pub widths_differ : (choice : Choice) (supplied : Supplied) (text : List ℕ) (a b : ℕ) (p q : Place) → IsAmong (is_width a p) (shown (format_of choice) text) → IsAmong (is_width b q) (shown (format_of choice) text) → a ≢ b
     → (log_outcome choice supplied text).status ≡ BadText
 widths_differ choice supplied text a b p q first second differ =
-    faulty (fault_of choice supplied text) (ended (is_auto choice) supplied (seen_of choice text)) (λ none.
+    faulty (fault_of choice supplied text) (till_of choice supplied text) (ended (is_auto choice) supplied (seen_of choice text)) (λ none.
     let one = at_end supplied (shown (format_of choice) text) (nothing_seen (format_of choice)) a p none first in
     let two = at_end supplied (shown (format_of choice) text) (nothing_seen (format_of choice)) b q none second in
     let e : Some a ≡ Some b = sym one ∙ two in
@@ -117,5 +117,5 @@ widths_differ choice supplied text a b p q first second differ =
 pub width_differs : (choice : Choice) (supplied : Supplied) (text : List ℕ) (a word : ℕ) (p : Place) → IsAmong (is_width a p) (shown (format_of choice) text) → supplied.width ≡ Some word → word ≢ a
     → (log_outcome choice supplied text).status ≡ BadText
 width_differs choice supplied text a word p first given differ =
-    faulty (fault_of choice supplied text) (ended (is_auto choice) supplied (seen_of choice text)) (λ none.
+    faulty (fault_of choice supplied text) (till_of choice supplied text) (ended (is_auto choice) supplied (seen_of choice text)) (λ none.
     differ (as_word supplied (shown (format_of choice) text) (nothing_seen (format_of choice)) a word p none first given))

@@ -1,5 +1,5 @@
 -- What a line of x86info is read as.
-use Rattle.std.proofs.Common.{◌≡◌, ◌∙◌, ◌+◌, ◌-◌, ◌*◌, ◌^◌, ◌<◌, ◌≤◌, ◌==◌, nat_lt, ℕ, suc, Bool, true, false, List, [], ◌∷◌, ◌++◌, length, drop, take, get_or, map, Some, None, refl, sym, ap, inl, inr, arith, lit≤, append_assoc, length-append, codes, decimal}
+use Rattle.std.proofs.Common.{◌≡◌, ◌∙◌, ◌+◌, ◌*◌, ◌^◌, ◌<◌, ◌≤◌, ◌==◌, nat_lt, ℕ, suc, Bool, true, false, List, [], ◌∷◌, ◌++◌, length, drop, take, get_or, map, Some, None, refl, sym, ap, inl, inr, arith, lit≤, append_assoc, length-append, codes, decimal}
 use Rattle.std.specs.Fmt.{digits}
 use Rattle.std.specs.Prelude.{if◌then◌else◌}
 use Rattle.std.specs.List.{AllByRecursion, list_all}
@@ -16,18 +16,18 @@ use Rattle.mt_rows.specs.declared.row.Kind.TheVariants.{Blank, Mark}
 use Rattle.mt_rows.specs.declared.row.Run.TheVariants as run
 use Rattle.mt_rows.specs.Printed.{fit, shown}
 use Rattle.mt_rows.specs.Scan.{Part, has, is_end, is_within, items, no_fields}
+use Rattle.mt_import.specs.Warnings.{warning_in}
 use Rattle.mt_import.specs.declared.format.Format.TheVariants.{Coreboot, Edk2, Inteltool, Linux, X86info, Xen}
 use Rattle.mt_import.specs.declared.inteltool.TheConstants.{INTELTOOL}
 use Rattle.mt_import.specs.declared.reading.LineSays.{LineSays}
-use Rattle.mt_import.specs.declared.reading.LineSays.TheVariants.{Nothing, Warns, Width}
+use Rattle.mt_import.specs.declared.reading.LineSays.TheVariants.{Nothing, Width}
 use Rattle.mt_import.specs.declared.tables.Says.TheVariants.{TurnToUnread}
 use Rattle.mt_import.specs.declared.x86info.TheConstants.{X86INFO}
-use Rattle.mt_import.specs.Kernel.{is_warning_text}
 use Rattle.mt_import.specs.LineWords.{behind_stamp, is_iso, kernel_end}
 use Rattle.mt_import.specs.Linux.{linux_words_said}
 use Rattle.mt_import.specs.Pieces.{is_text, shows_one, shows_width}
-use Rattle.mt_import.specs.Shown.{format_told, is_telling, said_of, said_or_sizes, tells}
-use Rattle.mt_import.specs.Tables.{Row, rows_in}
+use Rattle.mt_import.specs.Shown.{first_said, format_told, is_telling, said_of, said_or_sizes, tells, unmarked, warns_or}
+use Rattle.mt_import.specs.Tables.{Row, each_said, rows_in}
 use Rattle.mt_import.specs.X86info.{sizes_by_words, x86info_said}
 use Rattle.mt_import_laws.specs.FirstLine.{IsOfNoHost}
 use Rattle.mt_import_laws.specs.Printed.{Key, number_at}
@@ -42,7 +42,7 @@ use Rattle.mt_import_laws.proofs.LineWords.{AreWords, IsWord, all_append, are_ap
 use Rattle.mt_import_laws.proofs.PrintedDigits.{sixteen_all, sixteen_long, sixteen_number}
 use Rattle.mt_import_laws.proofs.Decimals.{decimals}
 use Rattle.mt_import_laws.proofs.RowLines.{IsHexOf, no_others, register_says, row_reads, within}
-use Rattle.mt_import_laws.proofs.Tells.{coreboot_by, edk2_by, linux_by, xen_by}
+use Rattle.mt_import_laws.proofs.Tells.{coreboot_by, edk2_by, linux_by, no_utf16, xen_by}
 
 -- ---- fields
 
@@ -239,15 +239,16 @@ unread_said a b c name tail number line are named ends plain is =
 -- ---- a line
 
 -- what words say in each format
-abbrev said_in_each_of : ℕ → List (ℕ × List ℕ) → LineSays
-said_in_each_of number words = if is_warning_text (drop (kernel_end words) words) then Warns else sizes_by_words number (take 7 words)
+abbrev said_in_each_of : ℕ → List (ℕ × List ℕ) → LineSays → LineSays
+said_in_each_of number words other = warns_or (warning_in (drop (kernel_end words) words)) number (first_said (sizes_by_words number (take 7 words)) other)
 
--- a name and a number are no kernel's warning, also where the name is taken as a date
+-- a name and a number warn of nothing, also where the name is taken as a date
 no_warning : (date bare : Bool) (name : List ℕ) (register first second : ℕ) (others : List (ℕ × List ℕ))
-    → is_warning_text (drop (behind_stamp (if date then 1 else 0) ((first, codes "MTRR" ++ name) ∷ (second, number_text bare register) ∷ others)) ((first, codes "MTRR" ++ name) ∷ (second, number_text bare register) ∷ others)) ≡ false
+    → warning_in (drop (behind_stamp (if date then 1 else 0) ((first, codes "MTRR" ++ name) ∷ (second, number_text bare register) ∷ others)) ((first, codes "MTRR" ++ name) ∷ (second, number_text bare register) ∷ others)) ≡ None
 no_warning true true name register first second others = refl
 no_warning true false name register first second others = refl
-no_warning false bare name register first second others = refl
+no_warning false true name register first second others = refl
+no_warning false false name register first second others = refl
 
 within_limit : (n : ℕ) → n ≤ 4000 → nat_lt 4096 n ≡ false
 within_limit n le = grind (arith, nat_tests, le)
@@ -321,8 +322,12 @@ module _ (names : Names) (are : AreNames names) (key : Key) (is_key : IsKey key)
     words : words_of (text ks) ≡ placed 0 (first ks ∷ later ks) tail
     words = ap words_of (is_line ks) ∙ words_of_pieces (first ks) (later ks) tail text_words (later_apart ks) ends (fields_plain tail all)
 
+    text_unmarked : (ks : List Key) → unmarked (text ks) ≡ text ks
+    text_unmarked [] = refl
+    text_unmarked (k ∷ ks) = refl
+
     read_as : (number : ℕ) (said : LineSays) → x86info_said number (text ks) ≡ said → said_or_sizes said number (text ks) ≡ said → said_of X86info number (text ks) ≡ said
-    read_as number said by same = rw short (ap (λ s. said_or_sizes s number (text ks)) by ∙ same)
+    read_as number said by same = rw short (ap (λ l. said_or_sizes (x86info_said number l) number l) (text_unmarked ks) ∙ ap (λ s. said_or_sizes s number (text ks)) by ∙ same)
 
   -- ---- behind two names at most the register is read
 
@@ -394,9 +399,10 @@ module _ (names : Names) (are : AreNames names) (key : Key) (is_key : IsKey key)
       read_as (k ∷ l ∷ m ∷ ks) keys size number Nothing
       (unread_said (pair k) (pair l) (pair m) (names (head ks)) (behind_first ks) number (text (k ∷ l ∷ m ∷ ks)) (unread_pair k keys.0, (unread_pair l keys.1.0, (unread_pair m keys.1.1.0, tt)))
       (name_marks (head ks)) (is_blank_behind ks) (text_plain (k ∷ l ∷ m ∷ ks) keys size) (ap (before_it (pair k ∷ pair l ∷ pair m ∷ [])) (is_named ks)))
-      (ap (said_in_each_of number) (words (k ∷ l ∷ m ∷ ks) keys size)
-      ∙ ap (λ warns. if warns then Warns else sizes_by_words number (take 7 (placed 0 (first (k ∷ l ∷ m ∷ ks) ∷ later (k ∷ l ∷ m ∷ ks)) tail))) (no_warning (is_iso (name_of k)) (is_bare k) (names k) (number_at k) 0 (0 + 0 + length (name_of k) + 1)
-      (placed (0 + 0 + length (name_of k) + 1 + length (number_of k)) ((1, name_of l) ∷ later (l ∷ m ∷ ks)) tail)))
+      (ap (λ ws. said_in_each_of number ws (each_said number (text (k ∷ l ∷ m ∷ ks)))) (words (k ∷ l ∷ m ∷ ks) keys size)
+      ∙ ap (λ warns. warns_or warns number (first_said (sizes_by_words number (take 7 (placed 0 (first (k ∷ l ∷ m ∷ ks) ∷ later (k ∷ l ∷ m ∷ ks)) tail))) (each_said number (text (k ∷ l ∷ m ∷ ks))))) (no_warning (is_iso (name_of k)) (is_bare k) (names k) (number_at k) 0 (0 + 0 + length (name_of k) + 1)
+      (placed (0 + 0 + length (name_of k) + 1 + length (number_of k)) ((1, name_of l) ∷ later (l ∷ m ∷ ks)) tail))
+      ∙ no_utf16 number 77 (drop 1 (text (k ∷ l ∷ m ∷ ks))) (text_plain (k ∷ l ∷ m ∷ ks) keys size) refl refl)
 
 -- ---- the line of 0FEH tells the format
 
@@ -431,7 +437,7 @@ module _ (names : Names) (are : AreNames names) (value : ℕ) (tail : List ℕ) 
   no_linux number host =
       let third = ap (λ ws. is_text (codes "kernel:") (text_of ws 2)) (sym found_words) ∙ host.third in
       let fifth = ap (λ ws. is_text (codes "kernel:") (text_of ws 4)) (sym found_words) ∙ host.fifth in
-      linux_by number line line_words found_words
+      linux_by number line refl line_words found_words
       ∙ ap (λ at. is_telling (linux_words_said number (drop (behind_stamp at line_words) line_words))) (log_front line_words third fifth)
       ∙ by (is_iso name)
     where
@@ -440,10 +446,10 @@ module _ (names : Names) (are : AreNames names) (value : ℕ) (tail : List ℕ) 
       by false = ap is_telling (not_linux number)
 
   no_coreboot : (number : ℕ) → tells Coreboot number line ≡ false
-  no_coreboot number = coreboot_by number line line_words found_words ∙ ap is_telling (if_nothing _ _ _ refl refl)
+  no_coreboot number = coreboot_by number line refl line_words found_words ∙ ap is_telling (if_nothing _ _ _ refl refl)
 
   no_edk2 : (number : ℕ) → tells Edk2 number line ≡ false
-  no_edk2 number = edk2_by number line line_words found_words ∙ ap is_telling (if_nothing _ _ _ refl (if_off _ _ _ (and_left _ _ (and_right _ _ refl)) refl))
+  no_edk2 number = edk2_by number line refl line_words found_words ∙ ap is_telling (if_nothing _ _ _ refl (if_off _ _ _ (and_left _ _ (and_right _ _ refl)) refl))
 
   own : (number : ℕ) → value < 2 ^ 64 → tells X86info number line ≡ true
   unfolding tells
@@ -465,7 +471,7 @@ module _ (names : Names) (are : AreNames names) (value : ℕ) (tail : List ℕ) 
 
   pub told : (number : ℕ) → value < 2 ^ 64 → IsOfNoHost line → format_told number line ≡ Some X86info
   told number fits host =
-      let xen : tells Xen number line ≡ false = xen_by number line line_words found_words in
+      let xen : tells Xen number line ≡ false = xen_by number line refl line_words found_words in
       rw (short names are None tt value tail few ends all [] tt (lit≤ tt), xen, no_linux number host, no_coreboot number, no_edk2 number, no_inteltool number, own number fits) refl
 
 -- ---- the line on sizes
@@ -510,5 +516,5 @@ module _ (width virtual : ℕ) (wide : width < 65) (few : virtual < 65) where
       no_others front rows [] number (size_line width virtual) no_fields refl (row_reads front (size_line width virtual) [] behind size_plain refl refl refl refl) in
       rw size_short
       (ap (λ s. said_or_sizes s number (size_line width virtual)) own
-      ∙ ap (said_in_each_of number) size_found
-      ∙ ap (λ r. shows_width r (size_place number)) ((decimals width wide).read 255 (omega (arith, wide))))
+      ∙ ap (λ ws. said_in_each_of number ws (each_said number (size_line width virtual))) size_found
+      ∙ ap (λ r. first_said (shows_width r (size_place number)) (each_said number (size_line width virtual))) ((decimals width wide).read 255 (omega (arith, wide))))

@@ -11,6 +11,7 @@ pub mod PrintedByInteltool
 pub mod PrintedByCoreboot
 pub mod PrintedByEdk2
 pub mod PrintedByRdmsr
+pub mod PrintedByRows
 pub mod PrintedByX86info
 pub mod PrintedByKernel
 pub mod PrintedByXen

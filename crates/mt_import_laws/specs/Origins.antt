@@ -12,7 +12,7 @@ use Rattle.mt_dump.specs.Dumps.{Dump}
 use Rattle.mt_import.specs.declared.format.Choice.{Choice}
 use Rattle.mt_import.specs.declared.reading.Context.{Context}
 use Rattle.mt_import.specs.declared.reading.LineSays.{LineSays}
-use Rattle.mt_import.specs.declared.reading.LineSays.TheVariants.{Nothing, Announces, Value, Turns, Shows, Begins, FixedRanges, VariableRanges, Width, Warns, Long}
+use Rattle.mt_import.specs.declared.reading.LineSays.TheVariants.{Nothing, Announces, Value, Turns, Shows, Lists, Begins, FixedRanges, VariableRanges, Width, Warns, Bad}
 use Rattle.mt_import.specs.declared.shape.Reading.{Reading}
 use Rattle.mt_import.specs.Readings.{Fact, is_register_value, is_width, starts}
 use Rattle.mt_import.specs.Shown.{chosen, context_behind, facts_of_line, format_of, said_in, shown}
@@ -59,8 +59,9 @@ is_heading (Shows processor shows) = false
 is_heading (FixedRanges enabled alone place) = false
 is_heading (VariableRanges enabled place) = false
 is_heading (Width width place) = false
-is_heading Warns = false
-is_heading (Long place) = false
+is_heading (Warns warning number) = false
+is_heading (Lists processor shown) = false
+is_heading (Bad why place) = false
 
 abbrev pub heads : Context → ℕ → List ℕ → Bool
 heads context number line = is_heading (said_in (chosen context.format number line) number line)
@@ -162,8 +163,9 @@ SaysFixed (Shows processor shows) on = ⊥
 SaysFixed (Begins shows) on = ⊥
 SaysFixed (VariableRanges enabled place) on = ⊥
 SaysFixed (Width width place) on = ⊥
-SaysFixed Warns on = ⊥
-SaysFixed (Long place) on = ⊥
+SaysFixed (Warns warning number) on = ⊥
+SaysFixed (Lists processor shown) on = ⊥
+SaysFixed (Bad why place) on = ⊥
 
 -- one of these lines says so
 abbrev pub LinesSayFixed : Context → ℕ → List (List ℕ) → Bool → Type 0

@@ -17,9 +17,10 @@ use Rattle.mt_regs.specs.RegisterFile.{RegisterFile, pair_at}
 use Rattle.mt_regs.specs.Registers.{number_of, value_at, value_of}
 use Rattle.mt_dump.specs.Canon.{canon, ended}
 use Rattle.mt_dump.specs.Dumps.{Dump, dump_of}
+use Rattle.mt_import.specs.declared.shape.Warning.{Warning}
 use Rattle.mt_import.specs.declared.format.Choice.TheVariants.{Auto, Only}
 use Rattle.mt_import.specs.declared.format.Format.{Format}
-use Rattle.mt_import.specs.declared.format.Format.TheVariants.{Rdmsr, X86info, Inteltool, Coreboot, Edk2, Linux, Xen}
+use Rattle.mt_import.specs.declared.format.Format.TheVariants.{Rdmsr, X86info, Inteltool, Coreboot, Edk2, Linux, Xen, Chipsec, Windbg, Plain}
 use Rattle.mt_import.specs.declared.reading.LineSays.TheVariants.{Nothing, Shows, Turns, Warns, Width}
 use Rattle.mt_import.specs.declared.reading.Turn.TheVariants.{To}
 use Rattle.mt_import.specs.declared.reading.LineSays.{LineSays}
@@ -55,6 +56,9 @@ is_kernel X86info = false
 is_kernel Inteltool = false
 is_kernel Coreboot = false
 is_kernel Edk2 = false
+is_kernel Chipsec = false
+is_kernel Windbg = false
+is_kernel Plain = false
 
 -- Bits of a register of the file, with its value. A kernel's log shows no bit but V, bit 11, of a mask whose V is clear.
 pub record IsSame (format : Format) (file : RegisterFile) (shown : Shown) : Type 0 where
@@ -73,7 +77,7 @@ IsNoMore format file (Some shown) = (is_register shown.number ≡ false) ⊎ IsS
 pub data SaysNoMore (format : Format) (file : RegisterFile) (said : LineSays) : Type 0 where
   no_match : said ≡ Nothing → SaysNoMore format file said
   only_width : (place : Place) → said ≡ Width file.width place → SaysNoMore format file said
-  only_warns : said ≡ Warns → SaysNoMore format file said
+  only_warns : (warning : Warning) (number : ℕ) → said ≡ Warns warning number → SaysNoMore format file said
   only_turns : said ≡ Turns (To 0) → SaysNoMore format file said
   only_shows : (processor : Option ℕ) (shows : List (Option Shown)) → said ≡ Shows processor shows → unwrap_or processor 0 ≡ 0 → AllByRecursion (IsNoMore format file) shows → SaysNoMore format file said
 

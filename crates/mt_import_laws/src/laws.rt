@@ -6,8 +6,9 @@ ghost use Rattle.mt_import.specs.declared.format.Choice.{Choice};
 ghost use Rattle.mt_import.specs.declared.format.Choice.TheVariants.{Auto, Only};
 ghost use Rattle.mt_import.specs.declared.format.Format.{Format};
 ghost use Rattle.mt_import.specs.declared.shape.Reading.{Reading};
+ghost use Rattle.mt_import.specs.declared.shape.Warning.{Warning};
 ghost use Rattle.mt_import.specs.Import.{log_outcome, outcome_of};
-ghost use Rattle.mt_import.specs.Outcome.{Seen, Outcome, shows_fixed, shows_no_fix, warning_text};
+ghost use Rattle.mt_import.specs.Outcome.{Seen, Outcome, shows_fixed, shows_no_fix};
 ghost use Rattle.mt_import.specs.Readings.{is_width};
 ghost use Rattle.mt_import.specs.Shown.{format_of, is_auto, shown};
 ghost use Rattle.mt_import.specs.Supplied.{Supplied, supplied_value};
@@ -17,7 +18,7 @@ ghost use Rattle.mt_import_laws.specs.Notes.{AreNoted};
 ghost use Rattle.mt_import_laws.specs.Origins.{Contradict, ContradictInCapabilities, ContradictsWord, CountsPair, HasOrigins, IsAmong, IsRead, LogSaysFixed, WidthOrigin, readings_of, seen_of};
 ghost use Rattle.mt_import_laws.specs.Returns.{DifferInReturns};
 ghost use Rattle.mt_import_laws.specs.Spare.{ComeToSameWithout, HasSpareLine};
-ghost use Rattle.mt_import_laws.specs.Warnings.{HasWarning, IsWithin};
+ghost use Rattle.mt_import_laws.specs.Warnings.{HasWarning, IsWarned, TellsWarnings};
 
 /// For all logs and words: if a dump comes of them, it has a section for each processor, with the processor's values
 /// and 0FEH of processor 0. Lines of one table show each value of the processor. Or else a word supplies it. Or else
@@ -39,11 +40,11 @@ pub fn assumed_values_are_noted()
     ensures { (supplied : Supplied) (seen : Seen) (told : Outcome) (origins : HasOrigins supplied seen told) → AreNoted supplied seen origins.capabilities told.notes }
 {}
 
-/// A kernel's warning that processors differ, on a line that says nothing else, is printed on standard error, unless
-/// the log has a fault.
+/// What lines warn of is printed on standard error: each kind once, with the number of a line that warns of it, and no other.
+/// Beside a fault only what lines before it warn of. A line that says nothing else warns of what its words say.
 pub fn warnings_are_told()
-    ensures { (choice : Choice) (supplied : Supplied) (text : List ℕ) → HasWarning choice text → (log_outcome choice supplied text).status ≢ BadText
-        → IsWithin (warning_text true) (log_outcome choice supplied text).reasons }
+    ensures told { (choice : Choice) (supplied : Supplied) (text : List ℕ) → TellsWarnings choice supplied text }
+    ensures read { (choice : Choice) (text : List ℕ) (warning : Warning) (has : HasWarning choice text warning) → IsWarned choice text warning (1 + length has.before) }
 {}
 
 /// What is shown of a register is shown by a line of the log, and is of the table that the last heading begins.

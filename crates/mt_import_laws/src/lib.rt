@@ -16,10 +16,11 @@ pub use laws::{
     widths_that_differ_are_faults, words_that_contradict_are_faults,
 };
 pub use printers::{
-    auto_takes_what_is_printed, what_coreboot_displays_reads_back, what_edk2_prints_reads_back,
-    what_inteltool_prints_of_a_core_turns_to_it, what_inteltool_prints_reads_back,
-    what_linux_prints_reads_back, what_rdmsr_prints_of_all_reads_back,
-    what_rdmsr_prints_reads_back, what_x86info_prints_of_all_reads_back,
+    auto_takes_what_is_printed, what_chipsec_prints_reads_back, what_coreboot_displays_reads_back,
+    what_edk2_prints_reads_back, what_inteltool_prints_of_a_core_turns_to_it,
+    what_inteltool_prints_reads_back, what_linux_prints_reads_back,
+    what_rdmsr_prints_of_all_reads_back, what_rdmsr_prints_reads_back,
+    what_windbg_prints_reads_back, what_x86info_prints_of_all_reads_back,
     what_x86info_prints_reads_back, what_xen_prints_reads_back, worked_cpus, worked_formats,
     worked_others, worked_prints,
 };

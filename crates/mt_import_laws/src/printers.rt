@@ -2,7 +2,7 @@ ghost use Rattle.std.specs.Prelude.{◌≡◌, ◌∷◌, [], ℕ, List, Bool, t
 ghost use Rattle.mt_regs.specs.declared.registers.Register.TheVariants.{PhysBase, PhysMask};
 ghost use Rattle.mt_regs.specs.RegisterFile.{RegisterFile, pair_at};
 ghost use Rattle.mt_import.specs.declared.format.Choice.TheVariants.{Only};
-ghost use Rattle.mt_import.specs.declared.format.Format.TheVariants.{Coreboot, Edk2, Inteltool, Linux, Rdmsr, X86info, Xen};
+ghost use Rattle.mt_import.specs.declared.format.Format.TheVariants.{Chipsec, Coreboot, Edk2, Inteltool, Linux, Rdmsr, Windbg, X86info, Xen};
 ghost use Rattle.mt_dump.specs.Canon.{ended};
 ghost use Rattle.mt_import.specs.Import.{log_outcome};
 ghost use Rattle.mt_import.specs.Supplied.{Supplied, command_of};
@@ -12,6 +12,7 @@ ghost use Rattle.mt_import_laws.specs.PrintedByCoreboot.{SuitsCoreboot, Tails, c
 ghost use Rattle.mt_import_laws.specs.PrintedByEdk2.{SuitsEdk2, edk2_lines, pair_line};
 ghost use Rattle.mt_import_laws.specs.PrintedByInteltool.{CoresTurn, Names, SuitsInteltool, inteltool_lines, line_of as inteltool_line};
 ghost use Rattle.mt_import_laws.specs.PrintedByRdmsr.{SuitsRdmsr, SuitsRdmsrOfAll, all_line, call_line, hex_text, rdmsr_all_lines, rdmsr_lines, rdmsr_text};
+ghost use Rattle.mt_import_laws.specs.PrintedByRows.{chipsec_line, lines_by, windbg_line};
 ghost use Rattle.mt_import_laws.specs.PrintedByX86info.{Print, SuitsX86info, SuitsX86infoOfAll, cpu_line, cpu_lines, files_in, line_of as x86info_line, size_line, x86info_lines};
 ghost use Rattle.mt_import_laws.specs.PrintedByLinux.{Log, SuitsLinux, linux_lines};
 ghost use Rattle.mt_import_laws.specs.PrintedByXen.{SuitsXen, xen_lines};
@@ -55,6 +56,17 @@ pub fn what_x86info_prints_reads_back()
 pub fn what_x86info_prints_of_all_reads_back()
     ensures { (cpus : List (Print × RegisterFile)) (supplied : Supplied) → SuitsX86infoOfAll cpus supplied
         → ReadsAs (log_outcome (Only X86info) supplied (ended (cpu_lines 0 cpus))) (dump_of_all (files_in cpus)) }
+{}
+
+/// What WinDbg prints of each register of a file reads back as the file, if words supply its width. So does any log that has each of
+/// these lines, and besides them only lines that say no more of a dump than the file.
+pub fn what_windbg_prints_reads_back()
+    ensures { (file : RegisterFile) (supplied : Supplied) → SuitsRdmsr file supplied → TableReadsBack Windbg (lines_by windbg_line file) supplied file }
+{}
+
+/// What chipsec prints of each register of a file reads back as what WinDbg prints does.
+pub fn what_chipsec_prints_reads_back()
+    ensures { (file : RegisterFile) (supplied : Supplied) → SuitsRdmsr file supplied → TableReadsBack Chipsec (lines_by chipsec_line file) supplied file }
 {}
 
 /// What coreboot displays of a register file reads back as the file, if words supply its width and its PAT. So does any log that has
@@ -143,6 +155,8 @@ pub fn worked_prints()
     ensures words_for_xen { command_of (codes "xen" ∷ codes "maxphyaddr=36" ∷ codes "0fe=d08" ∷ codes "277=7040600070406" ∷ []) ≡ Some (Only Xen, words_for_kernels) }
     ensures by_rdmsr { (call_line 0x201 ≡ codes "+ rdmsr -p 0 0x201") × (hex_text 0xf00000800 ≡ codes "f00000800") }
     ensures by_inteltool { inteltool_line model_names ordinary_pc (Some (PhysBase 1)) ≡ codes " MSR 0x00000202 = 0x00000001:0x00000006 (IA32_MTRR_PHYSBASE1)" }
+    ensures by_windbg { windbg_line 0x202 0x100000006 ≡ codes "msr[202] = 00000001`00000006" }
+    ensures by_chipsec { chipsec_line 0x202 0x100000006 ≡ codes "[CHIPSEC] CPU0: RDMSR( 0x202 ) = 0000000100000006 (EAX=00000006, EDX=00000001)" }
     ensures by_x86info { x86info_line x86info_print ordinary_pc (Some (PhysMask 3))
         ≡ codes "MTRRphysMask3 (0x207): 0x0000000fe0000800 (physmask field:0xfe0000 valid flag: 1)" }
     ensures sizes_by_x86info { size_line 36 48 ≡ codes "Address sizes : 36 bits physical, 48 bits virtual" }

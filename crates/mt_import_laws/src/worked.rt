@@ -8,6 +8,7 @@ ghost use Rattle.mt_import_laws.specs.Returns.{DifferInReturns, GetsReturn};
 ghost use Rattle.mt_import_laws.specs.Worked.{IsWorked, IsWorkedFixed, IsWorkedSwitch, IsWorkedWord, headed_log, returned_log, spaced_log, warning_log, worked_choice, worked_log};
 ghost use Rattle.mt_import_laws.specs.Spare.{HasSpareLine, TakesNoneBack};
 ghost use Rattle.mt_import_laws.specs.Warnings.{HasWarning};
+ghost use Rattle.mt_import.specs.declared.shape.Warning.TheVariants.{Unlike};
 
 /// An instance of `contradictions_are_faults`: the lines of a log of two lines are read, and contradict each other.
 pub fn worked_contradiction()
@@ -31,7 +32,7 @@ pub fn worked_switch()
 
 /// An instance of `warnings_are_told`: a kernel's warning in a log of rdmsr.
 pub fn worked_warning()
-    ensures { HasWarning worked_choice warning_log }
+    ensures { HasWarning worked_choice warning_log Unlike }
 {}
 
 /// An instance of `returns_change_nothing`: a line of a log gets a CR. One that stays gets none, and none is a second one or past the longest line.

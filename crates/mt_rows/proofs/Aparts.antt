@@ -6,15 +6,15 @@ use Rattle.std.proofs.lemmas.Bool.Decides.{nat_tests}
 use Rattle.std.proofs.lemmas.List.{drop-drop}
 use Rattle.mt_text.specs.Text.{ends_word, without_return}
 use Rattle.mt_rows.specs.declared.row.Kind.{Kind}
-use Rattle.mt_rows.specs.declared.row.Kind.TheVariants.{Blank, Mark, Ex, Hexadecimal, Decimal}
+use Rattle.mt_rows.specs.declared.row.Kind.TheVariants.{Blank, Mark, Ex, Hexadecimal, Decimal, Between, Number, Figure}
 use Rattle.mt_rows.specs.declared.row.Fields.{Fields}
 use Rattle.mt_rows.specs.Scan.{Item, and_then, has, is_end, is_within, items, no_fields, pushed, run_size, scan}
 use Rattle.mt_rows.specs.Scan.Item.{byte, last, run}
 use Rattle.mt_rows.specs.Printed.{Relation, are_apart, relation}
-use Rattle.mt_rows.specs.Printed.Relation.{alike, apart, around, inside}
+use Rattle.mt_rows.specs.Printed.Relation.{alike, apart, around, crossing, inside}
 use Rattle.mt_rows.specs.Apart.{reads, rows_apart}
 use Rattle.mt_rows.specs.Laws.{OneRow}
-use Rattle.mt_rows.proofs.Prints.{ends_apart, kinds_apart, not_true}
+use Rattle.mt_rows.proofs.Prints.{ends_apart, few, kinds_apart, not_true}
 
 -- ---- what isn't read shows nothing
 
@@ -49,20 +49,41 @@ one_more kind x xs is = rw is refl
 inside_has : (a b : Kind) (x : ℕ) → relation a b ≡ inside → has a x ≡ true → has b x ≡ true
 inside_has Blank Blank x is there = cc is
 inside_has Mark Mark x is there = cc is
+inside_has Between Between x is there = cc is
+inside_has Blank Between x is there = grind (arith, nat_tests)
 inside_has Ex Mark x is there = grind (arith, nat_tests)
 inside_has Hexadecimal Mark x is there = grind (arith, nat_tests)
 inside_has Decimal Mark x is there = grind (arith, nat_tests)
 inside_has Decimal Hexadecimal x is there = grind (arith, nat_tests)
+inside_has Number Mark x is there = grind (arith, nat_tests)
+inside_has Figure Mark x is there = grind (arith, nat_tests)
+inside_has Ex Number x is there = grind (arith, nat_tests)
+inside_has Hexadecimal Number x is there = grind (arith, nat_tests)
+inside_has Decimal Number x is there = grind (arith, nat_tests)
+inside_has Ex Figure x is there = grind (arith, nat_tests)
+inside_has Hexadecimal Figure x is there = grind (arith, nat_tests)
+inside_has Decimal Figure x is there = grind (arith, nat_tests)
+inside_has Number Figure x is there = grind (arith, nat_tests)
 inside_has a b x is there = cc is
 
 turned : (a b : Kind) → relation a b ≡ around → relation b a ≡ inside
 turned Blank Blank is = cc is
 turned Ex Ex is = cc is
 turned Decimal Decimal is = cc is
+turned Between Blank is = refl
 turned Mark Ex is = refl
 turned Mark Hexadecimal is = refl
 turned Mark Decimal is = refl
+turned Mark Number is = refl
+turned Mark Figure is = refl
 turned Hexadecimal Decimal is = refl
+turned Number Ex is = refl
+turned Number Hexadecimal is = refl
+turned Number Decimal is = refl
+turned Figure Ex is = refl
+turned Figure Hexadecimal is = refl
+turned Figure Decimal is = refl
+turned Figure Number is = refl
 turned a b is = cc is
 
 same_kind : (a b : Kind) → relation a b ≡ alike → a ≡ b
@@ -71,6 +92,9 @@ same_kind Mark Mark is = refl
 same_kind Ex Ex is = refl
 same_kind Hexadecimal Hexadecimal is = refl
 same_kind Decimal Decimal is = refl
+same_kind Between Between is = refl
+same_kind Number Number is = refl
+same_kind Figure Figure is = refl
 same_kind a b is = cc is
 
 -- one of two runs of kinds that are apart is empty
@@ -94,12 +118,6 @@ shorter a b (x ∷ xs) is = by (has a x) refl (shorter a b xs is)
     by false there later = rw there (omega arith)
 
 -- ---- rows
-
-few : (least most : ℕ) → is_within least most 0 ≡ true → nat_le 1 least ≡ false
-few least most within = let p = and_parts (nat_le least 0) (nat_le 0 most) within in by least p.0
-  where
-    by : (least : ℕ) → nat_le least 0 ≡ true → nat_le 1 least ≡ false
-    by least is = grind (arith, nat_tests)
 
 -- an empty run
 record IsEmpty (least : ℕ) (items : List Item) (rest : List ℕ) : Type 0 where
@@ -245,6 +263,7 @@ next n fewer (run kind least most ∷ p) (run other fewest highest ∷ q) rest i
               && elim (nat_le 1 fewest) [ true ↦ true | false ↦ rows_apart n (run kind least most ∷ p) q ]
           | inside ↦ rows_apart n p (run other 0 highest ∷ q)
           | around ↦ rows_apart n (run kind 0 most ∷ p) q
+          | crossing ↦ false
         ] ≡ true → ⊥
     by alike r is =
         let e : run_size other rest ≡ run_size kind rest = ap (λ k. run_size k rest) (sym (same_kind kind other r)) in
@@ -255,6 +274,7 @@ next n fewer (run kind least most ∷ p) (run other fewest highest ∷ q) rest i
         away (one_empty kind other rest (rw r refl)) h.0 h.1
     by inside r is = fewer p (run other 0 highest ∷ q) (drop (run_size kind rest) rest) is f.1 (behind_inner kind other fewest highest q rest r two)
     by around r is = fewer (run kind 0 most ∷ p) q (drop (run_size other rest) rest) is (behind_inner other kind least most p rest (turned kind other r) one) g.1
+    by crossing r is = cc is
 
 both : (n : ℕ) → ReadsNotBoth n
 both zero p q rest is one two = cc is

@@ -1,5 +1,5 @@
 -- A line that is cut within its last text isn't read.
-use Rattle.std.proofs.Common.{◌≡◌, ◌&&◌, ◌++◌, ◌-◌, ℕ, true, false, nat_le, nat_lt, List, [], ◌∷◌, length, refl, arith}
+use Rattle.std.proofs.Common.{◌≡◌, ◌&&◌, ◌||◌, ◌++◌, ◌-◌, ℕ, true, false, nat_le, nat_lt, List, [], ◌∷◌, length, refl, arith}
 use Rattle.std.specs.List.{list_all}
 use Rattle.std.proofs.Math.Seq.{drop-append_seam, take-append_seam}
 use Rattle.std.proofs.lemmas.Bool.{and_parts}
@@ -9,7 +9,7 @@ use Rattle.mt_rows.specs.Scan.{Item, has, is_within}
 use Rattle.mt_rows.specs.Scan.Item.{byte, last, run}
 use Rattle.mt_rows.specs.Printed.{are_apart, is_cut, is_known, is_parted, noted, printed, stops}
 use Rattle.mt_rows.specs.Laws.{CutIsNotRead}
-use Rattle.mt_rows.proofs.Prints.{is_stopped, kinds_apart, pushed_is, run_text, same, some}
+use Rattle.mt_rows.proofs.Prints.{few, is_stopped, kinds_apart, or_later, pushed_is, run_text, same}
 
 stops_cut : (kind : Kind) (items : List Item) (texts : List (List ℕ)) → stops kind items ≡ true → is_cut items texts ≡ true → is_stopped kind (printed items texts []) ≡ true
 stops_cut kind [] texts stop cut = cc cut
@@ -18,19 +18,19 @@ stops_cut kind (last ∷ items) texts stop cut = cc cut
 stops_cut kind (run next least most ∷ items) [] stop cut = cc cut
 stops_cut kind (run next least most ∷ []) ([] ∷ texts) stop cut = refl
 stops_cut kind (run next least most ∷ []) ((x ∷ text) ∷ texts) stop cut =
-    let p = and_parts (nat_le 1 least) (are_apart kind next) stop in
+    let p = and_parts (are_apart kind next) (nat_le 1 least || stops kind []) stop in
     let f = and_parts (list_all (has next) (x ∷ text)) (nat_lt (length (x ∷ text)) least) cut in
-    kinds_apart kind next x p.1 (and_parts (has next x) (list_all (has next) text) f.0).0
+    kinds_apart kind next x p.0 (and_parts (has next x) (list_all (has next) text) f.0).0
 stops_cut kind (run next least most ∷ item ∷ items) ([] ∷ texts) stop cut =
-    let p = and_parts (nat_le 1 least) (are_apart kind next) stop in
+    let p = and_parts (are_apart kind next) (nat_le 1 least || stops kind (item ∷ items)) stop in
     let f = and_parts (is_within least most 0 && is_known next []) (is_cut (item ∷ items) texts) cut in
-    absurd (some least most p.0 (and_parts (is_within least most 0) (is_known next []) f.0).0)
+    stops_cut kind (item ∷ items) texts (or_later (nat_le 1 least) (stops kind (item ∷ items)) p.1 (few least most (and_parts (is_within least most 0) (is_known next []) f.0).0)) f.1
 stops_cut kind (run next least most ∷ item ∷ items) ((x ∷ text) ∷ texts) stop cut =
-    let p = and_parts (nat_le 1 least) (are_apart kind next) stop in
+    let p = and_parts (are_apart kind next) (nat_le 1 least || stops kind (item ∷ items)) stop in
     let f = and_parts (list_all (has next) (x ∷ text) && is_within least most (length (x ∷ text)) && is_known next (x ∷ text)) (is_cut (item ∷ items) texts) cut in
     let e = and_parts (list_all (has next) (x ∷ text) && is_within least most (length (x ∷ text))) (is_known next (x ∷ text)) f.0 in
     let g = and_parts (list_all (has next) (x ∷ text)) (is_within least most (length (x ∷ text))) e.0 in
-    kinds_apart kind next x p.1 (and_parts (has next x) (list_all (has next) text) g.0).0
+    kinds_apart kind next x p.0 (and_parts (has next x) (list_all (has next) text) g.0).0
 
 too_short : (least most size : ℕ) → nat_lt size least ≡ true → is_within least most size ≡ false
 too_short least most size short = let wrong : nat_le least size ≡ false = by least size short in rw wrong refl

@@ -1,5 +1,5 @@
 -- What a row prints it reads.
-use Rattle.std.proofs.Common.{◌≡◌, ◌==◌, ◌&&◌, ◌-◌, ℕ, Bool, true, false, not, nat_le, List, [], ◌∷◌, ◌++◌, length, Result, Ok, Err, Some, refl, arith}
+use Rattle.std.proofs.Common.{◌≡◌, ◌==◌, ◌&&◌, ◌||◌, ◌-◌, ℕ, Bool, true, false, not, nat_le, List, [], ◌∷◌, ◌++◌, length, Result, Ok, Err, Some, refl, arith}
 use Rattle.std.specs.List.{list_all}
 use Rattle.std.proofs.Math.Seq.{drop-append_seam, take-append_seam}
 use Rattle.std.proofs.lemmas.Bool.{and_parts}
@@ -8,9 +8,9 @@ use Rattle.mt_text.specs.Number.{decimal_number, hex_number}
 use Rattle.mt_text.specs.Text.{ends_word}
 use Rattle.mt_text.specs.declared.fault.NumberFault.{NumberFault}
 use Rattle.mt_rows.specs.declared.row.Kind.{Kind}
-use Rattle.mt_rows.specs.declared.row.Kind.TheVariants.{Blank, Mark, Ex, Hexadecimal, Decimal}
+use Rattle.mt_rows.specs.declared.row.Kind.TheVariants.{Blank, Mark, Ex, Hexadecimal, Decimal, Between, Number, Figure}
 use Rattle.mt_rows.specs.declared.row.Fields.{Fields}
-use Rattle.mt_rows.specs.Scan.{Item, has, is_within, pushed, pushed_number, run_size}
+use Rattle.mt_rows.specs.Scan.{Item, has, is_marked, is_within, pushed, pushed_number, run_size}
 use Rattle.mt_rows.specs.Scan.Item.{byte, last, run}
 use Rattle.mt_rows.specs.Printed.{are_apart, fit, is_known, is_number, is_parted, may_follow, noted, noted_number, printed, stops}
 use Rattle.mt_rows.specs.Laws.{PrintedIsRead}
@@ -40,6 +40,20 @@ kinds_apart Blank Mark x is there = grind (arith, nat_tests)
 kinds_apart Blank Ex x is there = grind (arith, nat_tests)
 kinds_apart Blank Hexadecimal x is there = grind (arith, nat_tests)
 kinds_apart Blank Decimal x is there = grind (arith, nat_tests)
+kinds_apart Blank Number x is there = grind (arith, nat_tests)
+kinds_apart Blank Figure x is there = grind (arith, nat_tests)
+kinds_apart Between Ex x is there = grind (arith, nat_tests)
+kinds_apart Between Hexadecimal x is there = grind (arith, nat_tests)
+kinds_apart Between Decimal x is there = grind (arith, nat_tests)
+kinds_apart Between Number x is there = grind (arith, nat_tests)
+kinds_apart Between Figure x is there = grind (arith, nat_tests)
+kinds_apart Ex Between x is there = grind (arith, nat_tests)
+kinds_apart Hexadecimal Between x is there = grind (arith, nat_tests)
+kinds_apart Decimal Between x is there = grind (arith, nat_tests)
+kinds_apart Number Blank x is there = grind (arith, nat_tests)
+kinds_apart Number Between x is there = grind (arith, nat_tests)
+kinds_apart Figure Blank x is there = grind (arith, nat_tests)
+kinds_apart Figure Between x is there = grind (arith, nat_tests)
 kinds_apart Mark Blank x is there = grind (arith, nat_tests)
 kinds_apart Ex Blank x is there = grind (arith, nat_tests)
 kinds_apart Ex Hexadecimal x is there = grind (arith, nat_tests)
@@ -57,12 +71,20 @@ ends_apart Mark x is ends = rw ends refl
 ends_apart Ex x is ends = grind (arith, nat_tests)
 ends_apart Hexadecimal x is ends = grind (arith, nat_tests)
 ends_apart Decimal x is ends = grind (arith, nat_tests)
+ends_apart Between x is ends = cc is
+ends_apart Number x is ends = grind (arith, nat_tests)
+ends_apart Figure x is ends = grind (arith, nat_tests)
 
-pub some : (least most : ℕ) → nat_le 1 least ≡ true → is_within least most 0 ≡ true → ⊥
-some least most more within = let p = and_parts (nat_le least 0) (nat_le 0 most) within in clash least more p.0
+-- an empty text is in a run that needs no bytes
+pub few : (least most : ℕ) → is_within least most 0 ≡ true → nat_le 1 least ≡ false
+few least most within = let p = and_parts (nat_le least 0) (nat_le 0 most) within in by least p.0
   where
-    clash : (least : ℕ) → nat_le 1 least ≡ true → nat_le least 0 ≡ true → ⊥
-    clash least one none = grind (arith, nat_tests)
+    by : (least : ℕ) → nat_le least 0 ≡ true → nat_le 1 least ≡ false
+    by least is = grind (arith, nat_tests)
+
+pub or_later : (test later : Bool) → (test || later) ≡ true → test ≡ false → later ≡ true
+or_later true later is wrong = cc wrong
+or_later false later is wrong = is
 
 stops_there : (kind : Kind) (items : List Item) (texts : List (List ℕ)) (tail : List ℕ) → stops kind items ≡ true → fit items texts ≡ true → may_follow items tail ≡ true
     → is_stopped kind (printed items texts tail) ≡ true
@@ -74,15 +96,15 @@ stops_there kind (last ∷ item ∷ items) texts tail stop fits ends = cc ends
 stops_there kind (byte b ∷ items) texts tail stop fits ends = stop
 stops_there kind (run next least most ∷ items) [] tail stop fits ends = cc fits
 stops_there kind (run next least most ∷ items) ([] ∷ texts) tail stop fits ends =
-    let p = and_parts (nat_le 1 least) (are_apart kind next) stop in
+    let p = and_parts (are_apart kind next) (nat_le 1 least || stops kind items) stop in
     let f = and_parts (is_within least most 0 && is_known next []) (fit items texts) fits in
-    absurd (some least most p.0 (and_parts (is_within least most 0) (is_known next []) f.0).0)
+    stops_there kind items texts tail (or_later (nat_le 1 least) (stops kind items) p.1 (few least most (and_parts (is_within least most 0) (is_known next []) f.0).0)) f.1 ends
 stops_there kind (run next least most ∷ items) ((x ∷ text) ∷ texts) tail stop fits ends =
-    let p = and_parts (nat_le 1 least) (are_apart kind next) stop in
+    let p = and_parts (are_apart kind next) (nat_le 1 least || stops kind items) stop in
     let f = and_parts (list_all (has next) (x ∷ text) && is_within least most (length (x ∷ text)) && is_known next (x ∷ text)) (fit items texts) fits in
     let e = and_parts (list_all (has next) (x ∷ text) && is_within least most (length (x ∷ text))) (is_known next (x ∷ text)) f.0 in
     let g = and_parts (list_all (has next) (x ∷ text)) (is_within least most (length (x ∷ text))) e.0 in
-    kinds_apart kind next x p.1 (and_parts (has next x) (list_all (has next) text) g.0).0
+    kinds_apart kind next x p.0 (and_parts (has next x) (list_all (has next) text) g.0).0
 
 -- ---- the whole row
 
@@ -96,6 +118,11 @@ pushed_is Mark column text fields known = refl
 pushed_is Ex column text fields known = refl
 pushed_is Hexadecimal column text fields known = number_is (hex_number text) column fields known
 pushed_is Decimal column text fields known = number_is (decimal_number text 0xffffffffffffffff) column fields known
+pushed_is Between column text fields known = refl
+pushed_is Number column text fields known =
+    let p = and_parts (not (is_marked text)) (is_number (hex_number text)) known in
+    rw (not_true (is_marked text) p.0) (number_is (hex_number text) column fields p.1)
+pushed_is Figure column text fields known = refl
 
 pub printed_is_read : PrintedIsRead
 printed_is_read size [] texts tail fields parted fits ends = rw ends refl

@@ -8,7 +8,7 @@ use Rattle.mt_rows.specs.declared.row.Kind.TheVariants.{Blank}
 use Rattle.mt_rows.specs.Scan.{Item, Part, has, is_empty, is_end, is_within, items, run_size}
 use Rattle.mt_rows.specs.Scan.Item.{byte, last, run}
 use Rattle.mt_rows.specs.Printed.{are_apart, relation}
-use Rattle.mt_rows.specs.Printed.Relation.{alike, apart, inside, around}
+use Rattle.mt_rows.specs.Printed.Relation.{alike, apart, inside, around, crossing}
 
 abbrev pub reads : List Item → List ℕ → Bool
 reads [] rest = is_end rest
@@ -46,6 +46,7 @@ rows_apart (suc n) (run kind least most ∷ p) (run other fewest highest ∷ q) 
           && elim (nat_le 1 fewest) [ true ↦ true | false ↦ rows_apart n (run kind least most ∷ p) q ]
       | inside ↦ rows_apart n p (run other 0 highest ∷ q)
       | around ↦ rows_apart n (run kind 0 most ∷ p) q
+      | crossing ↦ false
     ]
 
 abbrev pub apart_from : List Part → List Part → Bool

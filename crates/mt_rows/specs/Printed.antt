@@ -3,14 +3,14 @@
 --     fit items texts      each text may stand in its run
 --     shown size items texts tail fields      the numbers of these texts
 --     is_parted items      each run ends where its text does
-use Rattle.std.specs.Prelude.{ℕ, ◌-◌, ◌&&◌, nat_le, nat_lt, not, Bool, true, false, List, [], ◌∷◌, ◌++◌, length, Result, Ok, Err}
+use Rattle.std.specs.Prelude.{ℕ, ◌-◌, ◌&&◌, ◌||◌, nat_le, nat_lt, not, Bool, true, false, List, [], ◌∷◌, ◌++◌, length, Result, Ok, Err}
 use Rattle.std.specs.List.{list_all}
 use Rattle.mt_text.specs.Number.{decimal_number, hex_number}
 use Rattle.mt_text.specs.declared.fault.NumberFault.{NumberFault}
 use Rattle.mt_rows.specs.declared.row.Kind.{Kind}
-use Rattle.mt_rows.specs.declared.row.Kind.TheVariants.{Blank, Mark, Ex, Hexadecimal, Decimal}
+use Rattle.mt_rows.specs.declared.row.Kind.TheVariants.{Blank, Mark, Ex, Hexadecimal, Decimal, Between, Number, Figure}
 use Rattle.mt_rows.specs.declared.row.Fields.{Fields}
-use Rattle.mt_rows.specs.Scan.{Item, has, is_empty, is_end, is_within, push}
+use Rattle.mt_rows.specs.Scan.{Item, has, is_empty, is_end, is_marked, is_within, push}
 use Rattle.mt_rows.specs.Scan.Item.{byte, last, run}
 
 abbrev pub printed : List Item → List (List ℕ) → List ℕ → List ℕ
@@ -31,6 +31,9 @@ is_known Mark text = true
 is_known Ex text = true
 is_known Hexadecimal text = is_number (hex_number text)
 is_known Decimal text = is_number (decimal_number text 0xffffffffffffffff)
+is_known Between text = true
+is_known Number text = not (is_marked text) && is_number (hex_number text)
+is_known Figure text = true
 
 -- each text is of its run's kind, and so long
 abbrev pub fit : List Item → List (List ℕ) → Bool
@@ -51,6 +54,9 @@ noted Mark column text fields = fields
 noted Ex column text fields = fields
 noted Hexadecimal column text fields = noted_number (hex_number text) column fields
 noted Decimal column text fields = noted_number (decimal_number text 0xffffffffffffffff) column fields
+noted Between column text fields = fields
+noted Number column text fields = noted_number (hex_number text) column fields
+noted Figure column text fields = fields
 
 abbrev pub shown : ℕ → List Item → List (List ℕ) → List ℕ → Fields → Fields
 shown size [] texts tail fields = fields
@@ -66,14 +72,28 @@ pub data Relation : Type 0 where
   apart : Relation
   inside : Relation
   around : Relation
+  crossing : Relation
 
 abbrev pub relation : Kind → Kind → Relation
 relation Blank Blank = alike
+relation Blank Between = inside
 relation Blank kind = apart
+relation Between Between = alike
+relation Between Blank = around
+relation Between Mark = crossing
+relation Between kind = apart
+relation Mark Between = crossing
 relation kind Blank = apart
+relation kind Between = apart
 relation Mark Mark = alike
 relation Mark kind = around
 relation kind Mark = inside
+relation Figure Figure = alike
+relation Figure kind = around
+relation kind Figure = inside
+relation Number Number = alike
+relation Number kind = around
+relation kind Number = inside
 relation Ex Ex = alike
 relation Ex kind = apart
 relation kind Ex = apart
@@ -87,6 +107,7 @@ is_apart alike = false
 is_apart apart = true
 is_apart inside = false
 is_apart around = false
+is_apart crossing = false
 
 -- no byte is of both kinds
 abbrev pub are_apart : Kind → Kind → Bool
@@ -97,7 +118,7 @@ abbrev pub stops : Kind → List Item → Bool
 stops kind [] = are_apart kind Blank
 stops kind (byte b ∷ items) = not (has kind b)
 stops kind (last ∷ items) = true
-stops kind (run next least most ∷ items) = nat_le 1 least && are_apart kind next
+stops kind (run next least most ∷ items) = are_apart kind next && (nat_le 1 least || stops kind items)
 
 abbrev pub is_parted : List Item → Bool
 is_parted [] = true

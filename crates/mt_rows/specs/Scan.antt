@@ -10,13 +10,16 @@ use Rattle.mt_text.specs.Number.{decimal_number, hex_number, is_decimal_digit}
 use Rattle.mt_text.specs.Text.{ends_word, is_blank, without_return}
 use Rattle.mt_text.specs.declared.fault.NumberFault.{NumberFault}
 use Rattle.mt_rows.specs.declared.row.Kind.{Kind}
-use Rattle.mt_rows.specs.declared.row.Kind.TheVariants.{Blank, Mark, Ex, Hexadecimal, Decimal}
+use Rattle.mt_rows.specs.declared.row.Kind.TheVariants.{Blank, Mark, Ex, Hexadecimal, Decimal, Between, Number, Figure}
 use Rattle.mt_rows.specs.declared.row.Run.{Run}
 use Rattle.mt_rows.specs.declared.row.Run.TheVariants.{Nothing, End, Of}
 use Rattle.mt_rows.specs.declared.row.Field.{Field}
 use Rattle.mt_rows.specs.declared.row.Fields.{Fields}
 
 -- ---- runs
+
+abbrev pub is_digit : ℕ → Bool
+is_digit byte = is_hex_digit byte
 
 -- a byte may stand in a run of this kind
 abbrev pub has : Kind → ℕ → Bool
@@ -25,6 +28,9 @@ has Mark byte = not (ends_word byte)
 has Ex byte = byte == 120 || byte == 88
 has Hexadecimal byte = is_hex_digit byte
 has Decimal byte = is_decimal_digit byte
+has Between byte = is_blank byte || byte == 61 || byte == 58 || byte == 44 || byte == 59
+has Number byte = is_digit byte || byte == 120 || byte == 88
+has Figure byte = is_digit byte || byte == 120 || byte == 88 || byte == 104 || byte == 72
 
 -- how many bytes of a kind stand in front
 abbrev pub run_size : Kind → List ℕ → ℕ
@@ -64,6 +70,12 @@ abbrev pub pushed_number : Result ℕ NumberFault → ℕ → Fields → Option 
 pushed_number (Ok number) column fields = Some (push fields number column)
 pushed_number (Err fault) column fields = None
 
+-- `0d` stands in front, as of a decimal number
+abbrev pub is_marked : List ℕ → Bool
+is_marked [] = false
+is_marked (byte ∷ []) = false
+is_marked (zero_digit ∷ mark ∷ digits) = zero_digit == 48 && mark == 100
+
 -- the numbers behind a run, which shows one if it is of digits
 abbrev pub pushed : Kind → ℕ → List ℕ → Fields → Option Fields
 pushed Blank column text fields = Some fields
@@ -71,6 +83,9 @@ pushed Mark column text fields = Some fields
 pushed Ex column text fields = Some fields
 pushed Hexadecimal column text fields = pushed_number (hex_number text) column fields
 pushed Decimal column text fields = pushed_number (decimal_number text 0xffffffffffffffff) column fields
+pushed Between column text fields = Some fields
+pushed Number column text fields = if is_marked text then None else pushed_number (hex_number text) column fields
+pushed Figure column text fields = Some fields
 
 -- ---- rows
 

@@ -7,6 +7,7 @@ mod scan;
 
 pub use laws::{a_line_is_of_one_row, what_is_cut_is_not_read, what_is_printed_is_read};
 pub use row::{
-    BLANKS, DECIMAL, EX, Field, Fields, HEX, HEX_8, HEX_16, Kind, MARKS, Part, Run, SPACE, WORD,
+    BETWEEN, BLANKS, DECIMAL, EX, FIGURE, FIGURES, Field, Fields, HEX, HEX_8, HEX_16, Kind, MARKS,
+    NUMBER, Part, Run, SPACE, WORD,
 };
 pub use scan::scanned;

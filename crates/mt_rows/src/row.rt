@@ -11,6 +11,12 @@ pub enum Kind {
     Hexadecimal,
     /// The digits of a decimal number.
     Decimal,
+    /// What stands between two numbers: blanks, `=`, `:`, `,` and `;`.
+    Between,
+    /// A hexadecimal number with or without `0x`. Behind `0d` it may be decimal, so such a run shows no number.
+    Number,
+    /// Bytes that stand in numbers of any form: hexadecimal digits, `x`, `X`, `h` and `H`.
+    Figure,
 }
 
 /// What stands behind the bytes of a part.
@@ -74,3 +80,15 @@ pub const HEX_16: Run = Run::Of(Kind::Hexadecimal, 16, 16);
 
 /// A decimal number below 2^64.
 pub const DECIMAL: Run = Run::Of(Kind::Decimal, 1, 20);
+
+/// Blanks and signs between two numbers.
+pub const BETWEEN: Run = Run::Of(Kind::Between, 1, 4096);
+
+/// A hexadecimal number with or without `0x`.
+pub const NUMBER: Run = Run::Of(Kind::Number, 1, 18);
+
+/// A number that isn't read.
+pub const FIGURE: Run = Run::Of(Kind::Figure, 1, 4096);
+
+/// The rest of a number, which isn't read.
+pub const FIGURES: Run = Run::Of(Kind::Figure, 0, 4096);

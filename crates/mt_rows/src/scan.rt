@@ -1,7 +1,7 @@
 ghost use Rattle.std.specs.Prelude.{◌≡◌, ◌≤◌, drop, length, IfSome};
 ghost use Rattle.mt_text.specs.Number.{decimal_number, hex_number};
 ghost use Rattle.mt_text.specs.Text.{ends_word, is_blank};
-ghost use Rattle.mt_rows.specs.Scan.{has, is_empty, is_end, is_within, part_read, parts_at, push, pushed, pushed_number, read_by, run_read, run_size, scanned};
+ghost use Rattle.mt_rows.specs.Scan.{has, is_digit, is_empty, is_marked, is_end, is_within, part_read, parts_at, push, pushed, pushed_number, read_by, run_read, run_size, scanned};
 
 use crate::row::{Field, Fields, Kind, Part, Run};
 use mt_text::{NumberFault, decimal, hex64, without_ending};
@@ -18,6 +18,12 @@ fn ends_word(byte: u8) -> bool
     is_blank(byte) || byte == b'#'
 }
 
+fn is_digit(byte: u8) -> bool
+    ensures { result ≡ is_digit byte }
+{
+    matches!(byte, b'0'..=b'9' | b'a'..=b'f' | b'A'..=b'F')
+}
+
 fn has(kind: Kind, byte: u8) -> bool
     ensures { result ≡ has kind byte }
 {
@@ -25,8 +31,11 @@ fn has(kind: Kind, byte: u8) -> bool
         Kind::Blank => is_blank(byte),
         Kind::Mark => !ends_word(byte),
         Kind::Ex => byte == b'x' || byte == b'X',
-        Kind::Hexadecimal => matches!(byte, b'0'..=b'9' | b'a'..=b'f' | b'A'..=b'F'),
+        Kind::Hexadecimal => is_digit(byte),
         Kind::Decimal => b'0' <= byte && byte <= b'9',
+        Kind::Between => is_blank(byte) || matches!(byte, b'=' | b':' | b',' | b';'),
+        Kind::Number => is_digit(byte) || matches!(byte, b'x' | b'X'),
+        Kind::Figure => is_digit(byte) || matches!(byte, b'x' | b'X' | b'h' | b'H'),
     }
 }
 
@@ -88,12 +97,21 @@ fn pushed_number(number: Result<u64, NumberFault>, column: usize, fields: Fields
     }
 }
 
+// Whether `0d` stands in front, as of a decimal number.
+fn is_marked(text: &[u8]) -> bool
+    ensures { result ≡ is_marked text.now }
+{
+    matches!(text, [b'0', b'd', ..])
+}
+
 // The numbers behind a run.
 fn pushed(kind: Kind, column: usize, text: &[u8], fields: Fields) -> Option<Fields>
     ensures { result ≡ pushed kind column text.now fields }
 {
     match kind {
-        Kind::Blank | Kind::Mark | Kind::Ex => Some(fields),
+        Kind::Blank | Kind::Mark | Kind::Ex | Kind::Between | Kind::Figure => Some(fields),
+        Kind::Number if is_marked(text) => None,
+        Kind::Number => pushed_number(hex64(text), column, fields),
         Kind::Hexadecimal => pushed_number(hex64(text), column, fields),
         Kind::Decimal => pushed_number(decimal(text, u64::MAX), column, fields),
     }

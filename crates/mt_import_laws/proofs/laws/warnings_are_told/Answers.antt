@@ -1,5 +1,5 @@
-use Rattle.mt_import_laws.proofs.Warnings.{warning_told}
+use Rattle.mt_import_laws.proofs.Warnings.{warned_of, warnings_told}
 use Rattle.mt_import_laws.proofs.laws.warnings_are_told.Goals as goal
 
 pub returns : goal.returns
-returns c = warning_told
+returns c = record { told = warnings_told; read = warned_of }

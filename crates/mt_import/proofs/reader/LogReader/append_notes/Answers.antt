@@ -1,19 +1,14 @@
-use Rattle.std.proofs.Common.{arith, map, take}
-use Rattle.mt_regs.specs.Registers.{number_of, writable}
-use Rattle.mt_import.proofs.Parts.{grows, notes_more, some_at}
-use Rattle.mt_import.specs.Reader.{firm_in, note_line_in, note_lines_in, values_in}
+use Rattle.std.proofs.Common.{arith, refl, take}
+use Rattle.mt_import.proofs.Parts.{grows, texts_more}
+use Rattle.mt_import.specs.Reader.{note_line_in, note_lines_in}
 use Rattle.mt_import.proofs.reader.LogReader.append_notes.Goals as goal
-
-pub unreachable-requires : goal.unreachable-requires
-unreachable-requires c = some_at (writable c.args.file.now) c.registers.i (omega (arith, c.registers-test.true, c.count-i-end.ensures.count)) c.in_default.ensures.at
 
 pub registers-preserved : goal.registers-preserved
 registers-preserved c =
-    let supplied = c.args.supplied.now in
-    let reader = c.args.self.now in
+    let one = note_line_in c.args.supplied.now c.args.self.now in
+    let all = note_lines_in c.args.supplied.now c.args.self.now in
     record {
-      text = grows (note_line_in supplied reader) c.number.result (number_of c.in-Some.register) c.args.text.now.items
-          (note_lines_in supplied reader (map number_of (take c.registers.i (writable c.args.file.now)))) _ _ _ c.number.ensures c.append_note.ensures.text c.registers.invariant.text
-          (notes_more (firm_in supplied reader) (values_in supplied reader) reader.processors c.registers.i (writable c.args.file.now) c.in-Some.register c.in-Some.ensures.at);
+      text = grows one c.number_at.result c.args.text.now.items (all (take c.registers.i c.args.numbers.now)) _ _ _ c.append_note.ensures.text c.registers.invariant.text
+          (texts_more one all refl (λ n ns. refl) c.registers.i c.args.numbers.now c.number_at.result c.number_at.ensures.at);
       short = omega (arith, c.append_note.ensures.size, c.registers.invariant.short);
     }

@@ -1,12 +1,10 @@
 use Rattle.std.proofs.Common.{◌∙◌, ap, Some}
-use Rattle.mt_import.specs.Outcome.{hint_of}
 use Rattle.mt_import.specs.Reader.{slots_of}
 use Rattle.mt_import.specs.Supplied.{all_assumed}
 use Rattle.mt_import.specs.Values.{assumed_value, or_supplied}
-use Rattle.mt_import.proofs.reader.LogReader.hint.Goals as goal
+use Rattle.mt_import.proofs.reader.LogReader.hint_by.Goals as goal
 
 pub returns : goal.returns
-unfolding hint_of
 returns c =
     let slots = slots_of c.args.self.now 0 in
     c.assumed_value.ensures
