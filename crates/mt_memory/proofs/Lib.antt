@@ -1,0 +1,6 @@
+pub mod Fed
+pub mod Joined
+pub mod Laid
+pub mod MapReads
+pub mod Origins
+pub mod Spare

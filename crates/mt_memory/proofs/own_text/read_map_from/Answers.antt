@@ -1,0 +1,9 @@
+use Rattle.std.proofs.Common.{refl, subst, sym}
+use Rattle.mt_memory.specs.MapText.{finished, map_from, reads_nothing, taken}
+use Rattle.mt_memory.specs.Steps.{Leads}
+use Rattle.mt_memory.proofs.own_text.read_map_from.Goals as goal
+
+pub returns-clause-answer : goal.returns-clause-answer
+returns-clause-answer g c = λ bytes is.
+    c.read_lines.ensures.answer (λ lines end. map_from reads_nothing 1 lines end) bytes
+    (subst (λ s. Leads taken finished s 1 (λ lines end. map_from reads_nothing 1 lines end)) (sym c.new.ensures) (λ lines end. refl)) is

@@ -1,0 +1,11 @@
+use Rattle.std.proofs.Common.{refl}
+use Rattle.mt_memory.specs.Showing.{e820, told_in}
+use Rattle.mt_memory.proofs.worked.worked_maps.Goals as goal
+
+pub returns-clause-last : goal.returns-clause-last
+unfolding e820 told_in
+returns-clause-last c = refl
+
+pub returns-clause-sole : goal.returns-clause-sole
+unfolding e820 told_in
+returns-clause-sole c = refl

@@ -1,0 +1,10 @@
+pub mod Finding
+pub mod Laying
+pub mod Log
+pub mod Maps
+pub mod MapText
+pub mod Pages
+pub mod Ranges
+pub mod Showing
+pub mod Steps
+pub mod Worked

@@ -1,0 +1,38 @@
+use crate::MemoryKind;
+use crate::table::{Ends, Front, Table};
+use mt_rows::{BLANKS, DECIMAL, HEX, HEX_16, Run};
+
+/// The lines of Linux behind `BIOS-e820:`, and those of Xen's console.
+#[rattlefmt::skip]
+pub const E820: Table<'static> = (
+    &[
+        // `BIOS-e820: [mem 0x0000000000000000-0x000000000009fbff] usable`
+        (&[(b"BIOS-e820:", Run::Nothing)], Front::Word, &[(b"[mem", BLANKS), (b"0x", HEX), (b"-0x", HEX), (b"]", Run::Nothing)], Ends::Last),
+        // `BIOS-e820: 0000000000000000 - 000000000009fc00 (usable)`
+        (&[(b"BIOS-e820:", Run::Nothing)], Front::Word, &[(b"", HEX_16), (b"", BLANKS), (b"-", BLANKS), (b"", HEX_16)], Ends::Behind),
+        // `(XEN)  [0000000000000000, 000000000009fbff] (usable)`
+        (&[(b"(XEN)", Run::Nothing)], Front::Word, &[(b"[", HEX_16), (b",", BLANKS), (b"", HEX_16), (b"]", Run::Nothing)], Ends::Last),
+        // `(XEN)  0000000000000000 - 000000000009fc00 (usable)`
+        (&[(b"(XEN)", Run::Nothing)], Front::Word, &[(b"", HEX_16), (b"", BLANKS), (b"-", BLANKS), (b"", HEX_16)], Ends::Behind),
+    ],
+    &[
+        (&[(b"usable", Run::Nothing)], MemoryKind::Ram),
+        (&[(b"(usable)", Run::Nothing)], MemoryKind::Ram),
+        // also of `soft reserved`
+        (&[(b"reserved", Run::Nothing)], MemoryKind::Reserved),
+        (&[(b"(reserved)", Run::Nothing)], MemoryKind::Reserved),
+        (&[(b"ACPI", BLANKS), (b"data", Run::Nothing)], MemoryKind::Acpi),
+        (&[(b"(ACPI", BLANKS), (b"data)", Run::Nothing)], MemoryKind::Acpi),
+        (&[(b"ACPI", BLANKS), (b"NVS", Run::Nothing)], MemoryKind::Nvs),
+        (&[(b"(ACPI", BLANKS), (b"NVS)", Run::Nothing)], MemoryKind::Nvs),
+        (&[(b"unusable", Run::Nothing)], MemoryKind::Unusable),
+        (&[(b"(unusable)", Run::Nothing)], MemoryKind::Unusable),
+        // `persistent (type 7)`, and types without a name
+        (&[(b"persistent", Run::Nothing)], MemoryKind::Reserved),
+        (&[(b"type", BLANKS), (b"", DECIMAL)], MemoryKind::Reserved),
+    ],
+    &[
+        // `BIOS-provided physical RAM map:`, or `Xen-e820 RAM map:` of Xen
+        &[(b"RAM", BLANKS), (b"map:", Run::End)],
+    ],
+);

@@ -1,0 +1,88 @@
+use crate::{MemoryRange, Ranges};
+use mt_text::Place;
+
+/// A kind of log.
+#[derive(Clone, Copy)]
+pub enum Format {
+    /// The firmware's map, as the kernel's log of Linux or Xen's console shows it.
+    E820,
+    /// UEFI's map, as the kernel's log of Linux or `memmap` of the UEFI shell shows it.
+    Efi,
+    /// The memory table of coreboot's console.
+    Coreboot,
+    /// `/proc/iomem` of Linux.
+    Iomem,
+}
+
+/// Which of a log's maps is read.
+#[derive(Clone, Copy)]
+pub enum WhichMap {
+    /// The only one. That there are several is a fault.
+    Sole,
+    Last,
+    /// That of this number, counted from 1.
+    Number(u64),
+}
+
+/// Why a log shows no map, and where.
+#[derive(Clone, Copy)]
+pub enum MapFault {
+    /// The line has more than 4,096 bytes.
+    LongLine(Place),
+    /// The range ends before it begins.
+    Backward(Place),
+    /// The range has a kind that isn't known, or none.
+    UnknownKind(Place),
+    /// `/proc/iomem` hides its numbers from all but root.
+    Hidden(Place),
+    /// A second map begins here. The first begins in the line of this number.
+    SecondMap(Place, u64),
+    /// The map has more than 512 ranges.
+    TooManyRanges(Place),
+    /// The log ends here without the map. It has so many maps.
+    NoMap(Place, u64),
+}
+
+/// A range that a line shows, and where.
+#[derive(Clone, Copy)]
+pub struct Claim {
+    pub range: MemoryRange,
+    pub place: Place,
+}
+
+/// What a line shows, whatever the other lines show.
+#[derive(Clone, Copy)]
+pub enum Shown {
+    Nothing,
+    Range(Claim),
+    Fault(MapFault),
+}
+
+/// A line that shows bytes of a range before it, as something else or again. The later line counts.
+#[derive(Clone, Copy)]
+pub struct Overlap {
+    pub line: u64,
+    pub earlier: u64,
+}
+
+/// The map that a log shows.
+#[derive(Drop)]
+pub struct MemoryMap {
+    /// Neighbours of one kind don't touch.
+    pub ranges: Ranges,
+    /// The first line that shows bytes of a line before it.
+    pub overlap: Option<Overlap>,
+}
+
+impl Default for Claim {
+    ghost use Rattle.std.specs.Prelude.{⊤};
+
+    ghost is_default = { λ _. ⊤ };
+
+    fn default() -> Claim {
+        Claim {
+            range: MemoryRange::default(),
+            place: Place { line: 0, column: 0 },
+        }
+    }
+}
