@@ -1,6 +1,15 @@
 pub mod Grown
 pub mod Types
 pub mod Walked
+pub mod Marks
+pub mod Equal
+pub mod EqualRegisters
+pub mod Ruled
+pub mod Noted
+pub mod Listed
+pub mod Unchanged
+pub mod Ranges
+pub mod Without
 pub mod Differing
 pub mod Appended
 pub mod Lawful

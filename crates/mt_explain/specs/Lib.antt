@@ -1,8 +1,12 @@
 pub mod Clashes
+pub mod Deciders
 pub mod Differences
 pub mod Effective
 pub mod FieldFaults
 pub mod Fit
+pub mod Groups
+pub mod Memory
+pub mod Notes
 pub mod Pairs
 pub mod Rules
 pub mod Spans

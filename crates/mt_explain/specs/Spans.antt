@@ -1,6 +1,8 @@
 -- The longest runs of pages that have one mark (own). A page without a mark is in none of them.
 --     AreSpans marks from to spans      all such runs from one page up to another, in ascending order
-use Rattle.std.specs.Prelude.{◌≡◌, ◌≢◌, ℕ, ◌+◌, ◌<◌, ◌≤◌, List, [], ◌∷◌, Option, None, Some}
+--     marked_pages marks count          how many of the first pages have a mark
+use Rattle.std.specs.Prelude.{◌≡◌, ◌≢◌, ℕ, ◌+◌, ◌<◌, ◌≤◌, List, [], ◌∷◌, Option, None, Some, is_some}
+use Rattle.mt_gran.specs.Granules.{count_below}
 use Rattle.mt_explain.specs.declared.span.Span.{Span}
 
 -- the page after the last
@@ -26,3 +28,6 @@ AreSpans marks from to [] = (from ≤ to) × HaveMark marks from to None
 AreSpans marks from to (s ∷ ss) =
     (from ≤ s.first) × HaveMark marks from s.first None × (0 < s.count) × HaveMark marks s.first (span_end s) (Some s.mark) × EndsBefore s ss
     × AreSpans marks (span_end s) to ss
+
+unfoldable pub marked_pages : {A : Type 0} → (ℕ → Option A) → ℕ → ℕ
+marked_pages marks count = count_below (λ page. is_some (marks page)) count

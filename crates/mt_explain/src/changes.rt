@@ -1,10 +1,10 @@
 ghost use Rattle.std.specs.Prelude.{◌≡◌, ◌↔◌, ◌≤◌, ◌<◌, ℕ, max, None, IfOk, IsTrue};
 ghost use Rattle.mt_regs.specs.RegisterFile.{page_count};
 ghost use Rattle.mt_regs.specs.Faults.{register_fault};
-ghost use Rattle.mt_explain.specs.TypeChanges.{AreTypeChanges, change_mark, is_same_type, type_shown};
+ghost use Rattle.mt_explain.specs.TypeChanges.{AreTypeChanges, change_mark, changed_pages, is_same_type, type_shown};
 
 use crate::marked::Marked;
-use crate::walk::spans;
+use crate::walk::{marked_pages, spans};
 use crate::{Span, TypeChange};
 use mt_regs::{PageType, RegFile, same_page_type};
 use std::alloc::{AllocError, Global};
@@ -114,4 +114,13 @@ pub fn type_changes(
     ensures { IfOk result (λ changes. AreTypeChanges old.now new.now changes.items) }
 {
     spans(alloc, &Compared { old, new })
+}
+
+/// How many pages are in these runs. No register of the files is at fault by itself.
+pub fn changed_pages(old: &RegFile, new: &RegFile) -> u64
+    requires old { register_fault old.now ≡ None }
+    requires new { register_fault new.now ≡ None }
+    ensures { result ≡ changed_pages old.now new.now }
+{
+    marked_pages(&Compared { old, new })
 }

@@ -16,10 +16,12 @@ pub(crate) trait Marked {
 
     /// The mark of a page.
     fn mark_at(&self, page: u64) -> Option<Self::Mark>
+        requires { is_checked self.now }
         ensures { result ≡ marks self.now page };
 
     /// Whether a page has this mark.
     fn has(&self, page: u64, mark: &Self::Mark) -> bool
+        requires { is_checked self.now }
         ensures { IsTrue result ↔ (marks self.now page ≡ Some mark.now) };
 
     /// The next page at which the mark may change, or the number of pages.

@@ -1,5 +1,5 @@
 ghost use Rattle.std.specs.Prelude.{◌≡◌, ◌≤◌, ◌<◌, Some, IfOk};
-ghost use Rattle.mt_explain.specs.Spans.{AreSpans, IsLongest, span_end};
+ghost use Rattle.mt_explain.specs.Spans.{AreSpans, IsLongest, marked_pages, span_end};
 
 use crate::Span;
 use crate::marked::Marked;
@@ -48,4 +48,22 @@ pub(crate) fn spans<M: Marked>(alloc: Global, m: &M) -> Result<Vec<Span<M::Mark>
         list.push(span)?;
     }
     Ok(list)
+}
+
+/// How many pages have a mark.
+pub(crate) fn marked_pages<M: Marked>(m: &M) -> u64
+    requires { M.is_checked m.now }
+    ensures { result ≡ marked_pages (M.marks m.now) (M.size m.now) }
+{
+    let pages = m.pages();
+    let mut marked = 0;
+    let mut page = 0;
+    while page < pages {
+        let end = m.next_edge(page);
+        if m.mark_at(page).is_some() {
+            marked += end - page;
+        }
+        page = end;
+    }
+    marked
 }

@@ -1,0 +1,154 @@
+ghost use Rattle.std.specs.Prelude.{◌≡◌, ◌↔◌, ◌≤◌, ◌<◌, ℕ, nat_lt, not, slice_get, None, IfOk, IsTrue};
+ghost use Rattle.std.specs.List.{find};
+ghost use Rattle.mt_regs.specs.RegisterFile.{page_count};
+ghost use Rattle.mt_regs.specs.Faults.{register_fault};
+ghost use Rattle.mt_explain.specs.Memory.{AreInOrder, AreMisfits, is_back_or_combining, is_misfit, memory_at, misfit_at};
+
+use crate::marked::Marked;
+use crate::walk::spans;
+use crate::{MemoryKind, MemoryRange, Misfit, Span};
+use mt_kinds::MemType;
+use mt_regs::{PageType, RegFile, same_page_type};
+use std::alloc::{AllocError, Global};
+
+fn is_back_or_combining(kind: PageType) -> bool
+    ensures { result ≡ is_back_or_combining kind }
+{
+    same_page_type(kind, PageType::Kind(MemType::WB))
+        || same_page_type(kind, PageType::Kind(MemType::WC))
+}
+
+// Whether memory of a kind shouldn't have a type.
+fn is_misfit(memory: MemoryKind, kind: PageType) -> bool
+    ensures { result ≡ is_misfit memory kind }
+{
+    match memory {
+        MemoryKind::Ram => !same_page_type(kind, PageType::Kind(MemType::WB)),
+        MemoryKind::Reserved => is_back_or_combining(kind),
+        MemoryKind::Device => is_back_or_combining(kind),
+        MemoryKind::Acpi => false,
+        MemoryKind::Nvs => false,
+        MemoryKind::Unusable => false,
+    }
+}
+
+// The place of the first range that ends at a page or behind it, or the number of ranges.
+fn place_from(ranges: &[MemoryRange], page: u64) -> usize
+    requires { AreInOrder ranges.now }
+    ensures { slice_get ranges.now result ≡ find (λ r. not (nat_lt r.last page)) ranges.now }
+{
+    ranges.partition_point(|range| range.last < page)
+}
+
+fn range_from(ranges: &[MemoryRange], page: u64) -> Option<MemoryRange>
+    requires { AreInOrder ranges.now }
+    ensures { result ≡ find (λ r. not (nat_lt r.last page)) ranges.now }
+{
+    ranges.get(place_from(ranges, page)).copied()
+}
+
+// The kind of a page's memory, if a range has the page.
+fn memory_at(ranges: &[MemoryRange], page: u64) -> Option<MemoryKind>
+    requires { AreInOrder ranges.now }
+    ensures { result ≡ memory_at ranges.now page }
+{
+    match range_from(ranges, page) {
+        Some(range) => {
+            if page < range.first {
+                None
+            } else {
+                Some(range.kind)
+            }
+        }
+        None => None,
+    }
+}
+
+// The next page at which the kind of memory may change, or `end`.
+fn memory_edge(ranges: &[MemoryRange], page: u64, end: u64) -> u64
+    requires order { AreInOrder ranges.now }
+    requires page { page < end }
+    ensures above { page < result }
+    ensures bound { result ≤ end }
+    ensures same { (other : ℕ) → page ≤ other → other < result → memory_at ranges.now other ≡ memory_at ranges.now page }
+{
+    match range_from(ranges, page) {
+        Some(range) => {
+            if page < range.first {
+                range.first.min(end)
+            } else {
+                range.last.min(end - 1) + 1
+            }
+        }
+        None => end,
+    }
+}
+
+fn same_kind(a: MemoryKind, b: MemoryKind) -> bool
+    ensures { IsTrue result ↔ (a ≡ b) }
+{
+    a == b
+}
+
+fn same_misfit(a: Misfit, b: Misfit) -> bool
+    ensures { IsTrue result ↔ (a ≡ b) }
+{
+    same_kind(a.memory, b.memory) && a.kind.is(b.kind)
+}
+
+// A map and a file: a page of memory whose type doesn't fit has both as its mark.
+#[derive(Drop)]
+struct Mapped<'a> {
+    file: &'a RegFile,
+    ranges: &'a [MemoryRange],
+}
+
+impl<'a> Marked for Mapped<'a> {
+    type Mark = Misfit;
+
+    ghost size = { λ c. page_count c.file.now };
+
+    ghost marks = { λ c page. misfit_at c.file.now c.ranges.now page };
+
+    ghost is_checked = { λ c. (register_fault c.file.now ≡ None) × AreInOrder c.ranges.now };
+
+    fn pages(&self) -> u64 {
+        self.file.pages()
+    }
+
+    fn mark_at(&self, page: u64) -> Option<Misfit> {
+        let memory = memory_at(self.ranges, page)?;
+        let kind = self.file.page_type(page);
+        if is_misfit(memory, kind) {
+            Some(Misfit { memory, kind })
+        } else {
+            None
+        }
+    }
+
+    fn has(&self, page: u64, mark: &Misfit) -> bool {
+        match self.mark_at(page) {
+            Some(misfit) => same_misfit(misfit, *mark),
+            None => false,
+        }
+    }
+
+    fn next_edge(&self, page: u64) -> u64 {
+        memory_edge(self.ranges, page, self.pages()).min(self.file.next_edge(page))
+    }
+}
+
+/// The longest runs of pages whose type doesn't fit their memory, each with the kind of memory and the type, in ascending order: RAM
+/// that isn't WB, and reserved pages and those of devices that are WB or WC. No register of the file is at fault by itself. The ranges
+/// are in ascending order and share no page. Pages beyond the file's address width aren't looked at. Fails only if an allocation fails.
+pub fn misfits(
+    alloc: Global,
+    f: &RegFile,
+    ranges: &[MemoryRange],
+) -> Result<Vec<Span<Misfit>>, AllocError>
+    requires checked { register_fault f.now ≡ None }
+    requires order { AreInOrder ranges.now }
+    ensures { IfOk result (λ misfits. AreMisfits f.now ranges.now misfits.items) }
+{
+    spans(alloc, &Mapped { file: f, ranges })
+}
