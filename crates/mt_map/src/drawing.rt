@@ -7,7 +7,7 @@ use crate::{Band, Rect};
 use itoa::Buffer;
 use mt_dump::value_text;
 use mt_regs::{PageType, same_page_type};
-use std::alloc::AllocError;
+use std::alloc::{AllocError, Global};
 
 /// A part of a text: bytes, or a number behind bytes.
 #[derive(Clone, Copy)]
@@ -15,11 +15,6 @@ pub(crate) enum Part<'a> {
     Text(&'a [u8]),
     Decimal(&'a [u8], u64),
     Hex(&'a [u8], u64),
-}
-
-fn append_decimal(text: &mut Vec<u8>, n: u64) -> Result<(), AllocError> {
-    let mut buffer = Buffer::new();
-    text.extend_from_slice(buffer.format(n).as_bytes())
 }
 
 // The place of the first digit that isn't 0, or of the last one.
@@ -34,40 +29,70 @@ fn first_digit(digits: &[u8; 16]) -> usize
     15
 }
 
-fn append_hex(text: &mut Vec<u8>, n: u64) -> Result<(), AllocError> {
-    let digits = value_text(n);
-    text.extend_from_slice(&digits[first_digit(&digits)..])
+/// The text of a picture, put together part by part. If an allocation fails, `finish` says so.
+#[derive(Drop)]
+pub(crate) struct Drawing {
+    text: Vec<u8>,
+    failed: bool,
 }
 
-fn append_part(text: &mut Vec<u8>, part: Part<'_>) -> Result<(), AllocError> {
-    match part {
-        Text(bytes) => text.extend_from_slice(bytes),
-        Decimal(front, n) => {
-            text.extend_from_slice(front)?;
-            append_decimal(text, n)
-        }
-        Hex(front, n) => {
-            text.extend_from_slice(front)?;
-            append_hex(text, n)
+impl Drawing {
+    pub(crate) fn new(alloc: Global) -> Drawing {
+        Drawing {
+            text: Vec::new(alloc),
+            failed: false,
         }
     }
-}
 
-/// Adds parts, in their order.
-pub(crate) fn append(text: &mut Vec<u8>, parts: &[Part<'_>]) -> Result<(), AllocError> {
-    'parts: for part in parts {
-        append_part(text, *part)?;
+    pub(crate) fn add(&mut self, bytes: &[u8]) {
+        if self.text.extend_from_slice(bytes).is_err() {
+            self.failed = true;
+        }
     }
-    Ok(())
+
+    fn add_decimal(&mut self, n: u64) {
+        let mut buffer = Buffer::new();
+        self.add(buffer.format(n).as_bytes());
+    }
+
+    fn add_hex(&mut self, n: u64) {
+        let digits = value_text(n);
+        self.add(&digits[first_digit(&digits)..]);
+    }
+
+    fn add_part(&mut self, part: Part<'_>) {
+        match part {
+            Text(bytes) => self.add(bytes),
+            Decimal(front, n) => {
+                self.add(front);
+                self.add_decimal(n);
+            }
+            Hex(front, n) => {
+                self.add(front);
+                self.add_hex(n);
+            }
+        }
+    }
+
+    /// Adds parts, in their order.
+    pub(crate) fn add_all(&mut self, parts: &[Part<'_>]) {
+        for part in parts {
+            self.add_part(*part);
+        }
+    }
+
+    /// The whole text, or that an allocation failed.
+    pub(crate) fn finish(self) -> Result<Vec<u8>, AllocError> {
+        if self.failed {
+            Err(AllocError)
+        } else {
+            Ok(self.text)
+        }
+    }
 }
 
 /// Adds a rectangle of a class, filled with a pattern.
-pub(crate) fn append_box<'x>(
-    text: &mut Vec<u8>,
-    class: &'x [u8],
-    fill: &'x [u8],
-    r: &Rect,
-) -> Result<(), AllocError> {
+pub(crate) fn append_box<'x>(text: &mut Drawing, class: &'x [u8], fill: &'x [u8], r: &Rect) {
     let parts = [
         Text(b"<rect class='"),
         Text(class),
@@ -79,17 +104,11 @@ pub(crate) fn append_box<'x>(
         Text(fill),
         Text(b")'/>\n"),
     ];
-    append(text, &parts)
+    text.add_all(&parts);
 }
 
 /// Adds a text of a class.
-pub(crate) fn append_label(
-    text: &mut Vec<u8>,
-    class: &[u8],
-    x: u64,
-    y: u64,
-    content: &[Part<'_>],
-) -> Result<(), AllocError> {
+pub(crate) fn append_label(text: &mut Drawing, class: &[u8], x: u64, y: u64, content: &[Part<'_>]) {
     let head = [
         Text(b"<text class='"),
         Text(class),
@@ -97,19 +116,19 @@ pub(crate) fn append_label(
         Decimal(b"' y='", y),
         Text(b"'>"),
     ];
-    append(text, &head)?;
-    append(text, content)?;
-    text.extend_from_slice(b"</text>\n")
+    text.add_all(&head);
+    text.add_all(content);
+    text.add(b"</text>\n");
 }
 
 /// Adds a thin line from the left edge on.
-pub(crate) fn append_rule(text: &mut Vec<u8>, y: u64, width: u64) -> Result<(), AllocError> {
+pub(crate) fn append_rule(text: &mut Drawing, y: u64, width: u64) {
     let parts = [
         Decimal(b"<path class='rule' d='M12 ", y),
         Decimal(b"h", width),
         Text(b"'/>\n"),
     ];
-    append(text, &parts)
+    text.add_all(&parts);
 }
 
 /// The name of a type, which is also that of its pattern.

@@ -5,7 +5,7 @@ ghost use Rattle.mt_ranges.specs.Match.{is_valid};
 ghost use Rattle.mt_regs.specs.Registers.{HasThreeDigits};
 
 use crate::drawing::Part::{Decimal, Text};
-use crate::drawing::{Part, append_label, append_rule, is_different};
+use crate::drawing::{Drawing, Part, append_label, append_rule, is_different};
 use crate::labels::escaped;
 use crate::layout::Layout;
 use crate::names::{first_name, second_name};
@@ -24,11 +24,7 @@ fn different_count(bands: &[Band]) -> usize
 }
 
 /// Adds the line that every picture has. A title that the user gives is its caption.
-pub(crate) fn append_headline(
-    text: &mut Vec<u8>,
-    others: &[RegFile],
-    bands: &[Band],
-) -> Result<(), AllocError> {
+pub(crate) fn append_headline(text: &mut Drawing, others: &[RegFile], bands: &[Band]) {
     if others.is_empty() {
         return append_label(text, b"title", 12, 28, &[Text(b"Memory types")]);
     }
@@ -52,7 +48,7 @@ fn refused_as(legend: &Legend<'_>, k: u32) -> (&'static [u8], u8) {
 }
 
 /// Adds that the files are accepted, or what is refused.
-pub(crate) fn append_verdict(text: &mut Vec<u8>, legend: &Legend<'_>) -> Result<(), AllocError>
+pub(crate) fn append_verdict(text: &mut Drawing, legend: &Legend<'_>)
     requires short { IfSome legend.now.refusal (λ found. HasThreeDigits found.1.msr) }
 {
     match legend.refusal {
@@ -74,16 +70,14 @@ pub(crate) fn append_verdict(text: &mut Vec<u8>, legend: &Legend<'_>) -> Result<
 /// Adds the caption above a picture, if it has one.
 pub(crate) fn append_caption(
     alloc: Global,
-    text: &mut Vec<u8>,
+    text: &mut Drawing,
     title: Option<&[u8]>,
 ) -> Result<(), AllocError> {
-    match title {
-        None => Ok(()),
-        Some(title) => {
-            let caption = escaped(alloc, title)?;
-            append_label(text, b"title", 12, 4, &[Text(caption.as_slice())])
-        }
+    if let Some(title) = title {
+        let caption = escaped(alloc, title)?;
+        append_label(text, b"title", 12, 4, &[Text(caption.as_slice())]);
     }
+    Ok(())
 }
 
 fn valid_count(f: &RegFile) -> usize
@@ -113,12 +107,7 @@ fn state_of(f: &RegFile) -> [Part<'static>; 3] {
     ]
 }
 
-fn append_file(
-    text: &mut Vec<u8>,
-    y: u64,
-    name: Part<'static>,
-    f: &RegFile,
-) -> Result<(), AllocError> {
+fn append_file(text: &mut Drawing, y: u64, name: Part<'static>, f: &RegFile) {
     let [state, kind, fixed] = state_of(f);
     let said = [
         name,
@@ -134,61 +123,52 @@ fn append_file(
 }
 
 /// Adds what is said of each file.
-pub(crate) fn append_files(
-    text: &mut Vec<u8>,
-    names: Names,
-    f: &RegFile,
-    others: &[RegFile],
-) -> Result<(), AllocError> {
-    append_file(text, 68, first_name(names), f)?;
+pub(crate) fn append_files(text: &mut Drawing, names: Names, f: &RegFile, others: &[RegFile]) {
+    append_file(text, 68, first_name(names), f);
     match others {
-        [] => Ok(()),
+        [] => {}
         [other, ..] => append_file(text, 86, second_name(names), other),
     }
 }
 
-fn append_pairs_head(text: &mut Vec<u8>, x: u64, name: Part<'static>) -> Result<(), AllocError> {
+fn append_pairs_head(text: &mut Drawing, x: u64, name: Part<'static>) {
     append_label(text, b"head", x, 140, &[Text(b"pairs, "), name])
 }
 
 // Adds the heads of the columns of two files.
-fn append_both_heads(text: &mut Vec<u8>, layout: &Layout, names: Names) -> Result<(), AllocError> {
+fn append_both_heads(text: &mut Drawing, layout: &Layout, names: Names) {
     let first = first_name(names);
     let second = second_name(names);
-    append_label(text, b"type", 372, 140, &[first])?;
-    append_label(text, b"type", 496, 140, &[second])?;
-    append_pairs_head(text, layout.first_bar, first)?;
+    append_label(text, b"type", 372, 140, &[first]);
+    append_label(text, b"type", 496, 140, &[second]);
+    append_pairs_head(text, layout.first_bar, first);
     append_pairs_head(text, layout.second_bar, second)
 }
 
 // Adds the heads of the columns of one file.
-fn append_type_heads(text: &mut Vec<u8>, layout: &Layout) -> Result<(), AllocError> {
-    append_label(text, b"type", 372, 140, &[Text(b"type")])?;
+fn append_type_heads(text: &mut Drawing, layout: &Layout) {
+    append_label(text, b"type", 372, 140, &[Text(b"type")]);
     append_label(text, b"head", layout.first_bar, 140, &[Text(b"pairs")])
 }
 
 // Adds the heads of the lines below the rows.
-fn append_lower_heads(text: &mut Vec<u8>, layout: &Layout) -> Result<(), AllocError> {
-    append_rule(text, layout.bottom + 150, layout.width - 24)?;
+fn append_lower_heads(text: &mut Drawing, layout: &Layout) {
+    append_rule(text, layout.bottom + 150, layout.width - 24);
     append_label(
         text,
         b"head",
         12,
         layout.bottom + 171,
         &[Text(b"default type")],
-    )?;
+    );
     append_label(text, b"head", 12, layout.bottom + 196, &[Text(b"values")])
 }
 
 /// Adds the heads of the columns that depend on the files, and those below the rows.
-pub(crate) fn append_heads(
-    text: &mut Vec<u8>,
-    layout: &Layout,
-    names: Option<Names>,
-) -> Result<(), AllocError> {
+pub(crate) fn append_heads(text: &mut Drawing, layout: &Layout, names: Option<Names>) {
     match names {
-        None => append_type_heads(text, layout)?,
-        Some(names) => append_both_heads(text, layout, names)?,
+        None => append_type_heads(text, layout),
+        Some(names) => append_both_heads(text, layout, names),
     }
     append_lower_heads(text, layout)
 }

@@ -5,6 +5,7 @@ ghost use Rattle.mt_regs.specs.Registers.{HasThreeDigits};
 ghost use Rattle.mt_map.specs.Bands.{IsPlaced};
 ghost use Rattle.mt_map.specs.Shapes.{AreRowsOf, shapes_of};
 
+use crate::drawing::Drawing;
 use crate::edges::cuts;
 use crate::heading::{append_caption, append_files, append_headline, append_heads, append_verdict};
 use crate::layout::{Layout, layout_of};
@@ -56,23 +57,23 @@ pub struct Legend<'a> {
 
 // Adds what stands behind the verdict.
 fn append_body(
-    text: &mut Vec<u8>,
+    text: &mut Drawing,
     names: Names,
     files: (&RegFile, &[RegFile]),
     layout: &Layout,
     picture: &Picture,
-) -> Result<(), AllocError>
+)
     requires placed { All IsPlaced picture.now.stack.bands.items }
 {
     let (f, others) = files;
     let rows = picture.stack.bands.as_slice();
     let heads = if others.is_empty() { None } else { Some(names) };
-    append_files(text, names, f, others)?;
-    text.extend_from_slice(KEYS)?;
-    append_heads(text, layout, heads)?;
-    append_rows(text, layout.width, rows)?;
-    append_shapes(text, layout, rows, picture.shapes.as_slice())?;
-    text.extend_from_slice(b"</svg>\n")
+    append_files(text, names, f, others);
+    text.add(KEYS);
+    append_heads(text, layout, heads);
+    append_rows(text, layout.width, rows);
+    append_shapes(text, layout, rows, picture.shapes.as_slice());
+    text.add(b"</svg>\n");
 }
 
 /// The text of the picture of a file beside a second one, if there is one.
@@ -88,11 +89,11 @@ pub fn picture_text(
     requires placed { All IsPlaced picture.now.stack.bands.items }
 {
     let layout = layout_of(f, others, legend.title, picture.stack.bottom);
-    let mut text = Vec::new(alloc);
-    append_head(&mut text, &layout)?;
+    let mut text = Drawing::new(alloc);
+    append_head(&mut text, &layout);
     append_caption(alloc, &mut text, legend.title)?;
-    append_headline(&mut text, others, picture.stack.bands.as_slice())?;
-    append_verdict(&mut text, legend)?;
-    append_body(&mut text, legend.names, (f, others), &layout, picture)?;
-    Ok(text)
+    append_headline(&mut text, others, picture.stack.bands.as_slice());
+    append_verdict(&mut text, legend);
+    append_body(&mut text, legend.names, (f, others), &layout, picture);
+    text.finish()
 }

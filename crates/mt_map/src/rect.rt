@@ -1,5 +1,5 @@
 /// A rectangle in pixels, by its left upper corner and its size.
-#[derive(Clone, Copy, Debug, PartialEq, Eq)]
+#[derive(Clone, Copy)]
 pub struct Rect {
     pub x: u64,
     pub y: u64,

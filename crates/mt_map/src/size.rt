@@ -2,11 +2,10 @@ ghost use Rattle.std.specs.Prelude.{◌≡◌, ◌≤◌, ◌<◌, ◌+◌, ◌*
 ghost use Rattle.mt_map.specs.Sizes.{IsNear, IsShort, kilobytes};
 
 use crate::drawing::Part::{Decimal, Text};
-use crate::drawing::append_label;
-use std::alloc::AllocError;
+use crate::drawing::{Drawing, append_label};
 
 /// The units in which a picture tells sizes, each 1,024 of the one before it.
-#[derive(Clone, Copy, Debug, PartialEq, Eq)]
+#[derive(Clone, Copy)]
 pub enum Unit {
     Kilobyte,
     Megabyte,
@@ -15,7 +14,7 @@ pub enum Unit {
 }
 
 /// So many units and tenths of a unit, or about so many. Only a rounded size has tenths.
-#[derive(Clone, Copy, Debug, PartialEq, Eq)]
+#[derive(Clone, Copy)]
 pub struct Size {
     pub count: u64,
     pub tenths: u64,
@@ -96,7 +95,7 @@ fn unit_name(unit: Unit) -> &'static [u8] {
 }
 
 /// Adds the size of so many pages at height `y`, with the sign for "almost equal" in front of one that is rounded.
-pub(crate) fn append_size(text: &mut Vec<u8>, y: u64, pages: u64) -> Result<(), AllocError>
+pub(crate) fn append_size(text: &mut Drawing, y: u64, pages: u64)
     requires few { pages ≤ 2 ^ 40 }
 {
     let size = page_size(pages);

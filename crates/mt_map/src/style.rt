@@ -1,7 +1,6 @@
+use crate::drawing::Drawing;
 use crate::drawing::Part::{Decimal, Text};
-use crate::drawing::append;
 use crate::layout::Layout;
-use std::alloc::AllocError;
 
 const STYLE: &[u8] = b"<style>
 text{font:12px 'DejaVu Sans',Verdana,Arial,sans-serif;fill:#111}
@@ -61,7 +60,7 @@ fn ground(layout: &Layout) -> &'static [u8] {
 }
 
 /// Adds all that stands in front of the caption and the headline.
-pub(crate) fn append_head(text: &mut Vec<u8>, layout: &Layout) -> Result<(), AllocError> {
+pub(crate) fn append_head(text: &mut Drawing, layout: &Layout) {
     let Layout { width, height, .. } = *layout;
     let head = [
         Decimal(b"<svg xmlns='http://www.w3.org/2000/svg' width='", width),
@@ -75,5 +74,5 @@ pub(crate) fn append_head(text: &mut Vec<u8>, layout: &Layout) -> Result<(), All
         Text(PATTERNS),
         Text(ground(layout)),
     ];
-    append(text, &head)
+    text.add_all(&head);
 }

@@ -1,12 +1,11 @@
 ghost use Rattle.std.specs.Prelude.{◌<◌, ◌≤◌, ◌^◌};
 
 use crate::drawing::Part::{Hex, Text};
-use crate::drawing::{append_box, append_label, name_of_kind};
+use crate::drawing::{Drawing, append_box, append_label, name_of_kind};
 use crate::layout::Layout;
 use crate::stack::top_of;
 use crate::{Band, Bar, Rect, Shape, Side};
 use mt_kinds::MemType;
-use std::alloc::AllocError;
 
 // Where the types of a file stand.
 fn column_of(side: Side) -> u64
@@ -52,17 +51,11 @@ fn rect_over(layout: &Layout, rows: &[Band], x: u64, width: u64, pages: (u64, u6
 }
 
 // Adds a filled rectangle with a label in its middle.
-fn append_labelled(
-    text: &mut Vec<u8>,
-    place: &Rect,
-    fill: &str,
-    class: &[u8],
-    label: &str,
-) -> Result<(), AllocError>
+fn append_labelled(text: &mut Drawing, place: &Rect, fill: &str, class: &[u8], label: &str)
     requires few { (place.now.x < 2 ^ 60) × (place.now.y < 2 ^ 60) × (place.now.height < 2 ^ 60) }
     requires narrow { place.now.width ≤ 100 }
 {
-    append_box(text, b"on", fill.as_bytes(), place)?;
+    append_box(text, b"on", fill.as_bytes(), place);
     let y = place.y + place.height / 2 + 4;
     let label = [Text(label.as_bytes())];
     append_label(text, class, place.x + place.width / 2, y, &label)
@@ -86,21 +79,15 @@ fn bar_class(bar: &Bar) -> &'static [u8] {
     if bar.is_on { b"on" } else { b"off" }
 }
 
-fn append_number(text: &mut Vec<u8>, x: u64, y: u64, number: u32) -> Result<(), AllocError> {
+fn append_number(text: &mut Drawing, x: u64, y: u64, number: u32) {
     append_label(text, b"bar", x, y, &[Hex(b"", number as u64)])
 }
 
-fn append_bar(
-    text: &mut Vec<u8>,
-    layout: &Layout,
-    rows: &[Band],
-    side: Side,
-    bar: &Bar,
-) -> Result<(), AllocError> {
+fn append_bar(text: &mut Drawing, layout: &Layout, rows: &[Band], side: Side, bar: &Bar) {
     let x = bars_of(layout, side) + 32 * bar.place as u64;
     let place = rect_over(layout, rows, x, 26, (bar.first, bar.end));
-    append_box(text, bar_class(bar), bar_fill(bar), &place)?;
-    append_number(text, place.x + 13, place.y + 11, bar.number)?;
+    append_box(text, bar_class(bar), bar_fill(bar), &place);
+    append_number(text, place.x + 13, place.y + 11, bar.number);
     append_label(
         text,
         b"bar",
@@ -111,12 +98,7 @@ fn append_bar(
 }
 
 // Adds the values of the registers of a bar, in a line below the rows.
-fn append_values(
-    text: &mut Vec<u8>,
-    layout: &Layout,
-    side: Side,
-    bar: &Bar,
-) -> Result<(), AllocError> {
+fn append_values(text: &mut Drawing, layout: &Layout, side: Side, bar: &Bar) {
     let x = values_of(side);
     let y = layout.bottom + 212 + 16 * bar.place as u64;
     let Some(kind) = bar.kind else {
@@ -133,12 +115,7 @@ fn append_values(
 }
 
 // Adds the default type of a file, below its bands.
-fn append_default(
-    text: &mut Vec<u8>,
-    layout: &Layout,
-    side: Side,
-    kind: MemType,
-) -> Result<(), AllocError> {
+fn append_default(text: &mut Drawing, layout: &Layout, side: Side, kind: MemType) {
     let place = Rect {
         x: column_of(side),
         y: layout.bottom + 156,
@@ -148,12 +125,7 @@ fn append_default(
     append_labelled(text, &place, kind.name(), b"type", kind.name())
 }
 
-fn append_shape(
-    text: &mut Vec<u8>,
-    layout: &Layout,
-    rows: &[Band],
-    shape: &Shape,
-) -> Result<(), AllocError> {
+fn append_shape(text: &mut Drawing, layout: &Layout, rows: &[Band], shape: &Shape) {
     match *shape {
         Shape::Band(side, run) => {
             let pages = (run.first, run.first.saturating_add(run.count));
@@ -162,7 +134,7 @@ fn append_shape(
             append_labelled(text, &place, name, b"type", name)
         }
         Shape::Bar(side, bar) => {
-            append_bar(text, layout, rows, side, &bar)?;
+            append_bar(text, layout, rows, side, &bar);
             append_values(text, layout, side, &bar)
         }
         Shape::Default(side, kind) => append_default(text, layout, side, kind),
@@ -175,14 +147,8 @@ fn append_shape(
 }
 
 /// Adds shapes, in their order.
-pub(crate) fn append_shapes(
-    text: &mut Vec<u8>,
-    layout: &Layout,
-    rows: &[Band],
-    shapes: &[Shape],
-) -> Result<(), AllocError> {
+pub(crate) fn append_shapes(text: &mut Drawing, layout: &Layout, rows: &[Band], shapes: &[Shape]) {
     'shapes: for shape in shapes {
-        append_shape(text, layout, rows, shape)?;
+        append_shape(text, layout, rows, shape);
     }
-    Ok(())
 }

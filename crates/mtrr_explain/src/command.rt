@@ -23,7 +23,7 @@ const DUMPS: &str = "Dumps, as mtrr reads them; - is standard input";
 const OLD_AND_NEW: &str = "The old and the new dump, or one with --cpus; - is standard input";
 
 /// What is asked.
-#[derive(Clone, Copy, Debug, PartialEq, Eq)]
+#[derive(Clone, Copy)]
 pub enum Question {
     /// Every fault of each file.
     Faults,
@@ -44,6 +44,18 @@ pub struct Asked<'a> {
     pub garbled: &'a [String],
 }
 
+// A command, or none if an allocation failed. Each `?` on one takes seconds to check, so they are all in `with_arg` and `with_command`.
+type Made<'a> = Result<Command<'a>, AllocError>;
+
+fn with_arg<'a>(command: Made<'a>, arg: Arg<'a>) -> Made<'a> {
+    command?.arg(arg)
+}
+
+fn with_command<'a>(command: Made<'a>, subcommand: Made<'a>) -> Made<'a> {
+    let subcommand = subcommand?;
+    command?.subcommand(subcommand)
+}
+
 fn positional<'a>(alloc: Global, name: &'static str, help: &'static str) -> Arg<'a> {
     Arg::new(alloc, name).required(true).help(help)
 }
@@ -52,62 +64,54 @@ fn option<'a>(alloc: Global, name: &'static str, help: &'static str) -> Arg<'a> 
     Arg::new(alloc, name).long(name).help(help)
 }
 
-// A command that takes this argument, if there is one, and files.
-fn subcommand<'a>(
-    alloc: Global,
-    name: &'static str,
-    about: &'static str,
-    arg: Option<Arg<'a>>,
-    files: &'static str,
-) -> Result<Command<'a>, AllocError> {
-    let mut command = Command::new(alloc, name).about(about);
-    if let Some(arg) = arg {
-        command = command.arg(arg)?;
-    }
-    command.arg(
-        positional(alloc, "FILE", files)
-            .num_args(1..)
-            .action(ArgAction::Append),
-    )
+fn files<'a>(alloc: Global, help: &'static str) -> Arg<'a> {
+    positional(alloc, "FILE", help)
+        .num_args(1..)
+        .action(ArgAction::Append)
 }
 
-fn subcommands<'a>(alloc: Global) -> Result<Vec<Command<'a>>, AllocError> {
+fn subcommand<'a>(alloc: Global, name: &'static str, about: &'static str) -> Made<'a> {
+    Ok(Command::new(alloc, name).about(about))
+}
+
+fn faults<'a>(alloc: Global) -> Made<'a> {
+    let about = "Print every fault of the registers, and the pages with no defined type";
+    with_arg(subcommand(alloc, "faults", about), files(alloc, DUMPS))
+}
+
+fn page<'a>(alloc: Global) -> Made<'a> {
+    let about = "Print the types of one page, and the rule and registers that give them";
     let address = positional(alloc, "ADDR", "A physical address, in hexadecimal");
+    let command = with_arg(subcommand(alloc, "page", about), address);
+    with_arg(command, files(alloc, DUMPS))
+}
+
+fn diff<'a>(alloc: Global) -> Made<'a> {
+    let about = "Print what differs between two dumps, or between two processors of one";
     let cpus = option(alloc, "cpus", "Compare two processors of one dump")
         .num_args(2)
         .value_name("CPU")
         .action(ArgAction::Append);
+    let command = with_arg(subcommand(alloc, "diff", about), cpus);
+    with_arg(command, files(alloc, OLD_AND_NEW))
+}
+
+fn fit<'a>(alloc: Global) -> Made<'a> {
+    let about =
+        "Print how many pairs processor 0's types need, and the mtrr command that finds them";
     let spare = option(alloc, "spare", "Leave N pairs free, 0 to 32; by default 0").value_name("N");
-    let mut commands = Vec::new(alloc);
-    commands.push(subcommand(
-        alloc,
-        "faults",
-        "Print every fault of the registers, and the pages with no defined type",
-        None,
-        DUMPS,
-    )?)?;
-    commands.push(subcommand(
-        alloc,
-        "page",
-        "Print the types of one page, and the rule and registers that give them",
-        Some(address),
-        DUMPS,
-    )?)?;
-    commands.push(subcommand(
-        alloc,
-        "diff",
-        "Print what differs between two dumps, or between two processors of one",
-        Some(cpus),
-        OLD_AND_NEW,
-    )?)?;
-    commands.push(subcommand(
-        alloc,
-        "fit",
-        "Print how many pairs processor 0's types need, and the mtrr command that finds them",
-        Some(spare),
-        DUMPS,
-    )?)?;
-    Ok(commands)
+    let command = with_arg(subcommand(alloc, "fit", about), spare);
+    with_arg(command, files(alloc, DUMPS))
+}
+
+fn root<'a>(alloc: Global) -> Made<'a> {
+    Command::new(alloc, "mtrr-explain")
+        .version(VERSION)
+        .about("Explains dumps of the memory type registers of x86 processors")
+        .after_help(STATUSES)
+        .subcommand_required(true)
+        .arg_required_else_help(true)
+        .bin_name("mtrr-explain")
 }
 
 /// The command line.
@@ -115,15 +119,11 @@ pub fn command<'a>(alloc: Global) -> Result<Command<'a>, AllocError> {
     let json = option(alloc, "json", "Print one JSON object for each answer")
         .action(ArgAction::SetTrue)
         .global(true);
-    Command::new(alloc, "mtrr-explain")
-        .bin_name("mtrr-explain")?
-        .version(VERSION)
-        .about("Explains dumps of the memory type registers of x86 processors")
-        .after_help(STATUSES)
-        .subcommand_required(true)
-        .arg_required_else_help(true)
-        .arg(json)?
-        .subcommands(subcommands(alloc)?)
+    let command = with_arg(root(alloc), json);
+    let command = with_command(command, faults(alloc));
+    let command = with_command(command, page(alloc));
+    let command = with_command(command, diff(alloc));
+    with_command(command, fit(alloc))
 }
 
 fn page_question(matches: &ArgMatches<'_>) -> Result<Question> {

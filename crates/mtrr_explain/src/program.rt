@@ -13,7 +13,7 @@ use std::io::{ErrorKind, Input};
 use std::process::ExitCode;
 
 /// What the answers come to. Its number is the exit status.
-#[derive(Clone, Copy, Debug, PartialEq, Eq)]
+#[derive(Clone, Copy)]
 enum Verdict {
     Nothing = 0,
     Something = 1,

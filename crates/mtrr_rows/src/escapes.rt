@@ -6,7 +6,7 @@ ghost use Rattle.mtrr_rows.specs.Plain.{IsPlain};
 use crate::row::Fault;
 
 /// What follows an escaped text: a line feed, or nothing behind a backslash.
-#[derive(Clone, Copy, Debug, PartialEq, Eq)]
+#[derive(Clone, Copy, PartialEq, Eq)]
 pub enum End {
     Closed,
     Open,

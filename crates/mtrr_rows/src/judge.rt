@@ -42,33 +42,32 @@ fn is_met<R: AllocGlobal + Threads + Wait + Sync + Print>(
     Ok(met)
 }
 
-// The same for longer pieces. An input that came whole in the shorter ones comes so again.
-fn is_met_longer<R: AllocGlobal + Threads + Wait + Sync + Print>(
-    rt: &R,
-    row: &Row,
-    shorter: usize,
-    piece: usize,
-) -> io::Result<bool>
-    requires { 0 < piece }
+// The lengths of the pieces, in ascending order.
+fn piece_at(k: usize) -> usize
+    ensures { 0 < result }
 {
-    if row.input.len() <= shorter {
-        return Ok(true);
+    match k {
+        0 => 1,
+        1 => 2,
+        2 => 7,
+        3 => 4095,
+        4 => 4096,
+        5 => 4097,
+        _ => 8192,
     }
-    is_met(rt, row, piece)
 }
 
 /// Whether the row is met in pieces of 1, 2, 7, 4,095, 4,096, 4,097 and 8,192 bytes. Prints a line for each in which
-/// it isn't.
+/// it isn't. An input that came whole in shorter ones comes so again.
 pub fn judge<R: AllocGlobal + Threads + Wait + Sync + Print>(
     rt: &R,
     row: &Row,
 ) -> io::Result<bool> {
-    let ones = is_met(rt, row, 1)?;
-    let twos = is_met_longer(rt, row, 1, 2)?;
-    let sevens = is_met_longer(rt, row, 2, 7)?;
-    let below_line = is_met_longer(rt, row, 7, 4095)?;
-    let lines = is_met_longer(rt, row, 4095, 4096)?;
-    let above_line = is_met_longer(rt, row, 4096, 4097)?;
-    let buffers = is_met_longer(rt, row, 4097, 8192)?;
-    Ok(ones && twos && sevens && below_line && lines && above_line && buffers)
+    let mut met = true;
+    for k in 0..7 {
+        if k == 0 || piece_at(k - 1) < row.input.len() {
+            met = is_met(rt, row, piece_at(k))? && met;
+        }
+    }
+    Ok(met)
 }

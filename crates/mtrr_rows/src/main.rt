@@ -15,15 +15,9 @@ use std::io::{self, BufRead, BufReader};
 use std::process::ExitCode;
 use std::sync::Wait;
 use std::thread::Threads;
-use thiserror::Error;
 
-#[derive(Debug, Drop, Error)]
-enum RowsError {
-    #[error("line {number}: {fault}")]
-    Line { number: u64, fault: Fault },
-    #[error(transparent)]
-    Io(#[from] io::Error),
-}
+// The number of a line that isn't of the format of rows, or can't be kept, and why.
+type BadLine = (u64, Fault);
 
 // How many rows passed, and how many failed.
 #[derive(Clone, Copy, Default)]
@@ -55,7 +49,7 @@ impl Tally {
 
 fn tally_of<R: AllocGlobal + Threads + Wait + Sync + Input + Print>(
     rt: &R,
-) -> Result<Tally, RowsError> {
+) -> io::Result<Result<Tally, BadLine>> {
     let alloc = rt.alloc();
     let mut reader = Reader::new(alloc);
     let mut tally = Tally::default();
@@ -65,30 +59,35 @@ fn tally_of<R: AllocGlobal + Threads + Wait + Sync + Input + Print>(
         match reader.add(line?.as_str()) {
             Ok(Some(row)) => tally = tally.with(judge(rt, &row)?),
             Ok(None) => {}
-            Err(fault) => return Err(RowsError::Line { number, fault }),
+            Err(fault) => return Ok(Err((number, fault))),
         }
     }
-    if !reader.is_between() {
-        return Err(RowsError::Line {
-            number,
-            fault: Fault::NoEnd,
-        });
+    if reader.is_between() {
+        Ok(Ok(tally))
+    } else {
+        Ok(Err((number, Fault::NoEnd)))
     }
-    Ok(tally)
 }
 
-fn report<R: AllocGlobal + Threads + Wait + Sync + Input + Print>(
+// Says how many passed, or which line is bad.
+fn report<R: AllocGlobal + Threads + Wait + Sync + Input + Print + Eprint>(
     rt: &R,
-) -> Result<bool, RowsError> {
-    let tally = tally_of(rt)?;
-    println!(rt; "{} passed, {} failed", tally.passed, tally.failed)?;
-    Ok(tally.failed == 0)
+) -> io::Result<ExitCode> {
+    match tally_of(rt)? {
+        Ok(Tally { passed, failed }) => {
+            println!(rt; "{passed} passed, {failed} failed")?;
+            Ok(ExitCode::from((failed > 0) as u8))
+        }
+        Err((number, fault)) => {
+            let _ = eprintln!(rt; "rows: line {number}: {}", fault.text());
+            Ok(ExitCode::from(2))
+        }
+    }
 }
 
 fn main(rt: HostRuntime) -> ExitCode {
     match report(&rt) {
-        Ok(true) => ExitCode::SUCCESS,
-        Ok(false) => ExitCode::FAILURE,
+        Ok(code) => code,
         Err(error) => {
             let _ = eprintln!(rt; "rows: {error}");
             ExitCode::from(2)

@@ -4,7 +4,7 @@ use std::alloc::Global;
 use std::mem;
 
 // Where in a row a line stands.
-#[derive(Clone, Copy, Debug, PartialEq, Eq)]
+#[derive(Clone, Copy, PartialEq, Eq)]
 enum Stage {
     Between,
     Named,

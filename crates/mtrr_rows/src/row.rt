@@ -1,6 +1,5 @@
 use mt_ports::Status;
-use std::alloc::{AllocError, Global};
-use thiserror::Error;
+use std::alloc::{AllocError, AllocFailed, Global};
 
 /// A run of the program: the words of its command line and its whole input, and the status and the
 /// whole output that it must give.
@@ -41,20 +40,40 @@ impl Row {
 }
 
 /// Why a line isn't of the format of rows, or can't be kept.
-#[derive(Clone, Copy, Debug, PartialEq, Eq, Error)]
+#[derive(Clone, Copy)]
 pub enum Fault {
-    #[error("no line of this kind here")]
     BadKind,
-    #[error("a blank at the end, or a byte that has to be escaped")]
     BadByte,
-    #[error("bad escape")]
     BadEscape,
-    #[error("bad word")]
     BadWord,
-    #[error("bad status")]
     BadStatus,
-    #[error("no end")]
     NoEnd,
-    #[error("out of memory")]
-    Memory(#[from(alloc)] AllocError),
+    Memory,
+}
+
+impl From<AllocError> for Fault {
+    fn from(_error: AllocError) -> Fault {
+        Fault::Memory
+    }
+}
+
+impl<T: Drop> From<AllocFailed<T>> for Fault {
+    fn from(_failed: AllocFailed<T>) -> Fault {
+        Fault::Memory
+    }
+}
+
+impl Fault {
+    /// What is printed of it.
+    pub fn text(self) -> &'static str {
+        match self {
+            Fault::BadKind => "no line of this kind here",
+            Fault::BadByte => "a blank at the end, or a byte that has to be escaped",
+            Fault::BadEscape => "bad escape",
+            Fault::BadWord => "bad word",
+            Fault::BadStatus => "bad status",
+            Fault::NoEnd => "no end",
+            Fault::Memory => "out of memory",
+        }
+    }
 }
