@@ -46,7 +46,7 @@ _mtrr_import() {
     if [ "$COMP_CWORD" -eq 1 ]; then
         COMPREPLY=($(compgen -W 'auto chipsec coreboot edk2 inteltool linux plain rdmsr windbg x86info xen -h --help --version' -- "$word"))
     else
-        _mtrr_supply "$word" maxphyaddr assume 0fe 268 277 2ff
+        _mtrr_supply "$word" maxphyaddr assume table 0fe 268 277 2ff
         _mtrr_files "$word"
     fi
 }

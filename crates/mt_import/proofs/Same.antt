@@ -9,7 +9,7 @@ use Rattle.mt_import.specs.declared.shape.Tally.{Tally}
 use Rattle.mt_import.specs.declared.supplied.Assumed.{Assumed}
 use Rattle.mt_import.specs.Supplied.{IsSupplied, Supplied, all_assumed, supplied_value}
 use Rattle.mt_import.specs.Values.{Known, assumed_capabilities, assumed_default, assumed_fixed, assumed_of, assumed_pair, assumed_value, assumed_zero, base_of, disabled_value, firm_value, firm_width, has_pairs, is_unshown, mask_of, masks_in, only_if, or_supplied, pair_count, shown_pairs, shows_one_of, shows_pairs, shows_part, widest, width_by}
-use Rattle.mt_import.specs.Outcome.{Findings, Seen, Slots, Summary, Outcome, advice_of, all_needed, allowed_text, allowing_all, behind_blank, choice_word, dump_outcome, ended, ended_by, file_of, files_of, findings_of, first_pairs, firm_of, fixed_of, help_on, help_on_width, help_words, helps_on, hint_by, hint_of, is_empty, is_missing, is_nowhere, joined, known_by, lacking_text, lacks_before, missing_lines, missing_of, missing_width, needed, note_line, note_lines, noted, noted_of, notes_of, processors, processors_text, refusal, register_words, slot_shown, summary_of, value_or_zero, value_words, values_of, width_note, width_hint_of, width_of, width_word}
+use Rattle.mt_import.specs.Outcome.{Findings, Seen, Slots, Summary, Outcome, advice_of, all_needed, allowed_text, allowing_all, behind_blank, choice_word, dump_outcome, ended, ended_by, file_of, files_of, findings_of, first_pairs, firm_of, fixed_of, help_on, help_on_width, help_words, helps_on, hint_by, hint_of, is_empty, is_missing, is_nowhere, joined, known_by, lacking_text, lacks_before, missing_lines, missing_of, missing_width, needed, note_line, note_lines, noted, noted_of, notes_of, processors, processors_text, refusal, register_words, slot_shown, summary_of, table_word, value_or_zero, value_words, values_of, width_note, width_hint_of, width_of, width_word}
 use Rattle.mt_import.specs.Reader.{HasTakenFacts, IsReader, State, findings_in, slots_of, summary_in, values_in}
 
 -- ---- the same slots of one processor
@@ -229,7 +229,7 @@ module _ (supplied : Supplied) (v w : Slots) (same : (k n : ℕ) → v k n ≡ w
 
   abbrev line_by : Bool → Option ℕ → Option ℕ → List ℕ → List ℕ → List ℕ
   line_by auto width hint help words =
-      codes "try: mtrr-import " ++ choice_word auto shown.format ++ width_word supplied.width width hint ++ register_words supplied.registers ++ behind_blank help ++ words ++ codes "\n"
+      codes "try: mtrr-import " ++ choice_word auto shown.format ++ table_word supplied.table ++ width_word supplied.width width hint ++ register_words supplied.registers ++ behind_blank help ++ words ++ codes "\n"
 
   same_advice : (auto : Bool) → advice_of auto supplied before ≡ advice_of auto supplied behind
   same_advice auto =

@@ -17,6 +17,7 @@ help_lines =
     ∷ codes "  maxphyaddr=N    supplies the bits of a physical address, 32 to 52"
     ∷ codes "  assume=NAME     assumes what no line and no word says: capabilities, fixed,"
     ∷ codes "                  masks, pairs, pat, width or all; comments name what was assumed"
+    ∷ codes "  table=N         reads one of the log's tables alone: first, last or its number"
     ∷ codes "  LOG             names the log; without it, or if it is -, standard input is read"
     ∷ codes "  -h, --help      this text"
     ∷ codes "  --version       the version"

@@ -1,8 +1,10 @@
 -- What the program writes for a command line and a log, and the status that it ends with (own).
---     log_outcome choice supplied text      the texts and the status for a log
+--     log_outcome choice supplied text      the texts and the status for a log, of which all tables are read
+--     tables_outcome choice supplied text      the same for those that words ask for
 --     outcome_of words bytes      the same for a command line
 --     output_of words bytes      one text and the status: the dump, or else the reasons
-use Rattle.std.specs.Prelude.{ℕ, ◌≡◌, ◌≢◌, ◌<◌, ◌⊎◌, ◌↔◌, ◌++◌, Bool, List, [], codes, length, if◌then◌else◌, Option, Some, None, is_some, IsSome, ⊤}
+use Rattle.std.specs.Prelude.{ℕ, ◌≡◌, ◌≢◌, ◌<◌, ◌⊎◌, ◌↔◌, ◌++◌, Bool, List, [], codes, length, if◌then◌else◌, Option, Some, None, Result, Ok, Err, is_some, IsSome, ⊤}
+use Rattle.std.specs.Option.{option_map_or}
 use Rattle.std.specs.Io.KnownBytes.{Appends}
 use Rattle.mt_text.specs.Text.{longest_input}
 use Rattle.mt_text.specs.Feed.{GaveTooMuch}
@@ -18,10 +20,40 @@ use Rattle.mt_import.specs.declared.format.Choice.{Choice}
 use Rattle.mt_import.specs.Shown.{format_of, is_auto, shown}
 use Rattle.mt_import.specs.Help.{own_text}
 use Rattle.mt_import.specs.Supplied.{Supplied, command_of}
-use Rattle.mt_import.specs.Outcome.{Outcome, is_empty, nothing_seen, facts_outcome}
+use Rattle.mt_import.specs.declared.fault.ImportFault.{ImportFault}
+use Rattle.mt_import.specs.declared.shape.Failure.{Failure}
+use Rattle.mt_import.specs.declared.shape.Pick.{Pick}
+use Rattle.mt_import.specs.declared.shape.Tables.{Tables}
+use Rattle.mt_import.specs.declared.shape.Warned.{Warned}
+use Rattle.mt_import.specs.LogTables.{facts_of_tables, has_picked, missing_table, table_hint, tables_of}
+use Rattle.mt_import.specs.Readings.{Fact}
+use Rattle.mt_import.specs.Outcome.{Outcome, Seen, ended, facts_fault, facts_outcome, faulted, is_empty, nothing_seen, refusal, seen_after, warned_till}
 
 abbrev pub log_outcome : Choice → Supplied → List ℕ → Outcome
 log_outcome choice supplied text = facts_outcome (is_auto choice) supplied (nothing_seen (format_of choice)) (shown (format_of choice) text)
+
+-- the outcome of these facts, where the log has the table that is asked for
+abbrev pub closed : Bool → Supplied → Tables → Seen → Outcome
+closed auto supplied tables seen = if has_picked supplied.table tables then ended auto supplied seen else refusal seen.tally (missing_table supplied.table tables)
+
+abbrev pub failure : Tables → Warned → ImportFault → Failure
+failure tables warned fault = record { stop = record { fault = fault; warned = warned }; tables = tables }
+
+-- what facts of a log with these tables come to: the first fault, or the outcome behind them
+abbrev pub log_answer : Bool → Supplied → Tables → Seen → List Fact → Result Outcome Failure
+log_answer auto supplied tables start facts =
+    option_map_or (λ fault. Err (failure tables (warned_till supplied start facts) fault)) (facts_fault supplied start facts) (Ok (closed auto supplied tables (seen_after start facts)))
+
+abbrev pub failed : Pick → Failure → Outcome
+failed pick failed_by = faulted failed_by.stop.fault failed_by.stop.warned (table_hint pick failed_by)
+
+abbrev pub answered : Pick → Result Outcome Failure → Outcome
+answered pick (Ok told) = told
+answered pick (Err failed_by) = failed pick failed_by
+
+abbrev pub tables_outcome : Choice → Supplied → List ℕ → Outcome
+tables_outcome choice supplied text =
+    answered supplied.table (log_answer (is_auto choice) supplied (tables_of (format_of choice) text) (nothing_seen (format_of choice)) (facts_of_tables supplied.table (format_of choice) text))
 
 abbrev pub own_outcome : List ℕ → Outcome
 own_outcome text = record { notes = []; dump = text; reasons = []; status = Done }
@@ -32,7 +64,7 @@ usage_outcome = record { notes = []; dump = []; reasons = usage_line; status = U
 abbrev pub outcome_by : Option (List ℕ) → Option (Choice × Supplied) → List ℕ → Outcome
 outcome_by (Some text) command bytes = own_outcome text
 outcome_by None None bytes = usage_outcome
-outcome_by None (Some command) bytes = log_outcome command.0 command.1 bytes
+outcome_by None (Some command) bytes = tables_outcome command.0 command.1 bytes
 
 abbrev pub outcome_of : List (List ℕ) → List ℕ → Outcome
 outcome_of words bytes = outcome_by (own_text words) (command_of words) bytes

@@ -15,6 +15,7 @@ pub mod Linux
 pub mod Xen
 pub mod Edk2
 pub mod Shown
+pub mod LogTables
 pub mod Supplied
 pub mod Digits
 pub mod Values
@@ -23,3 +24,4 @@ pub mod Outcome
 pub mod Reader
 pub mod Help
 pub mod Import
+pub mod Tries

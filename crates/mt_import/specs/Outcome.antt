@@ -21,6 +21,8 @@ use Rattle.mt_import.specs.declared.fault.Rival.TheVariants.{Line, Word, Capabil
 use Rattle.mt_import.specs.declared.format.Format.{Format}
 use Rattle.mt_import.specs.declared.format.Format.TheVariants.{Rdmsr, X86info, Inteltool, Coreboot, Edk2, Linux, Xen, Chipsec, Windbg, Plain}
 use Rattle.mt_import.specs.declared.shape.LastPair.{LastPair}
+use Rattle.mt_import.specs.declared.shape.Pick.{Pick}
+use Rattle.mt_import.specs.declared.shape.Pick.TheVariants.{Each, Number, Last}
 use Rattle.mt_import.specs.declared.shape.Reading.{Reading}
 use Rattle.mt_import.specs.declared.shape.Slot.{Slot}
 use Rattle.mt_import.specs.declared.shape.Tally.{Tally}
@@ -483,7 +485,7 @@ hint_by supplied found number =
 
 -- the same words with all assumptions, and with the greatest width where none is supplied
 abbrev pub allowing_all : Supplied → Supplied
-allowing_all supplied = record { width = or_supplied supplied.width (Some 52); registers = supplied.registers; assumed = all_assumed }
+allowing_all supplied = record supplied { width = or_supplied supplied.width (Some 52); assumed = all_assumed }
 
 -- the same where no processor would lack it
 unfoldable pub hint_of : Supplied → Findings → ℕ → Option ℕ
@@ -575,6 +577,12 @@ abbrev pub help_words : Supplied → Findings → List ℕ → List ℕ
 help_words supplied found numbers =
     helps_on supplied found (joined (allowed_text supplied.assumed) (help_on_width (width_of supplied found) (width_hint_of supplied found))) numbers
 
+-- the word for the tables that are read
+abbrev pub table_word : Pick → List ℕ
+table_word Each = []
+table_word (Number number) = codes " table=" ++ decimal number
+table_word Last = codes " table=last"
+
 -- the format's word
 abbrev pub choice_word : Bool → Option Format → List ℕ
 choice_word true format = codes "auto"
@@ -583,8 +591,8 @@ choice_word false format = format_name format
 -- The words so far, with those that would supply all: `try: mtrr-import auto assume=all 2ff=VALUE`
 abbrev pub advice_of : Bool → Supplied → Findings → List ℕ
 advice_of auto supplied found =
-    codes "try: mtrr-import " ++ choice_word auto found.shown.format ++ width_word supplied.width (width_of supplied found) (width_hint_of supplied found) ++ register_words supplied.registers
-    ++ behind_blank (help_words supplied found (all_needed supplied found)) ++ value_words supplied found (all_needed supplied found) ++ codes "\n"
+    codes "try: mtrr-import " ++ choice_word auto found.shown.format ++ table_word supplied.table ++ width_word supplied.width (width_of supplied found) (width_hint_of supplied found)
+    ++ register_words supplied.registers ++ behind_blank (help_words supplied found (all_needed supplied found)) ++ value_words supplied found (all_needed supplied found) ++ codes "\n"
 
 -- what there is to tell at the end of a log
 pub record Summary : Type 0 where
@@ -629,6 +637,10 @@ findings_of seen = record { slots = slot_shown seen.readings; count = processors
 
 abbrev pub ended : Bool → Supplied → Seen → Outcome
 ended auto supplied seen = ended_by (summary_of auto supplied (findings_of seen) seen.tally)
+
+-- a fault, behind what lines before it warn of, with what is told behind it
+abbrev pub faulted : ImportFault → Warned → List ℕ → Outcome
+faulted fault warned hint = record { notes = []; dump = []; reasons = warning_lines warned ++ (fault_line fault ++ hint); status = BadText }
 
 -- the first fault, behind what lines before it warn of
 abbrev pub unless : Option ImportFault → Warned → Outcome → Outcome

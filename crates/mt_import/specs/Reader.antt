@@ -1,11 +1,8 @@
 -- What a reader of a log keeps of the facts that it has taken (own).
 --     HasTakenFacts state seen      the reader has taken these facts
 --     TakesFacts supplied old new facts result      a call that takes more of them
-use Rattle.std.specs.Prelude.{ℕ, ◌≡◌, ◌≤◌, ◌<◌, ◌+◌, ◌-◌, ◌*◌, ◌==◌, ◌&&◌, nat_lt, bit_or, Bool, List, [], length, if◌then◌else◌, Option, Some, None, is_none, IfSome, Result, Ok, Err, IfErr, MatchResult, ⊤}
+use Rattle.std.specs.Prelude.{ℕ, ◌≡◌, ◌≤◌, ◌<◌, ◌+◌, ◌-◌, ◌*◌, ◌==◌, ◌&&◌, nat_lt, bit_or, Bool, List, [], length, if◌then◌else◌, Option, Some, None, is_none, IfSome, Result, IfErr, MatchResult, ⊤}
 use Rattle.std.specs.List.{slice_index_or}
-use Rattle.std.specs.Option.{option_map_or}
-use Rattle.mt_text.specs.Reader.{Course}
-use Rattle.mt_text.specs.declared.place.Place.{Place}
 use Rattle.mt_regs.specs.RegisterFile.{low_byte}
 use Rattle.mt_regs.specs.Registers.{HasThreeDigits}
 use Rattle.mt_import.specs.declared.fault.ImportFault.{ImportFault}
@@ -20,8 +17,7 @@ use Rattle.mt_import.specs.declared.shape.Warned.{Warned}
 use Rattle.mt_import.specs.Slot.{blank_slot}
 use Rattle.mt_import.specs.Supplied.{Supplied}
 use Rattle.mt_import.specs.Readings.{Fact}
-use Rattle.mt_import.specs.Shown.{facts_from}
-use Rattle.mt_import.specs.Outcome.{Findings, Outcome, Seen, Summary, capabilities_shown, ended, facts_fault, firm_of, help_on, help_words, helps_on, hint_of, is_missing, is_nowhere, lacking_text, last_fixed_line, last_shown, missing_line, missing_lines, note_line, note_lines, noted, noted_of, processors, processors_text, seen_after, seen_with, slot_shown, summary_of, value_word, value_words, values_of, warned_till}
+use Rattle.mt_import.specs.Outcome.{Findings, Seen, Summary, capabilities_shown, facts_fault, firm_of, help_on, help_words, helps_on, hint_of, is_missing, is_nowhere, lacking_text, last_fixed_line, last_shown, missing_line, missing_lines, note_line, note_lines, noted, noted_of, processors, processors_text, seen_after, seen_with, slot_shown, summary_of, value_word, value_words, values_of, warned_till}
 
 pub record State : Type 0 where
   pub context : Context
@@ -185,16 +181,3 @@ pub record TakesFacts {U : Type 0} (supplied : Supplied) (old new : State) (fact
       (λ _. HasTakenFacts new (seen_after seen facts) × (facts_fault supplied seen facts ≡ None))
       (λ fault. (facts_fault supplied seen facts ≡ Some fault) × (new.tally.warned ≡ warned_till supplied seen facts))
   pub short : IfErr result IsShort
-
-abbrev pub stop : Warned → ImportFault → Stop
-stop warned fault = record { fault = fault; warned = warned }
-
--- what facts come to: the first fault, or the outcome behind them
-abbrev pub facts_answer : Bool → Supplied → Seen → List Fact → Result Outcome Stop
-facts_answer auto supplied seen facts = option_map_or (λ fault. Err (stop (warned_till supplied seen facts) fault)) (facts_fault supplied seen facts) (Ok (ended auto supplied (seen_after seen facts)))
-
--- The lines that follow, of which the first has this number, lead a reader to this.
-pub record LeadsTo (auto : Bool) (supplied : Supplied) (state : State) (number : ℕ) (course : Course (Result Outcome Stop)) : Type 0 where
-  pub seen : Seen
-  pub taken : HasTakenFacts state seen
-  pub leads : (lines : List (List ℕ)) (end : Place) → course lines end ≡ facts_answer auto supplied seen (facts_from state.context number lines)

@@ -10,9 +10,11 @@ use Rattle.mt_regs.specs.Registers.{HasThreeDigits}
 use Rattle.mt_import.specs.declared.format.Choice.{Choice}
 use Rattle.mt_import.specs.declared.format.Choice.TheVariants.{Auto, Only}
 use Rattle.mt_import.specs.declared.format.Format.TheVariants.{Rdmsr, X86info, Inteltool, Coreboot, Edk2, Linux, Xen, Chipsec, Windbg, Plain}
+use Rattle.mt_import.specs.declared.shape.Pick.{Pick}
+use Rattle.mt_import.specs.declared.shape.Pick.TheVariants.{Each, Number, Last}
 use Rattle.mt_import.specs.declared.supplied.Assumed.{Assumed}
 use Rattle.mt_import.specs.declared.supplied.Given.{Given}
-use Rattle.mt_import.specs.declared.supplied.Given.TheVariants.{Width, Register, Assume}
+use Rattle.mt_import.specs.declared.supplied.Given.TheVariants.{Width, Register, Assume, Table}
 use Rattle.mt_import.specs.Pieces.{behind, is_text}
 use Rattle.mt_import.specs.Readings.{is_register}
 
@@ -21,6 +23,7 @@ pub record Supplied : Type 0 where
   pub width : Option ℕ
   pub registers : List (ℕ × ℕ)
   pub assumed : Assumed
+  pub table : Pick
 
 abbrev pub nothing_assumed : Assumed
 nothing_assumed = record { pat = false; pairs = false; masks = false; fixed = false; width = false; capabilities = false }
@@ -29,7 +32,7 @@ abbrev pub all_assumed : Assumed
 all_assumed = record { pat = true; pairs = true; masks = true; fixed = true; width = true; capabilities = true }
 
 abbrev pub nothing_supplied : Supplied
-nothing_supplied = record { width = None; registers = []; assumed = nothing_assumed }
+nothing_supplied = record { width = None; registers = []; assumed = nothing_assumed; table = Each }
 
 abbrev pub value_among : ℕ → List (ℕ × ℕ) → Option ℕ
 value_among number registers = option_map (λ register. register.1) (find (λ register. register.0 == number) registers)
@@ -58,6 +61,7 @@ abbrev pub AreGiven : Given → Type 0
 AreGiven (Width width) = (32 ≤ width) × (width ≤ 52)
 AreGiven (Register number value) = HasThreeDigits number × (number ≡ 0xfe → low_byte value ≤ 32)
 AreGiven (Assume assumed) = ⊤
+AreGiven (Table pick) = ⊤
 
 abbrev pub is_equals : ℕ → Bool
 is_equals byte = byte == 61
@@ -94,15 +98,33 @@ abbrev pub given_assumption : Option Assumed → Option Given
 given_assumption None = None
 given_assumption (Some assumed) = Some (Assume assumed)
 
+abbrev pub numbered : Result ℕ NumberFault → Option Pick
+numbered (Ok number) = if nat_lt 0 number then Some (Number number) else None
+numbered (Err fault) = None
+
+abbrev pub table_named : List ℕ → Option Pick
+table_named name =
+    if is_text (codes "first") name then Some (Number 1)
+    else if is_text (codes "last") name then Some Last
+    else numbered (decimal_number name 65535)
+
+abbrev pub given_table : Option Pick → Option Given
+given_table None = None
+given_table (Some pick) = Some (Table pick)
+
+abbrev pub given_named : List ℕ → Option (List ℕ) → Option Given
+given_named word (Some name) = given_table (table_named name)
+given_named word None = given_at word (position is_equals word)
+
 abbrev pub given_unless : List ℕ → Option (List ℕ) → Option Given
 given_unless word (Some name) = given_assumption (assumption_named name)
-given_unless word None = given_at word (position is_equals word)
+given_unless word None = given_named word (behind (codes "table=") word)
 
 abbrev pub given_by : List ℕ → Option (List ℕ) → Option Given
 given_by word (Some digits) = given_width (decimal_number digits 52)
 given_by word None = given_unless word (behind (codes "assume=") word)
 
--- `maxphyaddr=N`, `assume=NAME` or `REGISTER=VALUE`
+-- `maxphyaddr=N`, `assume=NAME`, `table=first`, `table=last`, `table=N` or `REGISTER=VALUE`
 abbrev pub given_of : List ℕ → Option Given
 given_of word = given_by word (behind (codes "maxphyaddr=") word)
 
@@ -112,15 +134,21 @@ are_both a b = (a.pat && b.pat) || (a.pairs && b.pairs) || (a.masks && b.masks) 
 abbrev pub assumed_too : Assumed → Assumed → Assumed
 assumed_too a b = record { pat = a.pat || b.pat; pairs = a.pairs || b.pairs; masks = a.masks || b.masks; fixed = a.fixed || b.fixed; width = a.width || b.width; capabilities = a.capabilities || b.capabilities }
 
+abbrev pub has_table : Pick → Bool
+has_table Each = false
+has_table (Number number) = true
+has_table Last = true
+
 -- nothing is given twice
 abbrev pub with_given : Supplied → Given → Option Supplied
-with_given supplied (Width width) = if is_some supplied.width then None else Some (record { width = Some width; registers = supplied.registers; assumed = supplied.assumed })
+with_given supplied (Width width) = if is_some supplied.width then None else Some (record supplied { width = Some width })
 with_given supplied (Register number value) =
     if is_some (supplied_value supplied number) then None
-    else Some (record { width = supplied.width; registers = supplied.registers ++ (number, value) ∷ []; assumed = supplied.assumed })
+    else Some (record supplied { registers = supplied.registers ++ (number, value) ∷ [] })
 with_given supplied (Assume assumed) =
     if are_both supplied.assumed assumed then None
-    else Some (record { width = supplied.width; registers = supplied.registers; assumed = assumed_too supplied.assumed assumed })
+    else Some (record supplied { assumed = assumed_too supplied.assumed assumed })
+with_given supplied (Table pick) = if has_table supplied.table then None else Some (record supplied { table = pick })
 
 abbrev pub with_word : Supplied → Option Given → Option Supplied
 with_word supplied None = None
@@ -151,7 +179,7 @@ command_with None supplied = None
 command_with (Some choice) None = None
 command_with (Some choice) (Some supplied) = Some (choice, supplied)
 
--- the format, and the width, 78 registers and six assumptions at most
+-- the format, and the width, 78 registers, six assumptions and a table at most
 abbrev pub command_of : List (List ℕ) → Option (Choice × Supplied)
 command_of [] = None
-command_of (name ∷ words) = if nat_lt 85 (length words) then None else command_with (format_named name) (with_words (Some nothing_supplied) words)
+command_of (name ∷ words) = if nat_lt 86 (length words) then None else command_with (format_named name) (with_words (Some nothing_supplied) words)

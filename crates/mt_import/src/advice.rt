@@ -2,11 +2,12 @@ ghost use Rattle.std.specs.Prelude.{◌≡◌, ◌≤◌, ◌<◌, ◌+◌, ◌+
 ghost use Rattle.std.specs.List.{All};
 ghost use Rattle.arrayvec.specs.ArrayVec.{array_vec_len};
 ghost use Rattle.mt_regs.specs.Registers.{HasThreeDigits};
-ghost use Rattle.mt_import.specs.Outcome.{advice_of, allowed_text, allowing_all, behind_blank, choice_word, help_on_width, joined, register_word, register_words, width_word, word_if};
+ghost use Rattle.mt_import.specs.Outcome.{advice_of, allowed_text, allowing_all, behind_blank, choice_word, help_on_width, joined, register_word, register_words, table_word, width_word, word_if};
 ghost use Rattle.mt_import.specs.Reader.{findings_in, help_in, help_words_in, helps_in, value_word_in, value_words_in};
 
 use crate::missing::number_at;
 use crate::pieces::is_text;
+use crate::shape::Pick;
 use crate::supplied::Assumed;
 use crate::text::{assumption_text, format_name, is_empty};
 use crate::values::widest;
@@ -80,6 +81,23 @@ fn choice_word(is_auto: bool, format: Option<Format>) -> &'static [u8]
     }
 }
 
+// The word for the tables that are read.
+fn table_word(pick: Pick) -> LineBuffer
+    ensures text { result.items ≡ table_word pick }
+    ensures short { array_vec_len result ≤ 27 }
+{
+    let mut text = ArrayVec::new();
+    match pick {
+        Pick::Each => {}
+        Pick::Number(number) => {
+            append(&mut text, b" table=");
+            append_decimal(&mut text, number);
+        }
+        Pick::Last => append(&mut text, b" table=last"),
+    }
+    text
+}
+
 fn width_word(word: Option<u8>, known: Option<u8>, hint: Option<u8>) -> LineBuffer
     ensures text { result.items ≡ width_word word known hint }
     ensures short { array_vec_len result ≤ 40 }
@@ -129,7 +147,7 @@ fn append_register_word(text: &mut TextBuffer, register: (u32, u64))
 
 fn append_register_words(text: &mut TextBuffer, registers: &[(u32, u64)])
     requires room { array_vec_len text.old ≤ 128 }
-    requires few { length registers.now ≤ 85 }
+    requires few { length registers.now ≤ 86 }
     requires numbers { All (λ register. HasThreeDigits register.0) registers.now }
     ensures text { text.new.items ≡ text.old.items ++ register_words registers.now }
     ensures short { array_vec_len text.new ≤ 2048 }
@@ -254,6 +272,7 @@ impl LogReader {
         let mut text = ArrayVec::new();
         append_text(&mut text, b"try: mtrr-import ");
         append_text(&mut text, choice_word(is_auto, self.tally().format));
+        append_text(&mut text, table_word(supplied.table()).as_slice());
         let known = self.width(supplied);
         let hint = widest(self.masks(supplied));
         append_text(

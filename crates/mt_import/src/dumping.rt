@@ -195,8 +195,8 @@ fn remarks(is_auto: bool, tally: &Tally) -> TextBuffer
     text
 }
 
-// What is told in place of a dump.
-fn refusal(tally: &Tally, missing: &[u8]) -> Outcome
+/// What is told in place of a dump.
+pub(crate) fn refusal(tally: &Tally, missing: &[u8]) -> Outcome
     requires { length missing.now ≤ 0x7000 }
     ensures told { result ≡ refusal tally.now missing.now }
     ensures written { IsWritten result.status (dump_text result) }

@@ -108,8 +108,8 @@ impl Format {
     }
 }
 
-// The line without a byte-order mark of UTF-8 at its front.
-fn unmarked<'a>(line: &Line<'a>) -> Line<'a>
+/// The line without a byte-order mark of UTF-8 at its front.
+pub(crate) fn unmarked<'a>(line: &Line<'a>) -> Line<'a>
     ensures number { result.number ≡ line.now.number }
     ensures bytes { result.bytes.now ≡ unmarked line.now.bytes.now }
 {

@@ -17,6 +17,7 @@ wrong to standard error.
   maxphyaddr=N    supplies the bits of a physical address, 32 to 52
   assume=NAME     assumes what no line and no word says: capabilities, fixed,
                   masks, pairs, pat, width or all; comments name what was assumed
+  table=N         reads one of the log's tables alone: first, last or its number
   LOG             names the log; without it, or if it is -, standard input is read
   -h, --help      this text
   --version       the version

@@ -3,6 +3,7 @@
 
 mod advice;
 mod chipsec;
+mod command_reader;
 mod coreboot;
 mod digits;
 mod dumping;
@@ -14,6 +15,7 @@ mod inteltool;
 mod kernel;
 mod line_words;
 mod linux;
+mod log_tables;
 mod missing;
 mod pieces;
 mod plain;
@@ -27,6 +29,7 @@ mod slot;
 mod supplied;
 mod tables;
 mod text;
+mod tries;
 mod values;
 mod warnings;
 mod windbg;
@@ -35,16 +38,20 @@ mod x86info;
 mod xen;
 
 pub use chipsec::CHIPSEC;
+pub use command_reader::read_log;
 pub use digits::rows_have_their_digits;
 pub use fault::{ImportFault, Reason, Rival, Stop};
 pub use format::{Choice, Format};
 pub use inteltool::INTELTOOL;
 pub use plain::PLAIN;
 pub use program::program_status;
-pub use reader::{LogReader, read_log};
+pub use reader::LogReader;
 pub use reading::{Context, LineSays, Shows, Turn};
 pub use running::{import, import_apart};
-pub use shape::{Announced, FixedLine, Reading, Shown, Slot, Tally, Warned, Warning};
+pub use shape::{
+    Announced, Failure, FixedLine, Pick, Reading, Shown, Slot, Tables, Tally, Told, Warned,
+    Warning, Way,
+};
 pub use supplied::{Assumed, Supplied, command_of};
 pub use tables::{EACH, Row, Says};
 pub use text::Outcome;

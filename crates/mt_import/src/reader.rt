@@ -1,26 +1,16 @@
-ghost use Rattle.std.specs.Prelude.{◌≡◌, ◌≤◌, ◌<◌, ℕ, List, [], ◌∷◌, length, max, slice_get, Some, IfOk, IfSome, IsErrOf, MatchResult, ◌↔◌};
-ghost use Rattle.mt_text.specs.Text.{longest_input};
-ghost use Rattle.mt_ports.specs.Causes.{Rose};
-ghost use Rattle.mt_text.specs.Feed.{GaveTooMuch};
-ghost use Rattle.mt_text.specs.declared.fault.FeedFault.{FeedFault};
-ghost use Rattle.mt_import.specs.Readings.{fixed_clash, fixed_facts, is_line, is_register_value, is_width, line_facts, listed_facts, reading_facts, said_facts, shown_facts, shows_facts, starts, unlike, value_facts};
-ghost use Rattle.mt_import.specs.Shown.{context_behind, facts_of_line};
+ghost use Rattle.std.specs.Prelude.{◌≡◌, ◌≤◌, ◌<◌, [], ◌∷◌, max, slice_get, Some, IfOk, IfSome};
+ghost use Rattle.mt_import.specs.Readings.{context_after, fixed_clash, fixed_facts, is_line, is_register_value, is_width, line_facts, listed_facts, reading_facts, said_facts, shown_facts, shows_facts, starts, unlike, value_facts};
 ghost use Rattle.mt_import.specs.Outcome.{Seen, capabilities_after, count_of, fixed_line_after, is_fit_width, last_after, least_count, nothing_seen, one_if, shows_fixed};
-ghost use Rattle.mt_import.specs.Import.{IsWritten, dump_text, log_outcome};
 ghost use Rattle.mt_import.specs.Reader.{HasSlot, HasTakenFacts, IsFit, IsReader, IsShort, KeepsFact, MayKeep, TakesFacts, held_at, slot_of, slots_of};
 
-use crate::fault::Stop;
-use crate::format::{chosen, said_in};
 use crate::pieces::{count_on, shown_as};
 use crate::reading::{MOST_SHOWN, fixed_shows, is_register, named_processor};
-use crate::shape::{FixedLine, LastPair, Reading, Shown, Slot, Tally, Warned};
-use crate::text::{Outcome, faulted};
+use crate::shape::{FixedLine, LastPair, Reading, Shown, Slot, Tally, Told, Warned};
 use crate::values::is_pair_number;
-use crate::{Choice, Context, Format, ImportFault, LineSays, Reason, Rival, Shows, Supplied};
+use crate::{Context, Format, ImportFault, LineSays, Reason, Rival, Shows, Supplied};
 use mt_kinds::{PHYSMASK_V, is_bit_set};
-use mt_ports::Source;
 use mt_regs::{CAPABILITIES, DEFAULT_TYPE, FIRST_PAIR};
-use mt_text::{FeedFault, Line, LineReader, Place, read_lines};
+use mt_text::Place;
 use std::marker::Model;
 
 mod rivals;
@@ -502,82 +492,41 @@ impl LogReader {
         self.take_said(supplied, said)
     }
 
-    /// Takes one line.
-    pub fn take(&mut self, supplied: &Supplied, line: &Line<'_>) -> Result<(), ImportFault>
+    /// Takes what a line says.
+    pub(crate) fn take(
+        &mut self,
+        supplied: &Supplied,
+        told: &Told,
+        said: &LineSays,
+    ) -> Result<(), ImportFault>
         ensures facts { TakesFacts supplied.now self.old self.new
-            (facts_of_line self.old.context line.now.number line.now.bytes.now) result }
-        ensures context { IfOk result (λ _. self.new.context ≡ context_behind self.old.context line.now.number line.now.bytes.now) }
+            (line_facts told.now.number told.now.format self.old.context said.now) result }
+        ensures context { IfOk result (λ _. self.new.context ≡ context_after self.old.context told.now.format said.now) }
     {
         let before = self.context();
-        let format = chosen(before.format, line);
-        let said = said_in(format, line);
-        match self.take_in(supplied, line.number, format, &said) {
+        match self.take_in(supplied, told.number, told.format, said) {
             Ok(()) => {
-                self.set_context(before.after(format, &said));
+                self.set_context(before.after(told.format, said));
                 Ok(())
             }
             Err(fault) => Err(fault),
         }
     }
-}
 
-// A reader with what the command line says.
-#[derive(Drop)]
-struct CommandReader<'a> {
-    reader: LogReader,
-    is_auto: bool,
-    supplied: &'a Supplied,
-}
-
-impl<'a> LineReader for CommandReader<'a> {
-    type Answer = Outcome;
-
-    type Fault = Stop;
-
-    ghost use Rattle.mt_import.specs.Reader.{LeadsTo};
-
-    ghost at = { λ c. LeadsTo c.is_auto c.supplied.now c.reader };
-
-    ghost fits = { λ answer. MatchResult answer (λ outcome. IsWritten outcome.status (dump_text outcome)) (λ stop. IsShort stop.fault) };
-
-    fn take_line(&mut self, line: &Line<'_>) -> Result<(), Stop> {
-        match self.reader.take(self.supplied, line) {
-            Ok(()) => Ok(()),
-            Err(fault) => {
-                let warned = self.reader.tally().warned;
-                Err(Stop { fault, warned })
-            }
+    /// A reader that has taken the same lines.
+    pub(crate) fn copy(&self) -> LogReader
+        ensures { result ≡ self.now }
+    {
+        LogReader {
+            context: self.context,
+            slots: self.slots,
+            capabilities: self.capabilities,
+            last: self.last,
+            line_of_fixed: self.line_of_fixed,
+            processors: self.processors,
+            width: self.width,
+            line_of_width: self.line_of_width,
+            tally: self.tally,
         }
-    }
-
-    fn finish_at(self, _end: Place) -> Result<Outcome, Stop> {
-        Ok(self.reader.finish(self.is_auto, self.supplied))
-    }
-}
-
-/// What a log comes to, line by line out of one buffer. Behind a fault the rest is read too, since a failed read and
-/// too many bytes take precedence over it.
-pub fn read_log<S: Source>(
-    choice: Choice,
-    supplied: &Supplied,
-    source: &mut S,
-) -> Result<Outcome, FeedFault>
-    ensures answer { (bytes : List ℕ) → S.left source.old ≡ Some bytes → IfOk result (λ answer. answer ≡ log_outcome choice supplied.now bytes) }
-    ensures written { IfOk result (λ answer. IsWritten answer.status (dump_text answer)) }
-    ensures end { (bytes : List ℕ) → S.left source.old ≡ Some bytes → IfOk result (λ _. S.left source.new ≡ Some []) }
-    ensures too_long { IsErrOf result FeedFault.TooLong ↔ GaveTooMuch (S.given source.old) (S.given source.new) }
-    ensures long { (bytes : List ℕ) → S.left source.old ≡ Some bytes → IsErrOf result FeedFault.TooLong → longest_input < length bytes }
-    ensures failed { IsErrOf result FeedFault.ReadFault → Rose (S.faults source.old) (S.faults source.new) }
-    ensures stands { (IsErrOf result FeedFault.ReadFault → ⊥) → S.faults source.new ≡ S.faults source.old }
-{
-    let reader = CommandReader {
-        reader: LogReader::new(choice.format()),
-        is_auto: choice.is_auto(),
-        supplied,
-    };
-    match read_lines(reader, source) {
-        Ok(Ok(outcome)) => Ok(outcome),
-        Ok(Err(stop)) => Ok(faulted(&stop.fault, &stop.warned)),
-        Err(fault) => Err(fault),
     }
 }

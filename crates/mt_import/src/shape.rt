@@ -1,4 +1,4 @@
-use crate::Format;
+use crate::{Format, LineSays, Stop};
 use mt_text::Place;
 
 /// Bits of a processor's register, as a log shows them. The value has no other bits.
@@ -113,4 +113,50 @@ pub struct Tally {
     pub matches: u64,
     /// What they warn of.
     pub warned: Warned,
+}
+
+/// Which tables of a log are read.
+#[derive(Clone, Copy)]
+pub enum Pick {
+    /// All of them.
+    Each,
+    /// That of this number, from 1 on.
+    Number(u64),
+    /// The last one.
+    Last,
+}
+
+/// The tables of a log that have begun.
+#[derive(Clone, Copy)]
+pub struct Tables {
+    pub count: u64,
+    /// The line of the first one's heading, or 0 if none has begun.
+    pub first: u64,
+    /// That of the last one's.
+    pub last: u64,
+}
+
+/// What lines of a log lead to, whichever of its tables are read.
+#[derive(Clone, Copy)]
+pub struct Way {
+    /// The format, if it is known.
+    pub format: Option<Format>,
+    pub tables: Tables,
+}
+
+/// What a line of a log says in the format that is known behind it.
+#[derive(Clone, Copy)]
+pub struct Told {
+    pub number: u64,
+    pub format: Option<Format>,
+    pub said: LineSays,
+    /// Whether it is a line of a table.
+    pub is_part: bool,
+}
+
+/// Why a log shows no dump, and the tables that it has.
+#[derive(Clone, Copy)]
+pub struct Failure {
+    pub stop: Stop,
+    pub tables: Tables,
 }

@@ -3,10 +3,11 @@ ghost use Rattle.mt_regs.specs.RegisterFile.{low_byte};
 ghost use Rattle.mt_text.specs.Number.{decimal_number, hex_number};
 ghost use Rattle.mt_import.specs.Outcome.{allowing_all};
 ghost use Rattle.mt_import.specs.Pieces.{behind};
-ghost use Rattle.mt_import.specs.Supplied.{AreGiven, IsSupplied, all_assumed, are_both, assumed_too, assumption_named, command_of, command_with, format_named, given_assumption, given_at, given_by, given_of, given_register, given_unless, given_width, is_equals, nothing_assumed, nothing_supplied, supplied_value, value_among, with_given, with_word, with_words};
+ghost use Rattle.mt_import.specs.Supplied.{AreGiven, IsSupplied, all_assumed, are_both, assumed_too, assumption_named, command_of, command_with, format_named, given_assumption, given_at, given_by, given_named, given_of, given_register, given_table, given_unless, given_width, has_table, is_equals, nothing_assumed, nothing_supplied, supplied_value, table_named, value_among, with_given, with_word, with_words};
 
 use crate::pieces::is_text;
 use crate::reading::is_register;
+use crate::shape::Pick;
 use crate::{Choice, Format};
 use arrayvec::ArrayVec;
 use mt_regs::{CAPABILITIES, MAX_PAIRS};
@@ -17,8 +18,10 @@ const LEAST_WIDTH: u64 = 32;
 
 const GREATEST_WIDTH: u64 = 52;
 
-// The width, 78 registers and six assumptions.
-const MOST_WORDS: usize = 85;
+// The width, 78 registers, six assumptions and a table.
+const MOST_WORDS: usize = 86;
+
+const MOST_TABLES: u64 = 65_535;
 
 /// What may be assumed where neither a line nor a word says it. docs/IMPORT.md has each in words.
 #[derive(Clone, Copy)]
@@ -43,6 +46,7 @@ pub enum Given {
     Width(u8),
     Register(u32, u64),
     Assume(Assumed),
+    Table(Pick),
 }
 
 /// What the words of the command line supply.
@@ -50,8 +54,10 @@ pub enum Given {
 pub struct Supplied {
     pub width: Option<u8>,
     /// Each register's number and value.
-    pub registers: ArrayVec<(u32, u64), 85>,
+    pub registers: ArrayVec<(u32, u64), 86>,
     pub assumed: Assumed,
+    /// Which tables are read.
+    pub table: Pick,
 }
 
 impl Model for Supplied {
@@ -59,9 +65,9 @@ impl Model for Supplied {
 
     ghost Value = { Words };
 
-    ghost view = { λ s. record { width = s.width; registers = s.registers.items; assumed = s.assumed } };
+    ghost view = { λ s. record { width = s.width; registers = s.registers.items; assumed = s.assumed; table = s.table } };
 
-    ghost invariant = { λ s. IsSupplied (record { width = s.width; registers = s.registers.items; assumed = s.assumed }) };
+    ghost invariant = { λ s. IsSupplied (record { width = s.width; registers = s.registers.items; assumed = s.assumed; table = s.table }) };
 }
 
 fn value_among(number: u32, registers: &[(u32, u64)]) -> Option<u64>
@@ -152,13 +158,48 @@ fn given_assumption(name: &[u8]) -> Option<Given>
     }
 }
 
+fn table_named(name: &[u8]) -> Option<Pick>
+    ensures { result ≡ table_named name.now }
+{
+    if is_text(b"first", name) {
+        return Some(Pick::Number(1));
+    }
+    if is_text(b"last", name) {
+        return Some(Pick::Last);
+    }
+    match decimal(name, MOST_TABLES) {
+        Ok(number) if number > 0 => Some(Pick::Number(number)),
+        _ => None,
+    }
+}
+
+fn given_table(name: &[u8]) -> Option<Given>
+    ensures given { result ≡ given_table (table_named name.now) }
+    ensures sound { IfSome result AreGiven }
+{
+    match table_named(name) {
+        Some(pick) => Some(Given::Table(pick)),
+        None => None,
+    }
+}
+
+fn given_named(word: &[u8]) -> Option<Given>
+    ensures given { result ≡ given_named word.now (behind (codes "table=") word.now) }
+    ensures sound { IfSome result AreGiven }
+{
+    match word.strip_prefix(b"table=") {
+        Some(name) => given_table(name),
+        None => given_at(word),
+    }
+}
+
 fn given_unless(word: &[u8]) -> Option<Given>
     ensures given { result ≡ given_unless word.now (behind (codes "assume=") word.now) }
     ensures sound { IfSome result AreGiven }
 {
     match word.strip_prefix(b"assume=") {
         Some(name) => given_assumption(name),
-        None => given_at(word),
+        None => given_named(word),
     }
 }
 
@@ -265,6 +306,7 @@ impl Supplied {
             width: None,
             registers: ArrayVec::new(),
             assumed: Assumed::nothing(),
+            table: Pick::Each,
         }
     }
 
@@ -287,6 +329,7 @@ impl Supplied {
             width: self.width.or(Some(GREATEST_WIDTH as u8)),
             registers,
             assumed: Assumed::all(),
+            table: self.table,
         }
     }
 
@@ -297,6 +340,13 @@ impl Supplied {
         self.assumed
     }
 
+    /// Which tables are read.
+    pub(crate) fn table(&self) -> Pick
+        ensures { result ≡ self.now.table }
+    {
+        self.table
+    }
+
     /// A register's value, where it is supplied.
     pub fn value(&self, number: u32) -> Option<u64>
         ensures { result ≡ supplied_value self.now number }
@@ -304,9 +354,16 @@ impl Supplied {
         value_among(number, self.registers.as_slice())
     }
 
+    // Whether a word says which tables are read.
+    fn has_table(&self) -> bool
+        ensures { result ≡ has_table self.now.table }
+    {
+        !matches!(self.table, Pick::Each)
+    }
+
     // Adds what a word supplies, and says whether it wasn't supplied before.
     fn add(&mut self, given: Given) -> bool
-        requires room { length self.old.registers < 85 }
+        requires room { length self.old.registers < 86 }
         requires given { AreGiven given }
         ensures added { result ≡ true → with_given self.old given ≡ Some self.new }
         ensures twice { result ≡ false → with_given self.old given ≡ None }
@@ -334,13 +391,20 @@ impl Supplied {
                 self.assumed = self.assumed.and(&assumed);
                 true
             }
+            Given::Table(pick) => {
+                if self.has_table() {
+                    return false;
+                }
+                self.table = pick;
+                true
+            }
         }
     }
 }
 
 // What these words supply.
 fn with_words(words: &[String]) -> Option<Supplied>
-    requires { length words.now ≤ 85 }
+    requires { length words.now ≤ 86 }
     ensures { result ≡ with_words (Some nothing_supplied) (map string_bytes words.now) }
 {
     let mut supplied = Supplied::none();

@@ -1,13 +1,13 @@
 ghost use Rattle.std.specs.Prelude.{◌≡◌, ◌≤◌, ◌<◌, ◌+◌, ◌++◌, codes, decimal, length, Some, None};
 ghost use Rattle.arrayvec.specs.ArrayVec.{array_vec_len};
-ghost use Rattle.mt_import.specs.Outcome.{Outcome as Texts, assumption_text, contradiction_line, count_line, fault_line, format_name, hint_text, is_empty, missing_line, note_by, number_if, reason_text, rival_text, run_text, unless, width_hint, width_line, width_note};
+ghost use Rattle.mt_import.specs.Outcome.{assumption_text, contradiction_line, count_line, fault_line, faulted, format_name, hint_text, is_empty, missing_line, note_by, number_if, reason_text, rival_text, run_text, width_hint, width_line, width_note};
 ghost use Rattle.mt_import.specs.Import.{IsWritten, dump_text};
 ghost use Rattle.mt_import.specs.Reader.{IsShort};
 ghost use Rattle.mt_regs.specs.Registers.{HasThreeDigits};
 
-use crate::shape::{Tally, Warned};
+use crate::shape::Tally;
 use crate::values::is_pair_number;
-use crate::{Format, ImportFault, Reason, Rival};
+use crate::{Format, ImportFault, Reason, Rival, Stop};
 use arrayvec::ArrayVec;
 use mt_dump::{TextBuffer, append_text};
 use mt_output::{LineBuffer, append, append_decimal, append_number, append_value, bad_text};
@@ -119,15 +119,17 @@ fn fault_line(fault: &ImportFault) -> LineBuffer
     }
 }
 
-/// What a fault comes to, behind what lines before it warn of.
-pub(crate) fn faulted(fault: &ImportFault, warned: &Warned) -> Outcome
-    requires { IsShort fault.now }
-    ensures told { (texts : Texts) → result ≡ unless (Some fault.now) warned.now texts }
+/// What a fault comes to, behind what lines before it warn of, and with what is told behind it.
+pub(crate) fn faulted(stop: &Stop, hint: &[u8]) -> Outcome
+    requires fault { IsShort stop.now.fault }
+    requires hint { length hint.now ≤ 224 }
+    ensures told { result ≡ faulted stop.now.fault stop.now.warned hint.now }
     ensures written { IsWritten result.status (dump_text result) }
 {
     let mut reasons = ArrayVec::new();
-    warned.append_lines(&mut reasons);
-    append_text(&mut reasons, fault_line(fault).as_slice());
+    stop.warned.append_lines(&mut reasons);
+    append_text(&mut reasons, fault_line(&stop.fault).as_slice());
+    append_text(&mut reasons, hint);
     Outcome {
         notes: ArrayVec::new(),
         dump: ArrayVec::new(),

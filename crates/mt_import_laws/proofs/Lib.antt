@@ -14,6 +14,7 @@ mod Dumps
 mod Notes
 mod Warnings
 mod Alike
+mod Alone
 mod Returns
 mod FirstLine
 mod Reasons

@@ -6,6 +6,7 @@ pub mod Alike
 pub mod Returns
 pub mod FirstLine
 pub mod Spare
+pub mod Alone
 pub mod Printed
 pub mod PrintedByInteltool
 pub mod PrintedByCoreboot

@@ -4,10 +4,11 @@ use Rattle.mt_kinds.specs.Bits.{is_bit_set}
 use Rattle.mt_import.specs.declared.format.Choice.{Choice}
 use Rattle.mt_import.specs.declared.format.Choice.TheVariants.{Only}
 use Rattle.mt_import.specs.declared.format.Format.TheVariants.{Linux, Rdmsr}
+use Rattle.mt_import.specs.declared.shape.Pick.TheVariants.{Each, Last}
 use Rattle.mt_import.specs.declared.shape.Reading.{Reading}
 use Rattle.mt_import.specs.Slot.{all_bits}
 use Rattle.mt_import.specs.Outcome.{shows_fixed, shows_no_fix}
-use Rattle.mt_import.specs.Supplied.{Supplied, command_of, nothing_assumed, supplied_value}
+use Rattle.mt_import.specs.Supplied.{Supplied, command_of, nothing_assumed, nothing_supplied, supplied_value}
 use Rattle.mt_import_laws.specs.Origins.{Contradict, IsAmong, LogSaysFixed, readings_of}
 
 abbrev pub worked_choice : Choice
@@ -52,7 +53,7 @@ pub record IsWorkedFixed : Type 0 where
 
 -- what the word `0fe=400` supplies
 abbrev pub word_without_fix : Supplied
-word_without_fix = record { width = None; registers = (0xfe, 0x400) ∷ []; assumed = nothing_assumed }
+word_without_fix = record { width = None; registers = (0xfe, 0x400) ∷ []; assumed = nothing_assumed; table = Each }
 
 -- a fixed-range register alone
 abbrev pub ranged_log : List ℕ
@@ -72,6 +73,18 @@ switched_log = codes "MTRR fixed ranges enabled:\nMTRR fixed ranges disabled:\n"
 pub record IsWorkedSwitch : Type 0 where
   pub on : LogSaysFixed (Only Linux) switched_log true
   pub off : LogSaysFixed (Only Linux) switched_log false
+
+-- what the word `table=last` supplies
+abbrev pub last_table : Supplied
+last_table = record nothing_supplied { table = Last }
+
+-- the lines of two boots
+abbrev pub two_boots : List ℕ
+two_boots = codes "MTRR default type: uncachable\n  0 disabled\nMTRR default type: write-back\nreg00: base=0x000000000 (    0MB), size= 4096MB, count=1: write-back\n  1 disabled\n"
+
+-- the same without the first one's
+abbrev pub second_boot : List ℕ
+second_boot = codes "\n\nMTRR default type: write-back\nreg00: base=0x000000000 (    0MB), size= 4096MB, count=1: write-back\n  1 disabled\n"
 
 -- a warning in a log of another format
 abbrev pub warning_log : List ℕ

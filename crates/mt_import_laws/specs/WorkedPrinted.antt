@@ -2,6 +2,7 @@
 use Rattle.std.specs.Prelude.{ℕ, ◌+◌, ◌%◌, codes, true, List, [], ◌∷◌, ◌++◌, Some, None, slice_index_or}
 use Rattle.mt_regs.specs.declared.registers.Register.TheVariants.{PhysBase, PhysMask, FixedRange, Pat, DefaultType}
 use Rattle.mt_regs.specs.RegisterFile.{RegisterFile}
+use Rattle.mt_import.specs.declared.shape.Pick.TheVariants.{Each}
 use Rattle.mt_import.specs.Supplied.{Supplied, nothing_assumed}
 use Rattle.mt_import_laws.specs.PrintedByCoreboot.{Tails}
 use Rattle.mt_import_laws.specs.Printed.{Key}
@@ -78,11 +79,11 @@ two_prints = (x86info_print, ordinary_pc) ∷ (x86info_print, other_cpu) ∷ []
 
 -- `268=505050505050505 277=7040600070406`
 abbrev pub words_for_x86info : Supplied
-words_for_x86info = record { width = None; registers = (0x268, 0x0505050505050505) ∷ (0x277, 0x0007040600070406) ∷ []; assumed = nothing_assumed }
+words_for_x86info = record { width = None; registers = (0x268, 0x0505050505050505) ∷ (0x277, 0x0007040600070406) ∷ []; assumed = nothing_assumed; table = Each }
 
 -- what the word `maxphyaddr=36` supplies
 abbrev pub width_36 : Supplied
-width_36 = record { width = Some 36; registers = []; assumed = nothing_assumed }
+width_36 = record { width = Some 36; registers = []; assumed = nothing_assumed; table = Each }
 
 -- what coreboot prints behind the names of some registers
 abbrev pub some_tails : Tails
@@ -95,11 +96,11 @@ some_tails (Some DefaultType) = codes " E, FE, UC"
 
 -- `maxphyaddr=36 277=7040600070406`
 abbrev pub width_and_pat : Supplied
-width_and_pat = record { width = Some 36; registers = (0x277, 0x0007040600070406) ∷ []; assumed = nothing_assumed }
+width_and_pat = record { width = Some 36; registers = (0x277, 0x0007040600070406) ∷ []; assumed = nothing_assumed; table = Each }
 
 -- `maxphyaddr=36 0fe=d08 277=7040600070406`
 abbrev pub words_for_kernels : Supplied
-words_for_kernels = record { width = Some 36; registers = (0xfe, 0xd08) ∷ (0x277, 0x0007040600070406) ∷ []; assumed = nothing_assumed }
+words_for_kernels = record { width = Some 36; registers = (0xfe, 0xd08) ∷ (0x277, 0x0007040600070406) ∷ []; assumed = nothing_assumed; table = Each }
 
 -- of Linux 6.1, before its clock runs
 abbrev pub early_log : Log
@@ -150,4 +151,5 @@ words_for_edk2 = record {
   registers =
       (0xfe, 0xd08) ∷ (0x277, 0x0007040600070406) ∷ (0x208, 0) ∷ (0x209, 0) ∷ (0x20a, 0) ∷ (0x20b, 0) ∷ (0x20c, 0) ∷ (0x20d, 0) ∷ (0x20e, 0) ∷ (0x20f, 0) ∷ [];
   assumed = nothing_assumed;
+  table = Each;
 }

@@ -5,14 +5,16 @@ ghost use Rattle.mt_text.specs.declared.place.Place.{Place};
 ghost use Rattle.mt_import.specs.declared.format.Choice.{Choice};
 ghost use Rattle.mt_import.specs.declared.format.Choice.TheVariants.{Auto, Only};
 ghost use Rattle.mt_import.specs.declared.format.Format.{Format};
+ghost use Rattle.mt_import.specs.declared.shape.Pick.TheVariants.{Each};
 ghost use Rattle.mt_import.specs.declared.shape.Reading.{Reading};
 ghost use Rattle.mt_import.specs.declared.shape.Warning.{Warning};
-ghost use Rattle.mt_import.specs.Import.{log_outcome, outcome_of};
+ghost use Rattle.mt_import.specs.Import.{log_outcome, outcome_of, tables_outcome};
 ghost use Rattle.mt_import.specs.Outcome.{Seen, Outcome, shows_fixed, shows_no_fix};
 ghost use Rattle.mt_import.specs.Readings.{is_width};
 ghost use Rattle.mt_import.specs.Shown.{format_of, is_auto, shown};
 ghost use Rattle.mt_import.specs.Supplied.{Supplied, supplied_value};
 ghost use Rattle.mt_import_laws.specs.Alike.{AreAlikeLogs};
+ghost use Rattle.mt_import_laws.specs.Alone.{HasAlone, ReadsAll};
 ghost use Rattle.mt_import_laws.specs.FirstLine.{ComeToSame, TellsFirst};
 ghost use Rattle.mt_import_laws.specs.Notes.{AreNoted};
 ghost use Rattle.mt_import_laws.specs.Origins.{Contradict, ContradictInCapabilities, ContradictsWord, CountsPair, HasOrigins, IsAmong, IsRead, LogSaysFixed, WidthOrigin, readings_of, seen_of};
@@ -128,6 +130,18 @@ pub fn returns_change_nothing()
 pub fn auto_takes_the_first_format()
     ensures { (format : Format) (supplied : Supplied) (text : List ℕ) → TellsFirst format text
         → ComeToSame (log_outcome Auto supplied text) (log_outcome (Only format) supplied text) }
+{}
+
+/// If a word asks for one table of a log, by its number or as the last one, the log comes to what another log comes to. This has the
+/// same lines, but each line of another table is empty, so that no line has another number. Every law on logs holds of it.
+pub fn a_table_is_read_alone()
+    ensures { (format : Format) (supplied : Supplied) (text alone : List ℕ) → HasAlone supplied.table format text alone
+        → tables_outcome (Only format) supplied text ≡ log_outcome (Only format) supplied alone }
+{}
+
+/// Without such a word all tables are read. Only behind a contradiction of a log of several tables something more is told.
+pub fn all_tables_are_read_without_the_word()
+    ensures { (choice : Choice) (supplied : Supplied) (text : List ℕ) → supplied.table ≡ Each → ReadsAll choice supplied text }
 {}
 
 /// Where the status isn't 0, nothing goes to standard output.

@@ -7,8 +7,9 @@ mod printers;
 mod worked;
 
 pub use laws::{
-    a_width_that_contradicts_a_word_is_a_fault, a_word_without_fix_is_a_fault,
-    assumed_values_are_noted, auto_takes_the_first_format, capabilities_that_contradict_are_faults,
+    a_table_is_read_alone, a_width_that_contradicts_a_word_is_a_fault,
+    a_word_without_fix_is_a_fault, all_tables_are_read_without_the_word, assumed_values_are_noted,
+    auto_takes_the_first_format, capabilities_that_contradict_are_faults,
     contradictions_are_faults, enabled_pairs_are_counted, fixed_ranges_without_fix_are_faults,
     lines_on_fixed_ranges_agree, lines_that_match_nothing_change_nothing,
     lines_that_match_nothing_may_be_left_out, readings_come_from_lines, reasons_come_alone,
@@ -26,5 +27,5 @@ pub use printers::{
 };
 pub use worked::{
     worked_contradiction, worked_fixed_ranges, worked_returns, worked_spare_line, worked_switch,
-    worked_warning, worked_word,
+    worked_table, worked_warning, worked_word,
 };

@@ -1,11 +1,13 @@
 ghost use Rattle.std.specs.Prelude.{◌≡◌, ◌∷◌, ◌++◌, [], ℕ, List, codes, length, Some};
 ghost use Rattle.mt_text.specs.Text.{longest_line};
 ghost use Rattle.mt_import.specs.Readings.{starts};
-ghost use Rattle.mt_import.specs.declared.format.Choice.TheVariants.{Auto};
-ghost use Rattle.mt_import.specs.declared.format.Format.TheVariants.{Rdmsr};
+ghost use Rattle.mt_import.specs.declared.format.Choice.TheVariants.{Auto, Only};
+ghost use Rattle.mt_import.specs.declared.format.Format.TheVariants.{Linux, Rdmsr};
+ghost use Rattle.mt_import.specs.Supplied.{command_of};
+ghost use Rattle.mt_import_laws.specs.Alone.{HasAlone};
 ghost use Rattle.mt_import_laws.specs.Origins.{context_after_lines};
 ghost use Rattle.mt_import_laws.specs.Returns.{DifferInReturns, GetsReturn};
-ghost use Rattle.mt_import_laws.specs.Worked.{IsWorked, IsWorkedFixed, IsWorkedSwitch, IsWorkedWord, headed_log, returned_log, spaced_log, warning_log, worked_choice, worked_log};
+ghost use Rattle.mt_import_laws.specs.Worked.{IsWorked, IsWorkedFixed, IsWorkedSwitch, IsWorkedWord, headed_log, last_table, returned_log, second_boot, spaced_log, two_boots, warning_log, worked_choice, worked_log};
 ghost use Rattle.mt_import_laws.specs.Spare.{HasSpareLine, TakesNoneBack};
 ghost use Rattle.mt_import_laws.specs.Warnings.{HasWarning};
 ghost use Rattle.mt_import.specs.declared.shape.Warning.TheVariants.{Unlike};
@@ -50,4 +52,10 @@ pub fn worked_spare_line()
     ensures by_auto { HasSpareLine Auto headed_log worked_log }
     ensures waits { TakesNoneBack (context_after_lines (starts (Some Rdmsr)) 1 (codes "+ rdmsr 0x277" ∷ [])) 3 (codes "6" ∷ []) → ⊥ }
     ensures takes_back { TakesNoneBack (context_after_lines (starts (Some Rdmsr)) 1 (codes "+ rdmsr 0x277" ∷ [])) 3 (codes "+ rdmsr 0x2ff" ∷ []) }
+{}
+
+/// An instance of `a_table_is_read_alone`: two boots of Linux, with a region of `/proc/mtrr` behind them, and the lines that `table=last` leaves.
+pub fn worked_table()
+    ensures words { command_of (codes "linux" ∷ codes "table=last" ∷ []) ≡ Some (Only Linux, last_table) }
+    ensures alone { HasAlone last_table.table Linux two_boots second_boot }
 {}
