@@ -3,7 +3,7 @@ ghost use Rattle.std.specs.Prelude.{◌≤◌, length};
 use mt_dump::DumpReason;
 use mt_output::dump_reason_text;
 use mt_ports::NoMemory;
-use mt_procedure::{Case, State};
+use mt_procedure::{Case, State, Turn};
 use mt_script::{Offence, ScriptFault, ScriptReason, script_reason_text};
 use mt_text::Place;
 
@@ -65,11 +65,20 @@ impl From<Offence> for Trouble {
     }
 }
 
+/// A part of a run that is asked for.
+#[derive(Clone, Copy)]
+pub enum Part {
+    /// This turn, if it may be taken.
+    Turn(Turn),
+    /// Each processor's step in ascending order, again and again until none can go on.
+    Turns,
+}
+
 /// What is asked for.
 #[derive(Drop)]
 pub enum Ask {
-    /// One run: the processors in the order of their steps. `None` stands for whole turns up to the end.
-    Run(Vec<Option<usize>>),
+    /// One run.
+    Run(Vec<Part>),
     /// All interleavings, up to so many states.
     All(u32),
 }

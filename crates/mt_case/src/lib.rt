@@ -4,7 +4,8 @@
 mod case;
 mod listing;
 mod reader;
+mod turns;
 mod words;
 
-pub use case::{Ask, Input, Reason, Trouble};
+pub use case::{Ask, Input, Part, Reason, Trouble};
 pub use reader::read_input;

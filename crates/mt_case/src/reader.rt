@@ -1,20 +1,19 @@
 ghost use Rattle.std.specs.Prelude.{◌≤◌, IfOk};
 
-use crate::case::{Ask, Input, Reason, Trouble};
+use crate::case::{Ask, Input, Part, Reason, Trouble};
 use crate::listing::{BARRIERS, instruction, step_of};
+use crate::turns::turn_of;
 use crate::words::{bad, count, is, is_end, shape};
 use mt_dump::{Dump, DumpReader};
 use mt_kinds::{LINE_BYTES, MOST_LINES, PAGE_BYTES};
 use mt_list_machine::{Cpu, copied, map};
 use mt_machine::Ruled;
 use mt_ports::NoMemory;
-use mt_procedure::{Case, ListPlace, Procedure, ProcedureStep, State, aside};
+use mt_procedure::{Case, ListPlace, Mode, Procedure, ProcedureStep, State, aside};
 use mt_ram::{Ram, RamFault};
 use mt_regs::{RegFile, first_refusal};
-use mt_script::{
-    ScriptReason, aligned_at, any, base_at, limited, take_dump_line, value_at, virtual_at,
-};
-use mt_text::{Line, Lines, Place, Words, decimal, end_place, hex64, without_ending};
+use mt_script::{ScriptReason, aligned_at, any, base_at, take_dump_line, value_at, virtual_at};
+use mt_text::{Line, Lines, Place, Words, end_place, hex64, without_ending};
 use mt_tlb::Mapping;
 use std::alloc::Global;
 
@@ -61,6 +60,10 @@ impl Reader {
         Reader {
             alloc,
             case: Case {
+                mode: Mode {
+                    speculates: false,
+                    leaks: false,
+                },
                 layout: Ram::new(alloc),
                 goal,
                 lists: Vec::new(alloc),
@@ -198,6 +201,29 @@ impl Reader {
         Ok(())
     }
 
+    // Processors translate and fetch by themselves.
+    fn speculate(&mut self, words: &Words<'_>) -> Result<(), Trouble> {
+        shape(words, 1)?;
+        if self.case.mode.speculates {
+            return bad(words.place(0), ScriptReason::Repeated);
+        }
+        self.case.mode.speculates = true;
+        Ok(())
+    }
+
+    // They fetch in no-fill mode too.
+    fn leaking(&mut self, words: &Words<'_>) -> Result<(), Trouble> {
+        shape(words, 1)?;
+        if !self.case.mode.speculates {
+            return bad(words.place(0), ScriptReason::BadLine);
+        }
+        if self.case.mode.leaks {
+            return bad(words.place(0), ScriptReason::Repeated);
+        }
+        self.case.mode.leaks = true;
+        Ok(())
+    }
+
     fn run(&mut self, line: &Line<'_>) -> Result<(), Trouble> {
         let mut order = Vec::new(self.alloc);
         for i in 1..line.words() {
@@ -205,12 +231,9 @@ impl Reader {
                 break;
             };
             let next = if is(word.text, "turns") {
-                None
+                Part::Turns
             } else {
-                Some(limited(
-                    word.place,
-                    decimal(word.text, self.cpus().saturating_sub(1)),
-                )? as usize)
+                Part::Turn(turn_of(&word, self.cpus(), self.case.mode.speculates)?)
             };
             push(&mut order, next)?;
         }
@@ -235,6 +258,10 @@ impl Reader {
             self.self_snoop(words)
         } else if is(word, "map") {
             self.map(words)
+        } else if is(word, "speculate") {
+            self.speculate(words)
+        } else if is(word, "leaking") {
+            self.leaking(words)
         } else if is(word, "goal") {
             self.begin_goal(words)
         } else if is(word, "procedure") {

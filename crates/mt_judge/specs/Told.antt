@@ -1,18 +1,25 @@
 -- What is printed of a run: its steps in their order, and beside them who doesn't go on (own).
-use Rattle.std.specs.Prelude.{◌≡◌, ◌↔◌, ℕ, Bool, true, false, List, [], ◌∷◌, ◌++◌, length, IsSomeAnd, Option, None}
+use Rattle.std.specs.Prelude.{◌≡◌, ◌↔◌, ℕ, ◌/◌, Bool, true, false, List, [], ◌∷◌, ◌++◌, length, IsSomeAnd, Option, None, slice_get}
 use Rattle.std.specs.List.{count_by}
+use Rattle.std.specs.Option.{option_map, option_map_or}
+use Rattle.mt_kinds.specs.declared.mem_type.MemType.{MemType}
+use Rattle.mt_machine.specs.Access.{entry_of}
 use Rattle.mt_machine.specs.Machine.{has_arrived, has_arrived_again}
 use Rattle.mt_machine.specs.System.{Processor}
 use Rattle.mt_procedure.specs.Dues.{IsDue, is_unfinished}
 use Rattle.mt_search.specs.Listed.{wrongs_in}
-use Rattle.mt_judge.specs.Ordered.{AreRightSteps, AreWhole, IsWhole, ordered, part_of}
-use Rattle.mt_procedure.specs.Runs.{Case, IsRun, State, may_go, moved, next_move, phase_in, procedure_order, run, step_at, told_due}
+use Rattle.mt_judge.specs.Ordered.{AreRightTurns, AreWhole, IsWhole, ordered, part_of}
+use Rattle.mt_case.specs.declared.case.Part.{Part}
+use Rattle.mt_procedure.specs.Runs.{Case, IsRun, State, may_go, may_take, move_in, phase_in, procedure_order, run, step_at, taken, told_due}
+use Rattle.mt_procedure.specs.declared.turn.Turn.{Turn}
+use Rattle.mt_procedure.specs.declared.turn.Turn.TheVariants.{Fetch, Step, Translate}
 use Rattle.mt_search.specs.Wrongs.{fault_of}
 use Rattle.mt_procedure.specs.declared.moves.Move.{Move}
 use Rattle.mt_judge.specs.declared.one_run.JudgedRun.{JudgedRun}
 use Rattle.mt_judge.specs.declared.transcript.Arrivals.{Arrivals}
 use Rattle.mt_judge.specs.declared.transcript.Told.{Told}
 use Rattle.mt_judge.specs.declared.transcript.Told.TheVariants as line
+use Rattle.mt_judge.specs.declared.transcript.ToldSpeculation.{ToldSpeculation}
 use Rattle.mt_judge.specs.declared.transcript.ToldStep.{ToldStep}
 use Rattle.mt_judge.specs.declared.transcript.Transcript.{Transcript}
 
@@ -40,53 +47,91 @@ pub record IsRightTold (t : ToldStep) : Type 0 where
   pub fault : t.fault ≡ None
   pub right : t.wrongs.items ≡ []
 
--- the next step of processor k
-abbrev pub TellsNext : Case → State → ℕ → ToldStep → Type 0
-TellsNext c s k t = IsSomeAnd (next_move c s k) (λ m. TellsStep s m (moved c s k) t)
+-- that of a turn that is a step
+abbrev pub TellsMove : Case → State → Turn → ToldStep → Type 0
+TellsMove c s t x = IsSomeAnd (move_in c s t) (λ m. TellsStep s m (taken c s t) x)
+
+-- ---- a speculation
+
+-- the type of the entry by which processor k translates a page
+abbrev pub kind_in : List Processor → ℕ → ℕ → Option MemType
+kind_in ps k page = option_map (λ e. e.kind) (option_map_or (λ p. entry_of p page) (slice_get ps k) None)
+
+abbrev pub kind_of : State → Turn → Option MemType
+kind_of s (Step k) = None
+kind_of s (Translate k page) = kind_in s.processors k page
+kind_of s (Fetch k line) = kind_in s.processors k (line / 64)
+
+-- a speculation that leads from one state to another, with all that is wrong in the state after it
+pub record TellsSpeculation (before : State) (t : Turn) (after : State) (x : ToldSpeculation) : Type 0 where
+  pub turn : x.turn ≡ t
+  pub kind : x.kind ≡ kind_of before t
+  pub wrongs : x.wrongs.items ≡ wrongs_in after.processors
+
+-- that of a turn that is no step
+pub record TellsNoMove (c : Case) (s : State) (t : Turn) (x : ToldSpeculation) : Type 0 where
+  pub none : move_in c s t ≡ None
+  pub told : TellsSpeculation s t (taken c s t) x
 
 -- ---- a run
 
--- these processors' steps are told in their order, and no other. Beside them stands which step a processor has next that can't go on, and
--- whose list has ended in the midst of an update, with its phase, the event that is due, and who has arrived
-abbrev pub AreTold : Case → State → List ℕ → List Told → Type 0
-AreTold c s ks [] = ks ≡ []
-AreTold c s ks (line.Step t ∷ ts) = (k : ℕ) × (rest : List ℕ) × (ks ≡ k ∷ rest) × TellsNext c s k t × AreTold c (moved c s k) rest ts
-AreTold c s ks (line.Pause cpu step ∷ ts) = (may_go c s cpu ≡ false) × (step ≡ step_at c s cpu) × AreTold c s ks ts
-AreTold c s ks (line.Unfinished cpu phase due arrived ∷ ts) =
+-- these turns are told in their order, and no other. Beside them stands which step a processor has next that can't go on, which speculation
+-- may not be made, and whose list has ended in the midst of an update, with its phase, the event that is due, and who has arrived
+abbrev pub AreTold : Case → State → List Turn → List Told → Type 0
+AreTold c s ts [] = ts ≡ []
+AreTold c s ts (line.Step x ∷ xs) = (t : Turn) × (rest : List Turn) × (ts ≡ t ∷ rest) × TellsMove c s t x × AreTold c (taken c s t) rest xs
+AreTold c s ts (line.Speculation x ∷ xs) = (t : Turn) × (rest : List Turn) × (ts ≡ t ∷ rest) × TellsNoMove c s t x × AreTold c (taken c s t) rest xs
+AreTold c s ts (line.Pause cpu step ∷ xs) = (may_go c s cpu ≡ false) × (step ≡ step_at c s cpu) × AreTold c s ts xs
+AreTold c s ts (line.Idle t ∷ xs) = (may_take c s t ≡ false) × AreTold c s ts xs
+AreTold c s ts (line.Unfinished cpu phase due arrived ∷ xs) =
     (is_unfinished c s cpu ≡ true) × (phase ≡ phase_in s.processors cpu) × (due ≡ told_due s.processors cpu) × (arrived ≡ arrived_in s.processors)
-    × AreTold c s ks ts
+    × AreTold c s ts xs
 
--- a run of these processors, from its start on
-pub record IsTranscript (c : Case) (s : State) (ks : List ℕ) (t : Transcript) : Type 0 where
-  pub runs : IsRun c s ks
+-- a run of these turns, from its start on
+pub record IsTranscript (c : Case) (s : State) (ts : List Turn) (t : Transcript) : Type 0 where
+  pub runs : IsRun c s ts
   pub start : t.start.items ≡ wrongs_in s.processors
-  pub told : AreTold c s ks t.told.items
+  pub told : AreTold c s ts t.told.items
 
 -- ---- while a run is judged: where it stands, what is told, and whether something is wrong
 
 -- what is told behind what was told before
-pub record AreToldBehind (c : Case) (s : State) (ks : List ℕ) (old new : List Told) : Type 0 where
+pub record AreToldBehind (c : Case) (s : State) (ts : List Turn) (old new : List Told) : Type 0 where
   pub more : List Told
-  pub are : AreTold c s ks more
+  pub are : AreTold c s ts more
   pub behind : new ≡ old ++ more
 
--- these steps lead from where a run stood to where it stands now. They are told, and something is wrong unless they are right
-pub record IsTold (c : Case) (ks : List ℕ) (old new : JudgedRun) : Type 0 where
-  pub runs : IsRun c old.state ks
-  pub leads : new.state ≡ run c old.state ks
-  pub told : AreToldBehind c old.state ks old.told.items new.told.items
-  pub right : (new.wrong ≡ false) ↔ ((old.wrong ≡ false) × AreRightSteps c old.state ks)
+-- this is told of a step that led from a state to where the run stands, and something is wrong unless the step is right
+pub record IsStepNoted (before : State) (m : Move) (old new : JudgedRun) : Type 0 where
+  pub step : ToldStep
+  pub tells : TellsStep before m old.state step
+  pub behind : new.told.items ≡ old.told.items ++ line.Step step ∷ []
+  pub right : (new.wrong ≡ false) ↔ ((old.wrong ≡ false) × IsRightTold step)
 
--- the same of a step of a processor, or of whole turns to the end
-pub record IsToldPart (c : Case) (part : Option ℕ) (old new : JudgedRun) : Type 0 where
+-- the same of a speculation
+pub record IsSpeculationNoted (before : State) (t : Turn) (old new : JudgedRun) : Type 0 where
+  pub speculation : ToldSpeculation
+  pub tells : TellsSpeculation before t old.state speculation
+  pub behind : new.told.items ≡ old.told.items ++ line.Speculation speculation ∷ []
+  pub right : (new.wrong ≡ false) ↔ ((old.wrong ≡ false) × (speculation.wrongs.items ≡ []))
+
+-- these turns lead from where a run stood to where it stands now. They are told, and something is wrong unless they are right
+pub record IsTold (c : Case) (ts : List Turn) (old new : JudgedRun) : Type 0 where
+  pub runs : IsRun c old.state ts
+  pub leads : new.state ≡ run c old.state ts
+  pub told : AreToldBehind c old.state ts old.told.items new.told.items
+  pub right : (new.wrong ≡ false) ↔ ((old.wrong ≡ false) × AreRightTurns c old.state ts)
+
+-- the same of a turn, or of rounds to the end
+pub record IsToldPart (c : Case) (part : Part) (old new : JudgedRun) : Type 0 where
   pub runs : IsRun c old.state (part_of c old.state part)
   pub leads : new.state ≡ run c old.state (part_of c old.state part)
   pub told : AreToldBehind c old.state (part_of c old.state part) old.told.items new.told.items
-  pub right : (new.wrong ≡ false) ↔ ((old.wrong ≡ false) × AreRightSteps c old.state (part_of c old.state part) × IsWhole c old.state part)
+  pub right : (new.wrong ≡ false) ↔ ((old.wrong ≡ false) × AreRightTurns c old.state (part_of c old.state part) × IsWhole c old.state part)
 
 -- the same of all that is ordered
-pub record IsToldOrder (c : Case) (order : List (Option ℕ)) (old new : JudgedRun) : Type 0 where
+pub record IsToldOrder (c : Case) (order : List Part) (old new : JudgedRun) : Type 0 where
   pub runs : IsRun c old.state (ordered c old.state order)
   pub leads : new.state ≡ run c old.state (ordered c old.state order)
   pub told : AreToldBehind c old.state (ordered c old.state order) old.told.items new.told.items
-  pub right : (new.wrong ≡ false) ↔ ((old.wrong ≡ false) × AreRightSteps c old.state (ordered c old.state order) × AreWhole c old.state order)
+  pub right : (new.wrong ≡ false) ↔ ((old.wrong ≡ false) × AreRightTurns c old.state (ordered c old.state order) × AreWhole c old.state order)

@@ -10,14 +10,16 @@ mod telling;
 mod text;
 mod transcript;
 
-pub use judging::{Explored, Verdict, explore, judge, judge_all};
-pub use mt_case::{Ask, Input, Reason, Trouble, read_input};
+pub use judging::{Explored, ToldSurvival, Verdict, explore, judge, judge_all};
+pub use mt_case::{Ask, Input, Part, Reason, Trouble, read_input};
 pub use mt_list_machine::Cpu;
-pub use mt_procedure::{Case, ListPlace, Move, Outcome, Procedure, ProcedureStep, State, advance};
+pub use mt_procedure::{
+    Case, ListPlace, Mode, Move, Outcome, Procedure, ProcedureStep, State, Turn, advance,
+};
 pub use mt_search::{
-    Fault, Found, Kept, Node, Origin, Search, Store, Wrong, fault_of, has_wrong_if_a_sense_holds,
-    wrongs_of,
+    Fault, Found, Kept, Node, Origin, Search, Store, Survival, Wrong, fault_of,
+    has_wrong_if_a_sense_holds, wrongs_of,
 };
 pub use one_run::judge_run;
 pub use program::program_status;
-pub use transcript::{Arrivals, Told, ToldStep, Transcript};
+pub use transcript::{Arrivals, Told, ToldSpeculation, ToldStep, Transcript};

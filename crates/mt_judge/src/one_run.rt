@@ -1,18 +1,21 @@
-ghost use Rattle.std.specs.Prelude.{◌≡◌, ◌↔◌, ◌||◌, [], IfOk, IsFalse, IsNone, OnOk, Option, false};
+ghost use Rattle.std.specs.Prelude.{◌≡◌, ◌↔◌, ◌||◌, [], IfOk, IsFalse, IsNone, OnOk, false};
 ghost use Rattle.mt_procedure.specs.Dues.{AreListsFinished};
-ghost use Rattle.mt_judge.specs.Ordered.{IsRightRun, all_turns, ordered, step_of, turn};
-ghost use Rattle.mt_procedure.specs.Runs.{IsEnded, IsRun, may_go};
-ghost use Rattle.mt_judge.specs.Told.{AreToldBehind, IsTold, IsToldOrder, IsToldPart, IsTranscript};
+ghost use Rattle.mt_judge.specs.Ordered.{IsRightRun, all_rounds, ordered, round, turn_of};
+ghost use Rattle.mt_procedure.specs.Runs.{IsEnded, IsRun, may_take};
+ghost use Rattle.mt_judge.specs.Told.{AreToldBehind, IsSpeculationNoted, IsStepNoted, IsTold, IsToldOrder, IsToldPart, IsTranscript};
 
 use crate::judging::Verdict;
-use crate::transcript::{Told, Transcript, tell, tell_ends, tell_pause, tell_pauses, told_step};
+use crate::transcript::{
+    Told, Transcript, tell, tell_ends, tell_pause, tell_pauses, told_speculation, told_step,
+};
+use mt_case::Part;
 use mt_ports::NoMemory;
-use mt_procedure::{Case, State, advance};
+use mt_procedure::{Case, Move, State, Turn, take};
 use mt_search::wrongs_of;
 use std::alloc::Global;
 
-/// More turns than the lists of any text take.
-const MOST_TURNS: u64 = 1 << 40;
+/// More rounds than the lists of any text take.
+const MOST_ROUNDS: u64 = 1 << 40;
 
 /// A run that is judged: where it stands, what is told of it, and whether something is wrong so far.
 #[derive(Drop)]
@@ -53,52 +56,76 @@ impl JudgedRun {
         self.wrong = or(self.wrong, wrong);
     }
 
-    /// Does the next step of a processor and tells of it. False if it can't go on.
-    fn step(&mut self, case: &Case, k: usize) -> Result<bool, NoMemory>
-        ensures goes { IfOk result (λ b. b ≡ may_go case.now self.old.state k) }
-        ensures told { OnOk result (IsTold case.now (step_of case.now self.old.state k) self.old self.new) }
+    // Tells of a step that was done from a state on, and notes whether it is right.
+    fn note_step(&mut self, before: &State, done: Move) -> Result<(), NoMemory>
+        ensures state { self.new.state ≡ self.old.state }
+        ensures told { OnOk result (IsStepNoted before.now done self.old self.new) }
     {
+        let step = told_step(self.alloc, before, done, &self.state)?;
+        self.note(!step.is_right());
+        tell(&mut self.told, Told::Step(step))
+    }
+
+    // The same of a speculation.
+    fn note_speculation(&mut self, before: &State, turn: Turn) -> Result<(), NoMemory>
+        ensures state { self.new.state ≡ self.old.state }
+        ensures told { OnOk result (IsSpeculationNoted before.now turn self.old self.new) }
+    {
+        let speculation = told_speculation(self.alloc, before, turn, &self.state)?;
+        self.note(!speculation.is_right());
+        tell(&mut self.told, Told::Speculation(speculation))
+    }
+
+    /// Takes a turn and tells of it. False if it can't be taken.
+    fn turn(&mut self, case: &Case, turn: Turn) -> Result<bool, NoMemory>
+        ensures goes { IfOk result (λ b. b ≡ may_take case.now self.old.state turn) }
+        ensures told { OnOk result (IsTold case.now (turn_of case.now self.old.state turn) self.old self.new) }
+    {
+        if !self.state.may_take(case, turn) {
+            return Ok(false);
+        }
         let before = self.state.copy(self.alloc)?;
-        match advance(case, &mut self.state, k)? {
+        match take(case, &mut self.state, turn)? {
             Some(done) => {
-                let step = told_step(self.alloc, &before, done, &self.state)?;
-                self.note(!step.is_right());
-                tell(&mut self.told, Told::Step(step))?;
+                self.note_step(&before, done)?;
                 Ok(true)
             }
-            None => Ok(false),
+            None => {
+                self.note_speculation(&before, turn)?;
+                Ok(true)
+            }
         }
     }
 
-    // The same, or tells why it can't go on.
-    fn step_or_pause(&mut self, case: &Case, k: usize) -> Result<(), NoMemory>
-        ensures { OnOk result (IsTold case.now (step_of case.now self.old.state k) self.old self.new) }
+    // The same, or tells why it can't be taken.
+    fn turn_or_pause(&mut self, case: &Case, turn: Turn) -> Result<(), NoMemory>
+        ensures { OnOk result (IsTold case.now (turn_of case.now self.old.state turn) self.old self.new) }
     {
-        if self.step(case, k)? {
+        if self.turn(case, turn)? {
             return Ok(());
         }
-        tell_pause(&mut self.told, case, &self.state, k)
+        tell_pause(&mut self.told, case, &self.state, turn)
     }
 
     // A step of each processor in ascending order. False if none can go on.
-    fn turn(&mut self, case: &Case) -> Result<bool, NoMemory>
-        ensures idle { IfOk result (λ b. IsFalse b → turn case.now self.old.state ≡ []) }
-        ensures told { OnOk result (IsTold case.now (turn case.now self.old.state) self.old self.new) }
+    fn round(&mut self, case: &Case) -> Result<bool, NoMemory>
+        ensures idle { IfOk result (λ b. IsFalse b → round case.now self.old.state ≡ []) }
+        ensures told { OnOk result (IsTold case.now (round case.now self.old.state) self.old self.new) }
     {
         let mut goes_on = false;
         for k in 0..self.state.count() {
-            goes_on = or(self.step(case, k)?, goes_on);
+            goes_on = or(self.turn(case, Turn::Step(k))?, goes_on);
         }
         Ok(goes_on)
     }
 
-    // Turns until no processor can go on.
-    fn all_turns(&mut self, case: &Case) -> Result<(), NoMemory>
-        ensures { OnOk result (IsTold case.now (all_turns case.now self.old.state) self.old self.new) }
+    // Rounds until no processor can go on.
+    fn all_rounds(&mut self, case: &Case) -> Result<(), NoMemory>
+        ensures { OnOk result (IsTold case.now (all_rounds case.now self.old.state) self.old self.new) }
     {
         let mut count = 0u64;
-        while count < MOST_TURNS {
-            if !self.turn(case)? {
+        while count < MOST_ROUNDS {
+            if !self.round(case)? {
                 return Ok(());
             }
             count += 1;
@@ -130,21 +157,21 @@ impl JudgedRun {
         Ok(())
     }
 
-    // What is ordered next: a step of a processor, or turns to the end.
-    fn part(&mut self, case: &Case, part: Option<usize>) -> Result<(), NoMemory>
+    // What is ordered next: a turn, or rounds to the end.
+    fn part(&mut self, case: &Case, part: Part) -> Result<(), NoMemory>
         ensures { OnOk result (IsToldPart case.now part self.old self.new) }
     {
         match part {
-            Some(k) => self.step_or_pause(case, k),
-            None => {
-                self.all_turns(case)?;
+            Part::Turn(turn) => self.turn_or_pause(case, turn),
+            Part::Turns => {
+                self.all_rounds(case)?;
                 self.note_stuck(case)
             }
         }
     }
 
     // Does what is ordered.
-    fn parts(&mut self, case: &Case, order: &[Option<usize>]) -> Result<(), NoMemory>
+    fn parts(&mut self, case: &Case, order: &[Part]) -> Result<(), NoMemory>
         ensures { OnOk result (IsToldOrder case.now order.now self.old self.new) }
     {
         for part in order {
@@ -153,12 +180,12 @@ impl JudgedRun {
         Ok(())
     }
 
-    // Does the steps of a run.
-    fn path(&mut self, case: &Case, path: &[usize]) -> Result<(), NoMemory>
+    // Takes the turns of a run.
+    fn path(&mut self, case: &Case, path: &[Turn]) -> Result<(), NoMemory>
         ensures { OnOk result (IsRun case.now self.old.state path.now → IsTold case.now path.now self.old self.new) }
     {
-        for k in path {
-            self.step(case, *k)?;
+        for turn in path {
+            self.turn(case, *turn)?;
         }
         Ok(())
     }
@@ -180,7 +207,7 @@ pub(crate) fn told_run(
     alloc: Global,
     case: &Case,
     start: &State,
-    path: &[usize],
+    path: &[Turn],
     is_stuck: bool,
 ) -> Result<Transcript, NoMemory>
     requires { IsRun case.now start.now path.now }
@@ -197,13 +224,12 @@ pub(crate) fn told_run(
     })
 }
 
-/// Judges one run, by the processors in the order of their steps; `None` stands for whole turns to the end. The verdict is wrong unless
-/// nothing is wrong in the run, and what is printed is this run.
+/// Judges one run, by its parts. The verdict is wrong unless nothing is wrong in the run, and what is printed is this run.
 pub fn judge_run(
     alloc: Global,
     case: &Case,
     start: &State,
-    order: &[Option<usize>],
+    order: &[Part],
 ) -> Result<Verdict, NoMemory>
     ensures right { IfOk result (λ v. IsFalse v.wrong ↔ IsRightRun case.now start.now order.now) }
     ensures alone { IfOk result (λ v. IsNone v.explored) }
@@ -216,6 +242,7 @@ pub fn judge_run(
     let JudgedRun { told, wrong, .. } = run;
     Ok(Verdict {
         explored: None,
+        survival: None,
         transcript: Transcript {
             start: wrongs,
             told,

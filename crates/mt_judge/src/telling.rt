@@ -1,9 +1,9 @@
-use crate::judging::{Explored, Verdict};
+use crate::judging::{Explored, ToldSurvival, Verdict};
 use crate::text::Text;
-use crate::transcript::{Arrivals, Told, ToldStep, Transcript, end_at};
+use crate::transcript::{Arrivals, Told, ToldSpeculation, ToldStep, Transcript, end_at};
 use mt_kinds::{LINE_BYTES, MemType, PAGE_BYTES, WORD_BYTES};
 use mt_machine::{Done, Event, Op, Phase};
-use mt_procedure::{Case, Move, Outcome, ProcedureStep, State};
+use mt_procedure::{Case, Move, Outcome, ProcedureStep, State, Turn};
 use mt_regs::RegFile;
 use mt_search::{Fault, Found, Wrong};
 use std::alloc::{AllocError, Global};
@@ -164,19 +164,19 @@ fn tell_end(text: &mut Text, cpu: usize, due: Option<Event>, phase: Phase, arriv
 
 // Writes what is wrong at an address of a processor, without an end of the line.
 fn tell_at(text: &mut Text, what: &str, address: u64, cpu: usize) {
-    text.add("  wrong: ");
     text.add_hex(what, address, 13);
     text.add_decimal(" of processor ", cpu as u64);
 }
 
 fn tell_two_types(text: &mut Text, page: u64, cpu: usize, other: usize) {
-    text.add_hex("  wrong: page ", page.wrapping_mul(PAGE_BYTES), 13);
+    text.add_hex("page ", page.wrapping_mul(PAGE_BYTES), 13);
     text.add_decimal(" has two types, of processors ", cpu as u64);
     text.add_decimal(" and ", other as u64);
 }
 
-// Writes the line of a state's wrong.
-fn tell_wrong(text: &mut Text, wrong: &Wrong) {
+// Writes the line of a state's wrong, with words before it.
+fn tell_wrong(text: &mut Text, front: &str, wrong: &Wrong) {
+    text.add(front);
     match *wrong {
         Wrong::StaleLine { cpu, line } => tell_at(
             text,
@@ -205,13 +205,14 @@ fn tell_wrong(text: &mut Text, wrong: &Wrong) {
 fn tell_new(text: &mut Text, wrongs: &[Wrong], known: &[Wrong]) {
     for wrong in wrongs {
         if !known.contains(wrong) {
-            tell_wrong(text, wrong);
+            tell_wrong(text, "  wrong: ", wrong);
         }
     }
 }
 
 // Writes the line of a step's fault.
 fn tell_fault(text: &mut Text, fault: &Fault) {
+    text.add("  wrong: ");
     match *fault {
         Fault::OldType {
             cpu,
@@ -246,6 +247,38 @@ fn tell_pause(text: &mut Text, cpu: usize, step: Option<ProcedureStep>) {
     }
 }
 
+// Writes a processor and an address of its.
+fn tell_speculation(text: &mut Text, turn: Turn, translates: &str, fetches: &str) {
+    let (cpu, verb, address) = match turn {
+        Turn::Translate(cpu, page) => (cpu, translates, page.wrapping_mul(PAGE_BYTES)),
+        Turn::Fetch(cpu, line) => (cpu, fetches, line.wrapping_mul(LINE_BYTES)),
+        Turn::Step(cpu) => (cpu, "", 0),
+    };
+    text.add_decimal("", cpu as u64);
+    text.add_hex(verb, address, 1);
+}
+
+// Writes what a processor did by itself, and what is newly wrong behind it.
+fn tell_whole_speculation(text: &mut Text, told: &ToldSpeculation, known: &[Wrong]) {
+    tell_speculation(text, told.turn, " translates ", " fetches ");
+    if let Some(kind) = told.kind {
+        tell_type(text, " ", kind);
+    }
+    text.add("\n");
+    tell_new(text, told.wrongs.as_slice(), known);
+}
+
+// Writes that a speculation may not be made.
+fn tell_idle(text: &mut Text, turn: Turn) {
+    tell_speculation(
+        text,
+        turn,
+        " translates nothing at ",
+        " fetches nothing at ",
+    );
+    text.add("\n");
+}
+
 // Writes a step that was done, whether it wasn't due, its fault, and what is newly wrong behind it.
 fn tell_whole_step(text: &mut Text, goal: &RegFile, step: &ToldStep, known: &[Wrong]) {
     tell_move(text, goal, &step.done);
@@ -261,6 +294,8 @@ fn tell_whole_step(text: &mut Text, goal: &RegFile, step: &ToldStep, known: &[Wr
 fn tell_told(text: &mut Text, goal: &RegFile, told: &Told, known: &[Wrong]) {
     match told {
         Told::Step(step) => tell_whole_step(text, goal, step, known),
+        Told::Speculation(told) => tell_whole_speculation(text, told, known),
+        Told::Idle(turn) => tell_idle(text, *turn),
         Told::Pause { cpu, step } => tell_pause(text, *cpu, *step),
         Told::Unfinished {
             cpu,
@@ -275,7 +310,8 @@ fn tell_told(text: &mut Text, goal: &RegFile, told: &Told, known: &[Wrong]) {
 fn known_behind<'a>(told: &'a Told, known: &'a [Wrong]) -> &'a [Wrong] {
     match told {
         Told::Step(step) => step.wrongs.as_slice(),
-        _ => known,
+        Told::Speculation(told) => told.wrongs.as_slice(),
+        Told::Pause { .. } | Told::Idle(_) | Told::Unfinished { .. } => known,
     }
 }
 
@@ -289,10 +325,38 @@ fn tell_run(text: &mut Text, goal: &RegFile, run: &Transcript) {
     }
 }
 
+// What is wrong at the end of a run.
+fn wrongs_behind(run: &Transcript) -> &[Wrong] {
+    let mut known = run.start.as_slice();
+    for told in run.told.as_slice() {
+        known = known_behind(told, known);
+    }
+    known
+}
+
+// Writes what is still wrong once all lists have ended, and the run behind which it is.
+fn tell_survival(text: &mut Text, goal: &RegFile, survival: &ToldSurvival) {
+    match survival {
+        ToldSurvival::Survives(run) => {
+            for wrong in wrongs_behind(run) {
+                tell_wrong(text, "survives: wrong: ", wrong);
+            }
+            tell_run(text, goal, run);
+        }
+        ToldSurvival::Nothing => text.add("nothing survives\n"),
+        ToldSurvival::Stopped => text.add("stopped\n"),
+    }
+}
+
 // Writes what a search counted.
-fn tell_counts(text: &mut Text, explored: &Explored) {
+fn tell_counts(text: &mut Text, case: &Case, explored: &Explored) {
     text.add_decimal("states ", explored.states as u64);
-    text.add_decimal("\nsteps ", explored.moves);
+    text.add(if case.mode.speculates {
+        "\nturns "
+    } else {
+        "\nsteps "
+    });
+    text.add_decimal("", explored.turns);
     text.add_decimal("\nnot due ", explored.undue);
     text.add("\n");
 }
@@ -316,7 +380,7 @@ fn tell_nothing(text: &mut Text, case: &Case, explored: &Explored) {
 
 // Writes what a search came to, and the run that it returned.
 fn tell_search(text: &mut Text, case: &Case, explored: &Explored, run: &Transcript) {
-    tell_counts(text, explored);
+    tell_counts(text, case, explored);
     match explored.found {
         Found::Nothing => tell_nothing(text, case, explored),
         Found::Stopped => text.add("stopped\n"),
@@ -340,7 +404,12 @@ pub(crate) fn verdict_text(
 ) -> Result<String, AllocError> {
     let mut text = Text::new(alloc);
     match &verdict.explored {
-        Some(explored) => tell_search(&mut text, case, explored, &verdict.transcript),
+        Some(explored) => {
+            tell_search(&mut text, case, explored, &verdict.transcript);
+            if let Some(survival) = &verdict.survival {
+                tell_survival(&mut text, &case.goal, survival);
+            }
+        }
         None => tell_order(&mut text, case, verdict),
     }
     text.finish()

@@ -1,11 +1,13 @@
 ghost use Rattle.std.specs.Prelude.{◌≡◌, ◌↔◌, ◌∷◌, ◌++◌, [], cond, IfOk, IfSome, IsTrue, OnOk};
-ghost use Rattle.mt_judge.specs.Told.{AreTold, AreToldBehind, IsRightTold, TellsStep, arrived_in};
+ghost use Rattle.mt_judge.specs.Told.{AreTold, AreToldBehind, IsRightTold, TellsSpeculation, TellsStep, arrived_in, kind_in, kind_of};
 
+use mt_kinds::MemType;
 use mt_list_machine::Cpu;
 use mt_machine::{Event, Phase};
 use mt_ports::NoMemory;
 use mt_procedure::{
-    Case, Move, ProcedureStep, State, due_at, has_arrived, has_arrived_again, phase_in,
+    Case, Move, PAGE_LINES, ProcedureStep, State, Turn, due_at, has_arrived, has_arrived_again,
+    phase_in,
 };
 use mt_search::{Fault, Wrong, fault_of, wrongs_of};
 use std::alloc::Global;
@@ -29,15 +31,28 @@ pub struct ToldStep {
     pub wrongs: Vec<Wrong>,
 }
 
+/// What a processor did by itself, as it is printed.
+#[derive(Drop)]
+pub struct ToldSpeculation {
+    pub turn: Turn,
+    /// The type of the page's TLB entry, which may be new.
+    pub kind: Option<MemType>,
+    /// What is wrong in the state after it.
+    pub wrongs: Vec<Wrong>,
+}
+
 /// What is printed in the course of a run.
 #[derive(Drop)]
 pub enum Told {
     Step(ToldStep),
+    Speculation(ToldSpeculation),
     /// A processor doesn't go on: it waits at this step, or its list has ended.
     Pause {
         cpu: usize,
         step: Option<ProcedureStep>,
     },
+    /// This speculation may not be made.
+    Idle(Turn),
     /// The list of a processor has ended in the midst of an update.
     Unfinished {
         cpu: usize,
@@ -100,6 +115,55 @@ pub(crate) fn told_step(
     })
 }
 
+fn kind_in(cpus: &[Cpu], k: usize, page: u64) -> Option<MemType>
+    ensures { result ≡ kind_in cpus.now k page }
+{
+    match cpus.get(k) {
+        Some(cpu) => match cpu.entry_of(page) {
+            Some(entry) => Some(entry.kind),
+            None => None,
+        },
+        None => None,
+    }
+}
+
+/// The type of the TLB entry by which a speculation is made.
+pub(crate) fn kind_of(state: &State, turn: Turn) -> Option<MemType>
+    ensures { result ≡ kind_of state.now turn }
+{
+    let cpus = state.cpus.as_slice();
+    match turn {
+        Turn::Step(_) => None,
+        Turn::Translate(k, page) => kind_in(cpus, k, page),
+        Turn::Fetch(k, line) => kind_in(cpus, k, line / PAGE_LINES),
+    }
+}
+
+/// What is told of a speculation, by the states before and after it.
+pub(crate) fn told_speculation(
+    alloc: Global,
+    before: &State,
+    turn: Turn,
+    after: &State,
+) -> Result<ToldSpeculation, NoMemory>
+    ensures { IfOk result (λ x. TellsSpeculation before.now turn after.now x) }
+{
+    Ok(ToldSpeculation {
+        turn,
+        kind: kind_of(before, turn),
+        wrongs: wrongs_of(alloc, after)?,
+    })
+}
+
+impl ToldSpeculation {
+    /// Whether nothing is wrong behind it.
+    pub(crate) fn is_right(&self) -> bool
+        ensures { IsTrue result ↔ self.now.wrongs.items ≡ [] }
+    {
+        self.wrongs.is_empty()
+    }
+}
+
 impl ToldStep {
     /// Whether the step is due, has no fault, and leaves nothing wrong.
     pub(crate) fn is_right(&self) -> bool
@@ -121,12 +185,7 @@ pub(crate) fn tell(told: &mut Vec<Told>, more: Told) -> Result<(), NoMemory>
 
 /// Tells where a processor stands if it can't go on.
 #[tactic(auto, using(crate::proofs::Courses::nothing_told))]
-pub(crate) fn tell_pause(
-    told: &mut Vec<Told>,
-    case: &Case,
-    state: &State,
-    k: usize,
-) -> Result<(), NoMemory>
+fn tell_wait(told: &mut Vec<Told>, case: &Case, state: &State, k: usize) -> Result<(), NoMemory>
     ensures { OnOk result (AreToldBehind case.now state.now [] told.old.items told.new.items) }
 {
     if state.may_go(case, k) {
@@ -136,13 +195,33 @@ pub(crate) fn tell_pause(
     tell(told, Told::Pause { cpu: k, step })
 }
 
+/// Tells why a turn can't be taken.
+#[tactic(auto, using(crate::proofs::Courses::nothing_told))]
+pub(crate) fn tell_pause(
+    told: &mut Vec<Told>,
+    case: &Case,
+    state: &State,
+    turn: Turn,
+) -> Result<(), NoMemory>
+    ensures { OnOk result (AreToldBehind case.now state.now [] told.old.items told.new.items) }
+{
+    match turn {
+        Turn::Step(k) => tell_wait(told, case, state, k),
+        Turn::Translate(..) | Turn::Fetch(..) => if state.may_take(case, turn) {
+            Ok(())
+        } else {
+            tell(told, Told::Idle(turn))
+        },
+    }
+}
+
 // The same, if its list hasn't ended.
 #[tactic(auto, using(crate::proofs::Courses::nothing_told))]
 fn tell_rest(told: &mut Vec<Told>, case: &Case, state: &State, k: usize) -> Result<(), NoMemory>
     ensures { OnOk result (AreToldBehind case.now state.now [] told.old.items told.new.items) }
 {
     if case.step_at(state, k).is_some() {
-        tell_pause(told, case, state, k)
+        tell_wait(told, case, state, k)
     } else {
         Ok(())
     }

@@ -29,7 +29,7 @@ const MOST_ENTRIES: usize = 64;
 const PHYSICAL_PAGES: u64 = 1 << 40;
 
 /// The TLB entry of a page.
-pub(crate) fn find_entry(entries: &[Entry], vpage: u64) -> Option<Entry>
+pub fn find_entry(entries: &[Entry], vpage: u64) -> Option<Entry>
     ensures { result ≡ find_entry vpage entries.now }
 {
     for entry in entries {
@@ -95,6 +95,13 @@ fn translate(cpu: &mut Cpu, vpage: u64) -> Result<Option<Entry>, NoMemory>
         Some(entry) => Ok(Some(entry)),
         None => fill(cpu, vpage),
     }
+}
+
+fn keep_translation(cpu: &mut Cpu, vpage: u64) -> Result<(), NoMemory>
+    ensures { OnOk result (cpu.new ≡ option_map_or (λ e. keep_entry e cpu.old) (entry_of cpu.old vpage) cpu.old) }
+{
+    translate(cpu, vpage)?;
+    Ok(())
 }
 
 /// Whether lines of this type are cached.
@@ -305,6 +312,16 @@ impl Bus<'_> {
             return Ok(None);
         };
         translate(cpu, va / PAGE_BYTES)
+    }
+
+    /// Translates a page: the entry of a page that is mapped is filled if there is none.
+    pub fn keep_translation(&mut self, k: usize, vpage: u64) -> Result<(), NoMemory>
+        ensures { OnOk result (self.new ≡ change (λ p. option_map_or (λ e. keep_entry e p) (entry_of p vpage) p) k self.old) }
+    {
+        match self.cpus.get_mut(k) {
+            Some(cpu) => keep_translation(cpu, vpage),
+            None => Ok(()),
+        }
     }
 
     // The physical address of a virtual one by an entry, if memory has its word.

@@ -2,9 +2,9 @@ ghost use Rattle.std.specs.Prelude.{◌≡◌, ◌<◌, IfOk};
 ghost use Rattle.std.specs.Option.{option_map};
 ghost use Rattle.mt_tlb.specs.Entries.{find_mapping};
 ghost use Rattle.mt_machine.specs.System.{start_processor};
-ghost use Rattle.mt_machine.specs.Access.{new_entry};
+ghost use Rattle.mt_machine.specs.Access.{entry_of, new_entry};
 
-use crate::accesses::find_mapping;
+use crate::accesses::{find_entry, find_mapping};
 use mt_cache::CacheLine;
 use mt_kinds::{MemType, Pat, effective};
 use mt_machine::Phase;
@@ -140,6 +140,23 @@ impl Cpu {
             Some(mapping) => Some(self.new_entry(&mapping)),
             None => None,
         }
+    }
+
+    /// The entry of a page: the one that the TLB has, or else the one that the page's mapping makes.
+    pub fn entry_of(&self, vpage: u64) -> Option<Entry>
+        ensures { result ≡ entry_of self.now vpage }
+    {
+        match find_entry(self.entries(), vpage) {
+            Some(entry) => Some(entry),
+            None => self.made_entry(vpage),
+        }
+    }
+
+    /// The mapping of a page.
+    pub fn mapping_of(&self, vpage: u64) -> Option<Mapping>
+        ensures { result ≡ find_mapping vpage self.now.mappings }
+    {
+        find_mapping(self.maps.as_slice(), vpage)
     }
 
     /// The entry that a mapping makes.

@@ -2,7 +2,7 @@ ghost use Rattle.std.specs.Prelude.{◌≡◌, [], ◌∷◌, ◌++◌, OnOk};
 ghost use Rattle.mt_cache.specs.Calls.{clean_line_of};
 ghost use Rattle.mt_cache.specs.Lines.{without_line};
 ghost use Rattle.mt_machine.specs.System.{change, lines_of};
-ghost use Rattle.mt_machine.specs.Bus.{fill_line, make_room, with_lines};
+ghost use Rattle.mt_machine.specs.Bus.{bus_read, drain_line, fill_line, make_room, with_lines};
 
 use crate::bus::Bus;
 use crate::lines;
@@ -64,5 +64,15 @@ impl Bus<'_> {
         self.make_room(k);
         let words = line_words(self.layout, self.words.as_slice(), number);
         self.add_line(k, number, words)
+    }
+
+    /// Fills a line of a processor's cache as a load does: its own buffer of the line is emptied, and the line is read on the bus.
+    pub fn read_and_fill(&mut self, k: usize, number: u64) -> Result<(), NoMemory>
+        ensures { OnOk result (self.new ≡ fill_line k number (bus_read number (drain_line k number self.old))) }
+    {
+        self.drain_line(k, number);
+        self.bus_read(number);
+        self.fill_line(k, number)?;
+        Ok(())
     }
 }

@@ -16,10 +16,10 @@ mod ram;
 mod snoops;
 mod steps;
 
-pub use accesses::is_cached;
+pub use accesses::{find_entry, is_cached};
 pub use bus::Bus;
 pub use controls::map;
 pub use cpu::{Cpu, copied};
 pub use fitting::are_physical;
-pub use lines::{first_dirty_line, first_dirty_word};
+pub use lines::{find_line, first_dirty_line, first_dirty_word};
 pub use steps::{clear_pge, write_back_or_drop};

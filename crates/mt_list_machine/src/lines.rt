@@ -7,7 +7,7 @@ use mt_kinds::is_bit_set;
 use mt_ports::NoMemory;
 
 /// The line of this number.
-pub(crate) fn find_line(lines: &[CacheLine], number: u64) -> Option<CacheLine>
+pub fn find_line(lines: &[CacheLine], number: u64) -> Option<CacheLine>
     ensures { result ≡ find_line number lines.now }
 {
     for line in lines {

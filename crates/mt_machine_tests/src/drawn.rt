@@ -9,7 +9,7 @@ use mt_cache::{Cache, CacheLine};
 use mt_core::{Core, Stepped};
 use mt_list_machine::{Cpu, map};
 use mt_machine::{Control, Op, Ruled};
-use mt_procedure::{Case, ListPlace, Move, Outcome, Procedure, ProcedureStep, State, advance};
+use mt_procedure::{Case, ListPlace, Mode, Move, Outcome, Procedure, ProcedureStep, State, advance};
 use mt_ram::Ram;
 use mt_tlb::Mapping;
 use std::alloc::Global;
@@ -120,6 +120,10 @@ fn drawn_case(alloc: Global, seed: &mut u64) -> Option<Case> {
     }
     let lists = [drawn_list(alloc, seed)?, drawn_list(alloc, seed)?];
     Some(Case {
+        mode: Mode {
+            speculates: false,
+            leaks: false,
+        },
         layout,
         goal: file(0)?,
         lists: Vec::from_array(alloc, lists).ok()?,

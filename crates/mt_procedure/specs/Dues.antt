@@ -9,6 +9,7 @@ use Rattle.mt_procedure.specs.Runs.{Case, IsRun, State, due_in, event_in, next_m
 use Rattle.mt_procedure.specs.declared.moves.Move.{Move}
 use Rattle.mt_procedure.specs.declared.step.ProcedureStep.{ProcedureStep}
 use Rattle.mt_procedure.specs.declared.step.ProcedureStep.TheVariants as list
+use Rattle.mt_procedure.specs.declared.turn.Turn.{Turn}
 
 -- ---- a step that is due
 
@@ -69,5 +70,5 @@ HasUnfinished c s = (k : ℕ) × (k < length s.processors) × (is_unfinished c s
 
 -- each step of every run is due, and no list ends in the midst of the procedure
 pub record AreInOrder (c : Case) (s : State) : Type 0 where
-  pub due : (ks : List ℕ) → IsRun c s ks → AreStepsDue c (run c s ks)
-  pub finished : (ks : List ℕ) → IsRun c s ks → AreListsFinished c (run c s ks)
+  pub due : (ts : List Turn) → IsRun c s ts → AreStepsDue c (run c s ts)
+  pub finished : (ts : List Turn) → IsRun c s ts → AreListsFinished c (run c s ts)

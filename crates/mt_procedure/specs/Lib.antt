@@ -1,3 +1,4 @@
 pub mod Dues
 pub mod Runs
+pub mod Speculation
 pub mod Steps

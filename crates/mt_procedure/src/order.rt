@@ -100,17 +100,6 @@ impl State {
         }
     }
 
-    /// The number of processors that may go on.
-    pub fn step_count(&self, case: &Case) -> u64 {
-        let mut count = 0u64;
-        for k in 0..self.cpus.len() {
-            if self.may_go(case, k) {
-                count = sum(count, 1);
-            }
-        }
-        count
-    }
-
     // 1 if the next step of a processor isn't due, else 0.
     fn undue_at(&self, case: &Case, k: usize) -> u64
         ensures due { result ≡ 0 → IsDueAt case.now self.now k }

@@ -1,7 +1,7 @@
 use Rattle.std.proofs.Common.{◌≡◌, [], false}
 use Rattle.mt_judge.specs.Ordered.{steps_below}
 use Rattle.mt_judge.specs.Told.{IsTold}
-use Rattle.mt_judge.proofs.one_run.JudgedRun.turn.Given as goal
+use Rattle.mt_judge.proofs.one_run.JudgedRun.round.Given as goal
 
 abbrev pub invariant-loop-k : goal.invariant-loop-k
 invariant-loop-k l = record {
