@@ -6,23 +6,21 @@ use Rattle.std.proofs.lemmas.List.Elements.{All-head}
 use Rattle.std.proofs.lemmas.List.Sums.{list_all-from_AllPass}
 use Rattle.mt_tlb.specs.declared.entry.Entry.{Entry}
 use Rattle.mt_machine.specs.declared.go.Go.TheVariants.{Given}
-use Rattle.mt_machine.specs.declared.phase.Phase.{Phase}
 use Rattle.mt_machine.specs.declared.phase.Phase.TheVariants.{Running}
 use Rattle.mt_machine.specs.Access.{is_running}
 use Rattle.mt_machine.specs.Machine.{Calls, FitsGoal, Goes, Reached, after, at_start, common_era, has_released, remaining_order}
 use Rattle.mt_machine.specs.Start.{IsStart}
-use Rattle.mt_machine.specs.System.{IsProcessor, Processor, is_writing}
+use Rattle.mt_machine.specs.System.{IsProcessor, Processor, is_tlb_flushed, is_writing}
 use Rattle.mt_machine.proofs.Files.{alike_files}
 use Rattle.mt_laws.proofs.Barrier.Claims.{all_get}
 use Rattle.mt_laws.proofs.Barrier.Ranks.{At, Guarded, is_ahead, processor_at, rank}
 use Rattle.mt_laws.proofs.Barrier.Stages.{Stage, stages_of}
-use Rattle.mt_laws.proofs.Clearing.Cleared.{Clear, gone_runs}
 use Rattle.mt_laws.proofs.Registers.Filed.{AllFiled, is_done}
 use Rattle.mt_procedure.specs.Runs.{Case, State, system_of}
 use Rattle.mt_search.specs.Searches.{has_wrong}
 use Rattle.mt_judge_laws.specs.Manual.{IsRightStart, at_rest, machine_of, MayCall}
 use Rattle.mt_judge_laws.proofs.Holding.{order_of, Holds}
-use Rattle.mt_judge_laws.proofs.Right.{AllRun, NoneWrong, Senses, none_wrong, nothing_wrong, start_agrees, start_right, stays_right}
+use Rattle.mt_judge_laws.proofs.Right.{AllRun, NoneWrong, Senses, none_wrong, nothing_wrong, running_is, start_agrees, start_right, stays_right}
 use Rattle.mt_judge_laws.proofs.Since.{AllSince, is_no_fill}
 
 -- ---- lists
@@ -33,10 +31,6 @@ common_zero (p ∷ ps) all = All-head (λ (q : Processor). q.era ≡ 0) p ps all
 
 entries_local : (es : List Entry) → All (λ (e : Entry). e.global ≡ false) es → list_all (λ (e : Entry). not e.global) es ≡ true
 entries_local es all = list_all-from_AllPass (λ (e : Entry). not e.global) es (λ k d within. ap not (all k d within))
-
-pub running_is : (ph : Phase) → is_running ph ≡ true → ph ≡ Running
-running_is Running runs = refl
-running_is other runs = absurd (cc)
 
 -- ---- the start
 
@@ -61,7 +55,7 @@ module _ (senses : Senses) (c : Case) (s : State) (right : IsRightStart c s) (go
       let found = processor_at s.processors i x at in
       sym found.2 ∙ (λ j. (phase_is i found.0 found.1 j, era_is i found.0 found.1 j))
 
-  reaches : Reached (at_rest c s) (machine_of c s)
+  pub reaches : Reached (at_rest c s) (machine_of c s)
   reaches =
       subst (λ (era : ℕ). Reached (at_rest c s) (record { system = system_of c s; order = remaining_order (record { goal = c.goal; from_era = era; go = Given }) s.processors }))
       (common_zero s.processors right.first)
@@ -78,20 +72,6 @@ module _ (senses : Senses) (c : Case) (s : State) (right : IsRightStart c s) (go
     in_step = λ i x at still. ap (is_ahead (order_of c)) (stage_is i x at);
     eras = λ i x at. inl (ap (λ (y : Stage). y.1) (stage_is i x at));
   }
-
-  clears : (i : ℕ) (p : Processor) → slice_get s.processors i ≡ Some p → Clear (order_of c) p
-  clears i p at =
-      let gone = gone_runs p.phase (runs i p at) in
-      let late = behind i p at in
-      record {
-        no_lines = λ h. absurd (let e = gone.0 in cc);
-        no_buffers = λ h. absurd (let e = gone.1 in cc);
-        no_entries = λ h. absurd (let e = gone.2 in cc);
-        new_lines = λ h. absurd (cc);
-        new_buffers = λ h. absurd (cc);
-        new_entries = λ h. absurd (cc);
-        local = λ off. entries_local p.entries ((all_get IsProcessor s.processors right.quiet.sound.each i p at).local_entries off);
-      }
 
   files : AllFiled (Some (order_of c)) s.processors
   files = (
@@ -113,24 +93,23 @@ module _ (senses : Senses) (c : Case) (s : State) (right : IsRightStart c s) (go
 
   since : AllSince (order_of c) s.processors s.processors
   since i p at =
-      let phase = phase_is i p at in
-      let late = behind i p at in (
+      let phase = phase_is i p at in (
         p,
         at,
         record {
           mappings = refl;
           self_snoop = refl;
-          early = λ h. record { file = refl; right = start_right s.processors runs none i p at };
+          file = λ h. refl;
           disabled = λ h. absurd (let off : is_no_fill p.phase ≡ false = ap is_no_fill phase in cc);
-          released = λ h. absurd (cc);
+          local = λ h. absurd (let off : is_tlb_flushed p.phase ≡ false = ap is_tlb_flushed phase in cc);
+          right = start_right s.processors runs none i p at (λ off. entries_local p.entries ((all_get IsProcessor s.processors right.quiet.sound.each i p at).local_entries off));
         },
       )
 
-  pub holds_first : Holds c s s.processors s.words
-  holds_first = record { reached = reaches; guarded = guards; clear = clears; filed = files; since = since }
+  pub holds_first : Holds c s s.processors
+  holds_first = record { guarded = guards; filed = files; since = since }
 
   -- nothing is wrong where that is kept
-  pub right_in : (t : State) → Holds c s t.processors t.words → has_wrong t ≡ false
+  pub right_in : (t : State) → Holds c s t.processors → has_wrong t ≡ false
   right_in t h =
-      nothing_wrong senses t
-      (stays_right (order_of c) s.processors t.processors (start_agrees s.processors runs none) h.guarded h.clear h.filed h.since)
+      nothing_wrong senses t (stays_right (order_of c) s.processors t.processors (start_agrees s.processors runs none) h.guarded h.filed h.since)

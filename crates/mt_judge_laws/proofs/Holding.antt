@@ -1,4 +1,4 @@
--- What is kept while the steps are due: a run of the machine, the barriers, and what each processor holds.
+-- What is kept while the steps are due: the barriers, and what each processor holds; and that each is a step of the machine.
 use Rattle.std.proofs.Common.{◌≡◌, ◌∙◌, ap, refl, sym, subst, arith, ℕ, zero, suc, Bool, true, false, List, [], ◌∷◌, set, Option, None, Some}
 use Rattle.std.specs.Prelude.{◌||◌, if◌then◌else◌, slice_get, ◌==◌, ◌&&◌, not, slice_index}
 use Rattle.std.specs.List.{list_all}
@@ -25,11 +25,10 @@ use Rattle.mt_machine.specs.System.{Processor, System, change}
 use Rattle.mt_machine.proofs.Rows.{due_row, first_flush_case, is_row}
 use Rattle.mt_laws.proofs.Barrier.Barriers.{flush_era, step_guarded, step_stages}
 use Rattle.mt_laws.proofs.Barrier.Ranks.{At, Guarded, all_at, stage_at, is_ahead}
-use Rattle.mt_laws.proofs.Barrier.Stages.{Stage, stage_of, stages_of, access_stages, stages, control_stages}
-use Rattle.mt_laws.proofs.Clearing.Renewed.{AllClear, steps_clear, clear_next}
+use Rattle.mt_laws.proofs.Barrier.Stages.{Stage, stage_of, stages_of, stages, control_stages}
 use Rattle.mt_laws.proofs.Invariant.Kept.{start_aligned}
 use Rattle.mt_laws.proofs.Invariant.Standing.{reached_standing, start_standing}
-use Rattle.mt_laws.proofs.Registers.Filed.{AllFiled, filed_steps, filed_next}
+use Rattle.mt_laws.proofs.Registers.Filed.{AllFiled, Filed, filed_next, filed_steps}
 use Rattle.mt_laws.specs.Parts.{answered}
 use Rattle.mt_procedure.specs.declared.moves.Outcome.{Outcome}
 use Rattle.mt_search.specs.declared.wrong.Fault.TheVariants.{LostWord}
@@ -42,9 +41,8 @@ use Rattle.mt_procedure.specs.Steps.{event_of, accessed, answer_aside, aside, co
 use Rattle.mt_search.specs.Wrongs.{fault_with}
 use Rattle.mt_judge_laws.specs.Manual.{at_rest, IsInstruction}
 use Rattle.mt_judge_laws.proofs.Counting.{all_staged, stage_after}
-use Rattle.mt_judge_laws.proofs.Since.{AllSince, steps_since, IsPlain, control_since}
-use Rattle.mt_judge_laws.proofs.Accessing.{access_right}
-use Rattle.mt_judge_laws.proofs.Right.{access_since, running_right}
+use Rattle.mt_judge_laws.proofs.Since.{AllSince, IsPlain, all_right, all_since, control_since, steps_since}
+use Rattle.mt_judge_laws.proofs.Accessing.{AllKeep, access_keeps, access_right, kept_at, kept_stages}
 
 -- ---- lists
 
@@ -86,12 +84,27 @@ order_of c = procedure_order c.goal
 abbrev pub machine_with : Case → System → Machine
 machine_with c s = record { system = s; order = remaining_order (order_of c) s.processors }
 
-pub record Holds (c : Case) (first : State) (ps : List Processor) (words : List ℕ) : Type 0 where
-  pub reached : Reached (at_rest c first) (machine_with c (bus c.layout ps words))
+pub record Holds (c : Case) (first : State) (ps : List Processor) : Type 0 where
   pub guarded : Guarded (order_of c) (stages_of ps)
-  pub clear : AllClear (Some (order_of c)) ps
   pub filed : AllFiled (Some (order_of c)) ps
   pub since : AllSince (order_of c) first.processors ps
+
+-- the machine reaches the second system if it reaches the first one
+abbrev pub Leads : Case → State → System → System → Type 0
+Leads c first s t = Reached (at_rest c first) (machine_with c s) → Reached (at_rest c first) (machine_with c (bus c.layout t.processors t.memory.words))
+
+-- what changes nothing of a processor but what it holds, and leaves that right, keeps what holds
+pub quiet_holds : (c : Case) (first : State) (ps qs : List Processor) → AllKeep ps qs → Holds c first ps → Holds c first qs
+quiet_holds c first ps qs kept h = record {
+  guarded = subst (Guarded (order_of c)) (sym (kept_stages ps qs kept)) h.guarded;
+  filed = (
+    h.filed.0,
+    λ i x at.
+        let from = kept_at ps qs i x kept at in
+        subst (λ (y : Processor). Filed (order_of c) y.file (stage_of y)) (sym from.2.same) (h.filed.1 i from.0 from.1),
+  );
+  since = all_since (order_of c) first.processors ps qs kept h.since;
+}
 
 -- a processor with an event that is due hasn't released
 pub due_behind : (o : Order) (ps : List Processor) (p : Processor) (e : Event) → (is_running p.phase ≡ false → has_released o p ≡ false) → due o ps p p.phase ≡ Some e → has_released o p ≡ false
@@ -139,7 +152,7 @@ event_right goal ps p k part other e outcome is now_due = refl
 
 -- ---- a step
 
-module _ (c : Case) (first : State) (start : IsStart (at_rest c first)) (s : State) (h : Holds c first s.processors s.words) (k : ℕ) (p : Processor) (at : slice_get s.processors k ≡ Some p) where
+module _ (c : Case) (first s : State) (h : Holds c first s.processors) (k : ℕ) (p : Processor) (at : slice_get s.processors k ≡ Some p) where
   here_stage : At (stages_of s.processors) k (stage_of p)
   here_stage = stage_at s.processors k p at
 
@@ -147,8 +160,8 @@ module _ (c : Case) (first : State) (start : IsStart (at_rest c first)) (s : Sta
   before = system_of c s
 
   -- the system that a machine's run leads to is a state's
-  settled : (to : System) → Reached (at_rest c first) (machine_with c to) → Reached (at_rest c first) (machine_with c (bus c.layout to.processors to.memory.words))
-  settled to reaches =
+  settled : IsStart (at_rest c first) → (to : System) → Reached (at_rest c first) (machine_with c to) → Reached (at_rest c first) (machine_with c (bus c.layout to.processors to.memory.words))
+  settled start to reaches =
       let windows : to.memory.windows ≡ c.layout.windows = (reached_standing c.layout.windows (start_aligned (at_rest c first) start) reaches (start_standing (at_rest c first) start)).agrees.stands.memory.windows in
       let same : to ≡ bus c.layout to.processors to.memory.words = λ i. record { processors = to.processors; memory = record { windows = windows i; words = to.memory.words } } in
       subst (λ (t : System). Reached (at_rest c first) (machine_with c t)) same reaches
@@ -162,24 +175,22 @@ module _ (c : Case) (first : State) (start : IsStart (at_rest c first)) (s : Sta
     pub stages_are : stages_of to.processors ≡ set (stages_of s.processors) k (stage_after e (stage_of p))
     stages_are = step_stages c.goal e k before p at ∙ ap (set (stages_of s.processors) k) (own_stage c.goal e p)
 
-    reaches : Reached (at_rest c first) (machine_with c to)
-    reaches =
+    pub event_leads : IsStart (at_rest c first) → Leads c first before to
+    event_leads start reached =
         let behind = due_behind (order_of c) s.processors p e (h.guarded.in_step k (stage_of p) here_stage) now_due in
         let lasts : remaining_order (order_of c) s.processors ≡ Some (order_of c) =
         ap (λ (b : Bool). if b then None else Some (order_of c)) (not_over c s.processors k p at behind) in
         let under_way : Reached (at_rest c first) (record { system = before; order = Some (order_of c) }) =
-        subst (λ (o : Option Order). Reached (at_rest c first) (record { system = before; order = o })) lasts h.reached in
+        subst (λ (o : Option Order). Reached (at_rest c first) (record { system = before; order = o })) lasts reached in
         let enabled : IsEnabled (record { system = before; order = Some (order_of c) }) (Steps k e) =
         ap (λ (x : Option Processor). option_map_or (λ q. due (order_of c) s.processors q q.phase) x None) at ∙ now_due in
-        after (Steps k e) under_way enabled
+        settled start to (after (Steps k e) under_way enabled)
 
-    pub holds_event : Holds c first to.processors to.memory.words
+    pub holds_event : Holds c first to.processors
     holds_event = record {
-      reached = settled to reaches;
       guarded = step_guarded (order_of c) e k before p at now_due h.guarded;
-      clear = steps_clear (order_of c) before k p at h.guarded h.clear p.phase e refl now_due;
       filed = filed_steps (order_of c) e k before p at now_due h.guarded h.filed;
-      since = steps_since (order_of c) first.processors e k before p at now_due h.guarded h.clear h.since;
+      since = steps_since (order_of c) first.processors k before p at h.since e now_due h.guarded;
     }
 
   -- ---- an instruction of a processor that runs
@@ -188,7 +199,8 @@ module _ (c : Case) (first : State) (start : IsStart (at_rest c first)) (s : Sta
     pub to : System
     pub is : aside todo k before ≡ to
     pub same_stages : stages_of to.processors ≡ stages_of s.processors
-    pub holds : Holds c first to.processors to.memory.words
+    pub holds : Holds c first to.processors
+    pub leads : IsStart (at_rest c first) → Leads c first before to
     pub right : fault_with k todo (answer_aside todo k before) p ≡ None
 
   module _ (runs : p.phase ≡ Running) where
@@ -199,21 +211,15 @@ module _ (c : Case) (first : State) (start : IsStart (at_rest c first)) (s : Sta
     runs_at = ap (λ (x : Option Processor). option_map_or (λ q. is_running q.phase) x false) at ∙ running
 
     -- an event of the machine that leaves the stages
-    holds_after : (to : System) (e : MachineEvent) → IsEnabled (machine_with c before) e → next (machine_with c before) e ≡ record (machine_with c before) { system = to } → stages_of to.processors ≡ stages_of s.processors
-        → AllClear (Some (order_of c)) to.processors → AllFiled (Some (order_of c)) to.processors → AllSince (order_of c) first.processors to.processors → Holds c first to.processors to.memory.words
-    holds_after to e enabled next_to same_stages clear filed since =
+    still_leads : (to : System) (e : MachineEvent) → IsEnabled (machine_with c before) e → next (machine_with c before) e ≡ record (machine_with c before) { system = to } → stages_of to.processors ≡ stages_of s.processors
+        → IsStart (at_rest c first) → Leads c first before to
+    still_leads to e enabled next_to same_stages start reached =
         let all_same : list_all (has_released (order_of c)) s.processors ≡ list_all (has_released (order_of c)) to.processors =
         all_staged (is_ahead (order_of c)) s.processors ∙ ap (list_all (is_ahead (order_of c))) (sym same_stages) ∙ sym (all_staged (is_ahead (order_of c)) to.processors) in
         let same_order : remaining_order (order_of c) s.processors ≡ remaining_order (order_of c) to.processors = ap (λ (b : Bool). if b || false then None else Some (order_of c)) all_same in
-        record {
-          reached = settled to
-              (subst (λ (o : Option Order). Reached (at_rest c first) (record { system = to; order = o })) same_order
-              (subst (Reached (at_rest c first)) next_to (after e h.reached enabled)));
-          guarded = subst (Guarded (order_of c)) (sym same_stages) h.guarded;
-          clear = clear;
-          filed = filed;
-          since = since;
-        }
+        settled start to
+        (subst (λ (o : Option Order). Reached (at_rest c first) (record { system = to; order = o })) same_order
+        (subst (Reached (at_rest c first)) next_to (after e reached enabled)))
 
     accesses : (op : Op) → FitsOp op → Instructed (list.Access op)
     accesses op fits =
@@ -222,17 +228,15 @@ module _ (c : Case) (first : State) (start : IsStart (at_rest c first)) (s : Sta
         ap (λ (x : Option Processor). (option_map_or (λ q. if is_running q.phase then access_at before k q op else record { answer = Busy; after = before }) x (record { answer = Busy; after = before })).after) at
         ∙ ap (λ (b : Bool). (pick_answer b done (record { answer = Busy; after = before })).after) running in
         let accessed_is : accessed op k before ≡ done = ap (λ (x : Option Processor). option_map_or (λ q. access_at before k q op) x (answered Busy before)) at in
-        let same_stages : stages_of done.after.processors ≡ stages_of s.processors = ap stages (sym access_is) ∙ access_stages before k op in
+        let kept : AllKeep s.processors done.after.processors = access_keeps before k p at (all_right (order_of c) first.processors s.processors h.since) running op in
+        let same_stages : stages_of done.after.processors ≡ stages_of s.processors = kept_stages s.processors done.after.processors kept in
         record {
           to = done.after;
           is = ap (λ (x : Answered). x.after) accessed_is;
           same_stages = same_stages;
-          holds = holds_after done.after (Accesses k op) (runs_at, fits) (ap (λ (t : System). record (machine_with c before) { system = t }) access_is) same_stages
-              (subst (λ (t : System). AllClear (Some (order_of c)) t.processors) access_is (clear_next (Accesses k op) before (Some (order_of c)) (runs_at, fits) h.guarded h.clear))
-              (subst (λ (t : System). AllFiled (Some (order_of c)) t.processors) access_is (filed_next (Accesses k op) before (Some (order_of c)) (runs_at, fits) h.guarded h.filed))
-              (access_since (order_of c) first.processors s.processors h.guarded h.clear h.since before.memory k p op at running same_stages);
-          right = ap (λ (x : Answered). fault_with k (list.Access op) (Accessed x.answer) p) accessed_is
-              ∙ access_right k k p (running_right (order_of c) first.processors s.processors h.guarded h.clear h.since k p at running) before op;
+          holds = quiet_holds c first s.processors done.after.processors kept h;
+          leads = still_leads done.after (Accesses k op) (runs_at, fits) (ap (λ (t : System). record (machine_with c before) { system = t }) access_is) same_stages;
+          right = ap (λ (x : Answered). fault_with k (list.Access op) (Accessed x.answer) p) accessed_is ∙ access_right k k p (h.since k p at).2.right running before op;
         }
 
     control_is : (ctl : Control) → (control before k ctl).after ≡ (control_at before k p ctl).after
@@ -253,10 +257,12 @@ module _ (c : Case) (first : State) (start : IsStart (at_rest c first)) (s : Sta
           to = (control_at before k p ctl).after;
           is = is;
           same_stages = control_stages_at ctl;
-          holds = holds_after (control_at before k p ctl).after (Controls k ctl) (runs_at, λ q at_q. fits q) (ap (λ (t : System). record (machine_with c before) { system = t }) is_done) (control_stages_at ctl)
-              (subst (λ (t : System). AllClear (Some (order_of c)) t.processors) is_done (clear_next (Controls k ctl) before (Some (order_of c)) (runs_at, λ q at_q. fits q) h.guarded h.clear))
-              (subst (λ (t : System). AllFiled (Some (order_of c)) t.processors) is_done (filed_next (Controls k ctl) before (Some (order_of c)) (runs_at, λ q at_q. fits q) h.guarded h.filed))
-              (control_since (order_of c) first.processors before k p ctl plain at running h.since);
+          holds = record {
+            guarded = subst (Guarded (order_of c)) (sym (control_stages_at ctl)) h.guarded;
+            filed = subst (λ (t : System). AllFiled (Some (order_of c)) t.processors) is_done (filed_next (Controls k ctl) before (Some (order_of c)) (runs_at, λ q at_q. fits q) h.guarded h.filed);
+            since = control_since (order_of c) first.processors k before p at h.since runs ctl plain;
+          };
+          leads = still_leads (control_at before k p ctl).after (Controls k ctl) (runs_at, λ q at_q. fits q) (ap (λ (t : System). record (machine_with c before) { system = t }) is_done) (control_stages_at ctl);
           right = right;
         }
 

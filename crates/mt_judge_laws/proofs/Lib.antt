@@ -1,10 +1,11 @@
-mod Emptied
-mod Since
+mod Held
 mod Accessing
+mod Since
 mod Right
 mod Counting
 mod Placing
 mod Holding
+mod Speculating
 mod Standing
 mod Progress
 mod Beginning

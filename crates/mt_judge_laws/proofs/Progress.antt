@@ -1,37 +1,40 @@
 -- Unless all lists have ended, some processor may go.
 use Rattle.std.proofs.Common.{◌≡◌, ◌⊎◌, ◌∙◌, ap, refl, sym, subst, inl, inr, ⊎_elim, arith, ℕ, zero, suc, ◌+◌, ◌-◌, ◌^◌, ◌<◌, ◌≤◌, Bool, true, false, List, [], ◌∷◌, ◌++◌, drop, get_or, length, Option, Some, None}
-use Rattle.std.specs.Prelude.{cond, ◌&&◌, nat_lt, slice_get, is_none, not}
-use Rattle.std.specs.List.{All, count_by, list_all}
+use Rattle.std.specs.Prelude.{cond, ◌==◌, ◌&&◌, ◌||◌, nat_lt, slice_get, is_none, not}
+use Rattle.std.specs.List.{All, count_by, list_all, list_any}
 use Rattle.std.specs.Option.{option_map_or}
 use Rattle.std.proofs.Math.Bool.{and-false}
-use Rattle.std.proofs.lemmas.List.Elements.{All-head}
-use Rattle.std.proofs.lemmas.Bool.{eq-eqb, le-leb, lt-ltb, ltb-false, ltb-true}
-use Rattle.std.proofs.lemmas.List.Sums.{list_all-from_AllPass}
+use Rattle.std.proofs.lemmas.List.Elements.{All-head, All-tail}
+use Rattle.std.proofs.lemmas.Bool.{eq-eqb, eqb-true, le-leb, lt-ltb, ltb-false, ltb-true}
+use Rattle.std.proofs.Math.Pow.{pow_mono}
 use Rattle.std.proofs.lemmas.Option.{get_or_from_slice_get, slice_get-get_or}
+use Rattle.mt_regs.specs.RegisterFile.{page_count}
 use Rattle.mt_regs.specs.Registers.{writable}
 use Rattle.mt_cache.specs.declared.line.CacheLine.{CacheLine}
+use Rattle.mt_tlb.specs.declared.mapping.Mapping.{Mapping}
 use Rattle.mt_machine.specs.declared.phase.Phase.{Phase}
 use Rattle.mt_machine.specs.declared.phase.Phase.TheVariants.{Running, Taken, Arrived, Passed, NoFill, Flushed, TlbFlushed, Writing, Enabled, Flushed2, TlbFlushed2, Normal, Restored, Arrived2}
 use Rattle.mt_machine.specs.Access.{is_running}
 use Rattle.mt_machine.specs.Machine.{is_arrived, is_arrived_again, is_changing}
 use Rattle.mt_machine.specs.Start.{IsStart}
-use Rattle.mt_machine.specs.System.{Processor, start_processor}
+use Rattle.mt_machine.specs.System.{IsProcessor, Processor, start_processor}
 use Rattle.mt_laws.proofs.Barrier.Claims.{all_get}
 use Rattle.mt_laws.proofs.Barrier.Ranks.{At, is_ahead, processor_at, stage_at, and_left, and_right}
 use Rattle.mt_laws.proofs.Barrier.Stages.{Stage, stage_of, stages_of}
-use Rattle.mt_laws.proofs.Invariant.Standing.{stays_sound}
-use Rattle.mt_laws.proofs.Registers.UnderWay.{lines_are_low}
+use Rattle.mt_laws.proofs.Invariant.Kept.{start_sound}
 use Rattle.mt_laws.proofs.Steps.StepCounts.{count_more}
 use Rattle.mt_procedure.specs.declared.step.ListPlace.{ListPlace}
 use Rattle.mt_procedure.specs.declared.step.ProcedureStep.{ProcedureStep}
 use Rattle.mt_procedure.specs.declared.step.ProcedureStep.TheVariants as list
 use Rattle.mt_procedure.specs.Dues.{AreListsFinished}
 use Rattle.mt_list_machine.specs.Calls.{is_fit}
-use Rattle.mt_procedure.specs.Runs.{Case, SomeGoesOn, IsEnded, State, arrived_at, is_open, list_of, may_go, place_of, step_at, system_of}
-use Rattle.mt_judge_laws.specs.Manual.{IsInstruction, at_rest, first_flush, machine_of, manual_list, since_flush}
+use Rattle.mt_procedure.specs.Runs.{Case, SomeGoesOn, IsEnded, State, arrived_at, is_open, list_of, may_go, place_of, step_at}
+use Rattle.mt_search.specs.declared.wrong.Kept.{Kept}
+use Rattle.mt_search.specs.Wrongs.{allows, page_of}
+use Rattle.mt_judge_laws.specs.Manual.{IsInstruction, at_rest, first_flush, manual_list, since_flush}
 use Rattle.mt_judge_laws.proofs.Holding.{order_of}
 use Rattle.mt_judge_laws.proofs.Counting.{again, arrived}
-use Rattle.mt_judge_laws.proofs.Emptied.{both}
+use Rattle.mt_judge_laws.proofs.Held.{View, all_more, allows_held, both, kept_by, kind_by, may_hold, right_line, view}
 use Rattle.mt_judge_laws.proofs.Placing.{IsPlace, none_left, some_left}
 use Rattle.mt_judge_laws.proofs.Right.{or_left, or_right}
 use Rattle.mt_judge_laws.proofs.Standing.{Stands, placed_at, PlaceOf}
@@ -62,6 +65,20 @@ passes_at : (q : Stage → Bool) (xs : List Stage) (i : ℕ) (x : Stage) → lis
 passes_at q [] i x all at = absurd (cc)
 passes_at q (y ∷ ys) zero x all at = let e : y ≡ x = cc in ap q (sym e) ∙ and_left (q y) (list_all q ys) all
 passes_at q (y ∷ ys) (suc i) x all at = passes_at q ys i x (and_right (q y) (list_all q ys) all) at
+
+-- ---- lines are of mapped pages
+
+low_page : (g : Mapping → Bool) (n most : ℕ) (ms : List Mapping) → All (λ (m : Mapping). m.ppage < most) ms → list_any (λ m. (m.ppage == n) && g m) ms ≡ true → n < most
+low_page g n most [] low h = absurd (cc)
+low_page g n most (m ∷ ms) low h = one (m.ppage == n) refl h (λ rest. low_page g n most ms (All-tail (λ (r : Mapping). r.ppage < most) m ms low) rest)
+  where
+    one : (b : Bool) → (m.ppage == n) ≡ b → ((b && g m) || list_any (λ r. (r.ppage == n) && g r) ms) ≡ true → (list_any (λ r. (r.ppage == n) && g r) ms ≡ true → n < most) → n < most
+    one true is f rest = let e = eqb-true m.ppage n is in let here = All-head (λ (r : Mapping). r.ppage < most) m ms low in omega (arith, e, here)
+    one false is f rest = rest f
+
+held_page : (v : View) (what : Kept) (n most : ℕ) (ms : List Mapping) → v.mappings ≡ ms → All (λ (m : Mapping). m.ppage < most) ms → may_hold v what n ≡ true → n < most
+held_page v what n most ms same low h =
+    low_page (λ m. v.old_lines || allows what (kind_by v m)) n most ms low (ap (list_any (allows_held v what n)) (sym same) ∙ h)
 
 -- ---- the next step, and that it may be done
 
@@ -136,9 +153,14 @@ released_left n r behind snoops arrivals left part other ahead is in_step place 
 module _ (c : Case) (first : State) (start : IsStart (at_rest c first)) (few : length first.processors ≤ 64) (s : State) (st : Stands c first s) where
   lines_low : (k : ℕ) (p : Processor) → slice_get s.processors k ≡ Some p → list_all (λ (l : CacheLine). nat_lt l.number (2 ^ 46)) p.lines ≡ true
   lines_low k p at =
-      let sound = stays_sound (at_rest c first) (machine_of c s) start st.holds.reached in
-      let low = all_get (λ (q : Processor). All (λ (l : CacheLine). l.number < 2 ^ 46) q.lines × All (λ (l : CacheLine). l.number < 2 ^ 46) q.buffers) s.processors (lines_are_low (system_of c s) sound) k p at in
-      list_all-from_AllPass (λ (l : CacheLine). nat_lt l.number (2 ^ 46)) p.lines (λ i d within. lt-ltb (get_or p.lines i d).number (2 ^ 46) (low.0 i d within))
+      let f = st.holds.since k p at in
+      let was : IsProcessor f.0 = all_get IsProcessor first.processors (start_sound (at_rest c first) start).each k f.0 f.1 in
+      all_more (right_line (view p)) (λ l. nat_lt l.number (2 ^ 46))
+      (λ l h.
+      let page = held_page (view p) (kept_by l.dirty) (page_of l) (page_count f.0.file) f.0.mappings f.2.mappings was.mapped_pages h in
+      let pages : page_count f.0.file ≤ 2 ^ 40 = pow_mono {i = f.0.file.width - 12} {j = 40} (let narrow = was.register_file.narrow in omega (arith, narrow)) in
+      lt-ltb l.number (2 ^ 46) (omega (arith, page, pages)))
+      p.lines f.2.right.right_lines
 
   era_low : (k : ℕ) (p : Processor) → slice_get s.processors k ≡ Some p → nat_lt p.era (2 ^ 64 - 1) ≡ true
   era_low k p at =

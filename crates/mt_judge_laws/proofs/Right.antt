@@ -1,34 +1,32 @@
 -- Where the barriers are kept and each processor has kept what it has since a right start, nothing is wrong.
-use Rattle.std.proofs.Common.{◌≡◌, ◌⊎◌, ◌∙◌, ◌↔◌, ap, refl, sym, inl, inr, ⊎_elim, arith, ℕ, ◌≤◌, Bool, true, false, List, [], ◌∷◌, Option, None, Some, lit≤, nat_lt, subst}
+use Rattle.std.proofs.Common.{◌≡◌, ◌⊎◌, ◌∙◌, ◌↔◌, ap, refl, sym, inl, inr, ⊎_elim, arith, ℕ, ◌≤◌, Bool, true, false, List, [], ◌∷◌, Option, None, Some, lit≤, subst}
 use Rattle.std.specs.Prelude.{◌==◌, not, ◌&&◌, ◌||◌, slice_get}
 use Rattle.std.specs.List.{list_all, list_any}
-use Rattle.std.specs.Option.{option_map_or}
+use Rattle.std.specs.Option.{option_map, option_map_or}
 use Rattle.std.proofs.lemmas.Bool.{eq-eqb, not-false}
 use Rattle.mt_regs.specs.RegisterFile.{RegisterFile}
 use Rattle.mt_regs.specs.PageTypes.{is_type}
 use Rattle.mt_cache.specs.declared.line.CacheLine.{CacheLine}
+use Rattle.mt_tlb.specs.Entries.{find_mapping}
 use Rattle.mt_tlb.specs.declared.entry.Entry.{Entry}
 use Rattle.mt_tlb.specs.declared.mapping.Mapping.{Mapping}
 use Rattle.mt_machine.specs.declared.phase.Phase.{Phase}
-use Rattle.mt_machine.specs.declared.phase.Phase.TheVariants.{Running, Taken, Arrived, Passed, Normal, Restored, Arrived2}
-use Rattle.mt_machine.specs.declared.op.Op.{Op}
-use Rattle.mt_machine.specs.Access.{access_at, is_running, new_entry}
+use Rattle.mt_machine.specs.declared.phase.Phase.TheVariants.{Running, Taken, Arrived, Arrived2, Writing, Enabled, Flushed2}
+use Rattle.mt_machine.specs.Access.{is_running, new_entry}
 use Rattle.mt_machine.specs.Machine.{Order, has_released}
-use Rattle.mt_machine.specs.Memory.{Memory}
 use Rattle.mt_machine.specs.System.{Processor}
-use Rattle.mt_laws.proofs.Barrier.Ranks.{At, Guarded, and_left, and_right, rank, rank_of, stage_at}
-use Rattle.mt_laws.proofs.Barrier.Stages.{Stage, stage_of, stages_of}
-use Rattle.mt_laws.proofs.Clearing.Cleared.{buffers_gone, entries_gone, lines_gone}
-use Rattle.mt_laws.proofs.Clearing.Renewed.{AllClear}
+use Rattle.mt_laws.proofs.Barrier.Ranks.{Guarded, and_left, and_right, rank, rank_of, stage_at}
+use Rattle.mt_laws.proofs.Barrier.Stages.{stage_of, stages_of}
 use Rattle.mt_laws.proofs.Registers.Filed.{AllFiled, is_done}
 use Rattle.mt_search.specs.declared.wrong.Wrong.{Wrong}
 use Rattle.mt_search.specs.declared.wrong.Wrong.TheVariants.{Disagree, StaleBuffer, StaleEntry, StaleLine}
 use Rattle.mt_procedure.specs.Runs.{State}
 use Rattle.mt_search.specs.Searches.{has_wrong}
-use Rattle.mt_search.specs.Wrongs.{disagree, holds_at, is_awake, is_stale_buffer, is_stale_entry, is_stale_line, is_wrong}
-use Rattle.mt_judge_laws.proofs.Emptied.{both}
-use Rattle.mt_judge_laws.proofs.Accessing.{AllKeep, Keeps, access_keeps, type_is_own}
-use Rattle.mt_judge_laws.proofs.Since.{AllSince, AreRight, Bare, Since, is_before, is_early, is_no_fill, none_right, re_right, right_buffer, right_entry, right_line, with_view}
+use Rattle.mt_search.specs.declared.wrong.Kept.TheVariants.{Buffer}
+use Rattle.mt_search.specs.Wrongs.{disagree, holds_at, is_allowed, is_awake, is_same_entry, is_stale_buffer, is_stale_entry, is_stale_line, is_wrong, kept_as, made_entry, page_of}
+use Rattle.mt_judge_laws.proofs.Accessing.{made_now, type_is_own}
+use Rattle.mt_judge_laws.proofs.Held.{AreRight, HoldsRight, all_both, all_more, both, has_old_entries, has_old_lines, is_made, kind_by, right_buffer, right_entry, right_line, view}
+use Rattle.mt_judge_laws.proofs.Since.{AllSince, is_before, is_early, is_no_fill}
 
 -- ---- tests over lists
 
@@ -73,7 +71,29 @@ none_of_all : {X : Type 0} → (test : X → Bool) (xs : List X) → ((x : X) �
 none_of_all test [] h = refl
 none_of_all test (x ∷ xs) h = ap (λ b. b || list_any test xs) (h x) ∙ none_of_all test xs h
 
+-- ---- entries
+
+-- the entry that the registers make of its page is this one
+made_is : (p : Processor) (e : Entry) → is_made (view p) e ≡ option_map_or (is_same_entry e) (made_entry p e.vpage) false
+made_is p e = one (find_mapping e.vpage p.mappings)
+  where
+    one : (x : Option Mapping) → option_map_or (λ m. (e.ppage == m.ppage) && is_type e.kind (kind_by (view p) m)) x false ≡ option_map_or (is_same_entry e) (option_map (new_entry p) x) false
+    one None = refl
+    one (Some m) = refl
+
+all_pass : {X : Type 0} → (xs : List X) → list_all (λ (x : X). true) xs ≡ true
+all_pass [] = refl
+all_pass (x ∷ xs) = all_pass xs
+
+local_if_off : (on : Bool) (es : List Entry) → (on ≡ false → list_all (λ (e : Entry). not e.global) es ≡ true) → list_all (λ (e : Entry). on || not e.global) es ≡ true
+local_if_off true es h = all_pass es
+local_if_off false es h = h refl
+
 -- ---- the start
+
+pub running_is : (ph : Phase) → is_running ph ≡ true → ph ≡ Running
+running_is Running runs = refl
+running_is other runs = absurd (cc)
 
 abbrev pub Senses : Type 0
 Senses = (s : State) → (has_wrong s ≡ true) ↔ ((w : Wrong) × (is_wrong s.processors w ≡ true))
@@ -100,15 +120,21 @@ module _ (ps : List Processor) (runs : AllRun ps) (none : NoneWrong ps) where
       and_off (is_awake p) (test p) (ap (λ b. b || not p.cache_disabled) (runs k p at))
       (sym (ap (λ (x : Option Processor). option_map_or (λ q. is_awake q && test q) x false) at) ∙ h)
 
-  pub start_right : (k : ℕ) (p : Processor) → slice_get ps k ≡ Some p → AreRight p p
-  start_right k p at = record {
-    lines = each_passes (λ (l : CacheLine). l.number) (right_line p) p.lines
-        (λ n. at_own k p (λ q. list_any (λ l. (l.number == n) && is_stale_line q l) q.lines) at (none (StaleLine k n)));
-    buffers = each_passes (λ (b : CacheLine). b.number) (right_buffer p) p.buffers
-        (λ n. at_own k p (λ q. list_any (λ b. (b.number == n) && is_stale_buffer q b) q.buffers) at (none (StaleBuffer k n)));
-    entries = each_passes (λ (e : Entry). e.vpage) (right_entry p) p.entries
-        (λ n. at_own k p (λ q. list_any (λ e. (e.vpage == n) && is_stale_entry q e) q.entries) at (none (StaleEntry k n)));
-  }
+  -- with PGE clear no entry is global at the start
+  pub start_right : (k : ℕ) (p : Processor) → slice_get ps k ≡ Some p → (p.page_global ≡ false → list_all (λ (e : Entry). not e.global) p.entries ≡ true) → HoldsRight p
+  start_right k p at local =
+      subst (λ (ph : Phase). AreRight (view (record p { phase = ph })) p.lines p.buffers p.entries) (sym (running_is p.phase (runs k p at)))
+      (record {
+        right_lines = each_passes (λ (l : CacheLine). l.number) (right_line (view (record p { phase = Running }))) p.lines
+            (λ n. at_own k p (λ q. list_any (λ l. (l.number == n) && is_stale_line q l) q.lines) at (none (StaleLine k n)));
+        right_buffers = each_passes (λ (b : CacheLine). b.number) (right_buffer (view (record p { phase = Running }))) p.buffers
+            (λ n. at_own k p (λ q. list_any (λ b. (b.number == n) && is_stale_buffer q b) q.buffers) at (none (StaleBuffer k n)));
+        right_entries = all_both (is_made (view p)) (λ e. p.page_global || not e.global) p.entries
+            (all_more (λ e. option_map_or (is_same_entry e) (made_entry p e.vpage) false) (is_made (view p)) (λ e h. made_is p e ∙ h) p.entries
+            (each_passes (λ (e : Entry). e.vpage) (λ e. option_map_or (is_same_entry e) (made_entry p e.vpage) false) p.entries
+            (λ n. at_own k p (λ q. list_any (λ e. (e.vpage == n) && is_stale_entry q e) q.entries) at (none (StaleEntry k n)))))
+            (local_if_off p.page_global p.entries local);
+      })
 
   pub start_agrees : (k j : ℕ) (p q : Processor) → slice_get ps k ≡ Some p → slice_get ps j ≡ Some q → Agree p q
   start_agrees k j p q at_p at_q n =
@@ -123,7 +149,7 @@ module _ (ps : List Processor) (runs : AllRun ps) (none : NoneWrong ps) where
 same_types : (p q first second : Processor) → p.file ≡ first.file → p.mappings ≡ first.mappings → q.file ≡ second.file → q.mappings ≡ second.mappings → Agree first second → Agree p q
 unfolding disagree
 same_types p q first second file mappings file' mappings' agree n =
-    (λ i. list_any (λ m. (m.ppage == n) && disagree (with_view p (file i, mappings i)) (with_view q (file' i, mappings' i)) m) (mappings i)) ∙ agree n
+    (λ i. list_any (λ m. (m.ppage == n) && disagree (record p { file = file i; mappings = mappings i }) (record q { file = file' i; mappings = mappings' i }) m) (mappings i)) ∙ agree n
 
 -- one file gives one type
 same_file : (p q : Processor) → p.file ≡ q.file → Agree p q
@@ -139,117 +165,57 @@ same_file p q file n =
 
 -- ---- one processor
 
-abbrev IsGone : Phase → Type 0
-IsGone ph = (lines_gone ph ≡ true) × (buffers_gone ph ≡ true) × (entries_gone ph ≡ true)
-
-abbrev IsStill : Phase → Type 0
-IsStill ph = (is_no_fill ph ≡ true) × (is_running ph ≡ false)
-
-where_is : (ph : Phase) (ahead : Bool) → (is_running ph ≡ false → ahead ≡ false) → ((is_before ph && not ahead) ≡ true) ⊎ ((ahead ≡ true) ⊎ (IsStill ph ⊎ IsGone ph))
-where_is Running true in_step = inr (inl refl)
-where_is Running false in_step = inl refl
-where_is Taken true in_step = inr (inl refl)
-where_is Taken false in_step = inl refl
-where_is Arrived true in_step = inr (inl refl)
-where_is Arrived false in_step = inl refl
-where_is Passed true in_step = inr (inl refl)
-where_is Passed false in_step = inl refl
-where_is Normal ahead in_step = inr (inr (inr (refl, refl, refl)))
-where_is Restored ahead in_step = inr (inr (inr (refl, refl, refl)))
-where_is Arrived2 ahead in_step = inr (inr (inr (refl, refl, refl)))
-where_is other ahead in_step = inr (inr (inl (refl, refl)))
-
 asleep : (p : Processor) → is_running p.phase ≡ false → p.cache_disabled ≡ true → is_awake p ≡ false
 asleep p still disabled = λ i. still i || not (disabled i)
+
+-- with CD set and not running
+abbrev pub IsAsleep : Phase → Type 0
+IsAsleep ph = (is_no_fill ph ≡ true) × (is_running ph ≡ false)
+
+-- what is held is new, unless the processor is asleep
+pub new_or_asleep : (ph : Phase) → ((has_old_lines ph ≡ false) × (has_old_entries ph ≡ false)) ⊎ IsAsleep ph
+new_or_asleep (Writing i) = inr (refl, refl)
+new_or_asleep Enabled = inr (refl, refl)
+new_or_asleep Flushed2 = inr (refl, refl)
+new_or_asleep other = inl (refl, refl)
 
 rank_of_running : (ph : Phase) (ahead : Bool) → is_running ph ≡ true → ((rank_of ph ahead ≡ 0) × ((is_before ph && not ahead) ≡ true)) ⊎ (rank_of ph ahead ≡ 5)
 rank_of_running Running true runs = inr refl
 rank_of_running Running false runs = inl (refl, refl)
 rank_of_running other ahead runs = absurd (cc)
 
-still_rank : (ph : Phase) (ahead : Bool) → is_no_fill ph ≡ true → rank_of ph ahead ≡ 3
-still_rank Running ahead h = absurd (cc)
-still_rank Taken ahead h = absurd (cc)
-still_rank Arrived ahead h = absurd (cc)
-still_rank Arrived2 ahead h = absurd (cc)
-still_rank other ahead h = refl
+-- nothing that an awake processor holds is stale
+module _ (o : Order) (firsts ps : List Processor) (since : AllSince o firsts ps) (k : ℕ) (p : Processor) (at : slice_get ps k ≡ Some p) (awake : is_awake p ≡ true) where
+  own : HoldsRight p
+  own = (since k p at).2.right
 
--- an access keeps it
-since_kept : (o : Order) (first p q : Processor) → Keeps p q → stage_of p ≡ stage_of q → Since o first p → Since o first q
-since_kept o first p q k same s =
-    let file : q.file ≡ p.file = ap (λ (x : Bare). x.0) k.same in
-    let mappings : q.mappings ≡ p.mappings = ap (λ (x : Bare). x.1) k.same in
-    record {
-      mappings = mappings ∙ s.mappings;
-      self_snoop = ap (λ (x : Bare). x.3) k.same ∙ s.self_snoop;
-      early = λ h.
-          let e = s.early (ap (λ (x : Stage). is_before x.0 && not (nat_lt o.from_era x.1)) same ∙ h) in
-          record { file = file ∙ e.file; right = re_right p first q e.file s.mappings k.right };
-      disabled = λ h. ap (λ (x : Bare). x.2) k.same ∙ s.disabled (ap (λ (x : Stage). is_no_fill x.0) same ∙ h);
-      released = λ h. re_right p q q (sym file) (sym mappings) k.right;
-    }
+  is_new : (has_old_lines p.phase ≡ false) × (has_old_entries p.phase ≡ false)
+  is_new = ⊎_elim
+      (λ (h : (has_old_lines p.phase ≡ false) × (has_old_entries p.phase ≡ false)). h)
+      (λ (h : IsAsleep p.phase). absurd (let no : is_awake p ≡ false = asleep p h.1 ((since k p at).2.disabled h.0) in cc))
+      (new_or_asleep p.phase)
 
-module _ (o : Order) (firsts ps : List Processor) (g : Guarded o (stages_of ps)) (clear : AllClear (Some o) ps) (since : AllSince o firsts ps) where
-  in_step : (k : ℕ) (p : Processor) → slice_get ps k ≡ Some p → is_running p.phase ≡ false → has_released o p ≡ false
-  in_step k p at = g.in_step k (stage_of p) (stage_at ps k p at)
+  no_stale_line : (n : ℕ) → list_any (λ l. (l.number == n) && is_stale_line p l) p.lines ≡ false
+  no_stale_line n =
+      none_fails (λ (l : CacheLine). l.number == n) (λ l. is_allowed p (kept_as l) (page_of l)) p.lines
+      (ap (λ b. list_all (right_line (record (view p) { old_lines = b })) p.lines) (sym is_new.0) ∙ own.right_lines)
 
-  -- all is right of a processor that isn't on its way with CD set
-  placed_right : (k : ℕ) (p : Processor) → slice_get ps k ≡ Some p → (IsStill p.phase → ⊥) → AreRight p p
-  placed_right k p at moves =
-      let f = since k p at in
-      let s = f.2 in
-      ⊎_elim
-      (λ (early : is_early o p ≡ true). let e = s.early early in re_right f.0 p p (sym e.file) (sym s.mappings) e.right)
-      (λ (rest : (has_released o p ≡ true) ⊎ (IsStill p.phase ⊎ IsGone p.phase)). ⊎_elim
-      (λ (released : has_released o p ≡ true). s.released released)
-      (λ (rest' : IsStill p.phase ⊎ IsGone p.phase). ⊎_elim
-      (λ (still : IsStill p.phase). absurd (moves still))
-      (λ (gone : IsGone p.phase). let c = clear k p at in none_right p (c.no_lines gone.0, c.no_buffers gone.1, c.no_entries gone.2))
-      rest')
-      rest)
-      (where_is p.phase (has_released o p) (in_step k p at))
+  no_stale_buffer : (n : ℕ) → list_any (λ b. (b.number == n) && is_stale_buffer p b) p.buffers ≡ false
+  no_stale_buffer n =
+      none_fails (λ (b : CacheLine). b.number == n) (λ b. is_allowed p Buffer (page_of b)) p.buffers
+      (all_more (right_buffer (record (view p) { old_lines = false })) (λ b. is_allowed p Buffer (page_of b)) (λ b h. and_right (is_running p.phase) _ h) p.buffers
+      (ap (λ b. list_all (right_buffer (record (view p) { old_lines = b })) p.buffers) (sym is_new.0) ∙ own.right_buffers))
 
-  own_right : (k : ℕ) (p : Processor) → slice_get ps k ≡ Some p → is_awake p ≡ true → AreRight p p
-  own_right k p at awake =
-      placed_right k p at (λ still. let no : is_awake p ≡ false = asleep p still.1 ((since k p at).2.disabled still.0) in cc)
-
-  -- while a processor runs, none is on its way with CD set
-  running_keep : (k : ℕ) (p : Processor) → slice_get ps k ≡ Some p → is_running p.phase ≡ true → AllKeep ps ps
-  running_keep k p at_p runs j q at_q = (
-    q,
-    at_q,
-    record {
-      same = refl;
-      right = placed_right j q at_q (λ still.
-          let sp = stage_at ps k p at_p in
-          let sq = stage_at ps j q at_q in
-          let third = still_rank q.phase (has_released o q) still.0 in
-          let two = g.first j k (stage_of q) (stage_of p) sq sp (omega (arith, third)) in
-          ⊎_elim
-          (λ (old : (rank o (stage_of p) ≡ 0) × (is_early o p ≡ true)). let none = old.0 in omega (arith, two, none))
-          (λ (new : rank o (stage_of p) ≡ 5). let four = g.second k j (stage_of p) (stage_of q) sp sq (omega (arith, new)) in omega (arith, third, four))
-          (rank_of_running p.phase (has_released o p) runs));
-    },
-  )
-
-  -- so an access of one that runs keeps what is kept since the start
-  pub access_since : (m : Memory) (k : ℕ) (p : Processor) (op : Op) → slice_get ps k ≡ Some p → is_running p.phase ≡ true
-      → stages_of (access_at (record { processors = ps; memory = m }) k p op).after.processors ≡ stages_of ps
-      → AllSince o firsts (access_at (record { processors = ps; memory = m }) k p op).after.processors
-  access_since m k p op at runs stages_same j q at_q =
-      let kept = access_keeps (record { processors = ps; memory = m }) k p op at (running_keep k p at runs) j q at_q in
-      let f = since j kept.0 kept.1 in
-      let there : At (stages_of ps) j (stage_of q) = subst (λ (vs : List Stage). At vs j (stage_of q)) stages_same (stage_at _ j q at_q) in
-      let same : stage_of kept.0 ≡ stage_of q = let e : Some (stage_of kept.0) ≡ Some (stage_of q) = sym (stage_at ps j kept.0 kept.1) ∙ there in cc in
-      (f.0, f.1, since_kept o f.0 kept.0 q kept.2 same f.2)
-
-  pub running_right : (k : ℕ) (p : Processor) → slice_get ps k ≡ Some p → is_running p.phase ≡ true → AreRight p p
-  running_right k p at runs = own_right k p at (ap (λ b. b || not p.cache_disabled) runs)
+  no_stale_entry : (n : ℕ) → list_any (λ e. (e.vpage == n) && is_stale_entry p e) p.entries ≡ false
+  no_stale_entry n =
+      none_fails (λ (e : Entry). e.vpage == n) (λ e. option_map_or (is_same_entry e) (made_entry p e.vpage) false) p.entries
+      (all_more (right_entry (view p)) (λ e. option_map_or (is_same_entry e) (made_entry p e.vpage) false)
+      (λ e h. sym (made_is p e) ∙ made_now p e is_new.1 h) p.entries own.right_entries)
 
 -- ---- two processors
 
 module _ (o : Order) (firsts ps : List Processor) (agree : (k j : ℕ) (p q : Processor) → slice_get firsts k ≡ Some p → slice_get firsts j ≡ Some q → Agree p q)
-    (g : Guarded o (stages_of ps)) (clear : AllClear (Some o) ps) (filed : AllFiled (Some o) ps) (since : AllSince o firsts ps) where
+    (g : Guarded o (stages_of ps)) (filed : AllFiled (Some o) ps) (since : AllSince o firsts ps) where
   still_at : (k : ℕ) (p : Processor) → slice_get ps k ≡ Some p → is_running p.phase ≡ false → has_released o p ≡ false
   still_at k p at = g.in_step k (stage_of p) (stage_at ps k p at)
 
@@ -281,9 +247,7 @@ module _ (o : Order) (firsts ps : List Processor) (agree : (k j : ℕ) (p q : Pr
       let f = since k p at_p in
       let h = since j q at_q in
       let low : 3 ≤ rank o (stage_of q) → ⊥ = λ high. let two = g.first j k (stage_of q) (stage_of p) sq sp high in omega (arith, two, old.0) in
-      let e = f.2.early old.1 in
-      let d = h.2.early (low_is_early q.phase (has_released o q) (still_at j q at_q) low) in
-      same_types p q f.0 h.0 e.file f.2.mappings d.file h.2.mappings (agree k j f.0 h.0 f.1 h.1))
+      same_types p q f.0 h.0 (f.2.file old.1) f.2.mappings (h.2.file (low_is_early q.phase (has_released o q) (still_at j q at_q) low)) h.2.mappings (agree k j f.0 h.0 f.1 h.1))
       (λ (new : rank o (stage_of p) ≡ 5).
       let high = g.second k j (stage_of p) (stage_of q) sp sq (omega (arith, new)) in
       same_file p q (new_file k p at_p (omega (arith, new)) ∙ sym (new_file j q at_q high)))
@@ -303,15 +267,9 @@ module _ (o : Order) (firsts ps : List Processor) (agree : (k j : ℕ) (p q : Pr
       at_processor (Some p) at = one p (is_awake p) refl at
 
   pub stays_right : NoneWrong ps
-  stays_right (StaleLine k n) =
-      awake_off k (λ q. list_any (λ l. (l.number == n) && is_stale_line q l) q.lines)
-      (λ p at awake. none_fails (λ (l : CacheLine). l.number == n) (right_line p) p.lines (own_right o firsts ps g clear since k p at awake).lines)
-  stays_right (StaleBuffer k n) =
-      awake_off k (λ q. list_any (λ b. (b.number == n) && is_stale_buffer q b) q.buffers)
-      (λ p at awake. none_fails (λ (b : CacheLine). b.number == n) (right_buffer p) p.buffers (own_right o firsts ps g clear since k p at awake).buffers)
-  stays_right (StaleEntry k n) =
-      awake_off k (λ q. list_any (λ e. (e.vpage == n) && is_stale_entry q e) q.entries)
-      (λ p at awake. none_fails (λ (e : Entry). e.vpage == n) (right_entry p) p.entries (own_right o firsts ps g clear since k p at awake).entries)
+  stays_right (StaleLine k n) = awake_off k (λ q. list_any (λ l. (l.number == n) && is_stale_line q l) q.lines) (λ p at awake. no_stale_line o firsts ps since k p at awake n)
+  stays_right (StaleBuffer k n) = awake_off k (λ q. list_any (λ b. (b.number == n) && is_stale_buffer q b) q.buffers) (λ p at awake. no_stale_buffer o firsts ps since k p at awake n)
+  stays_right (StaleEntry k n) = awake_off k (λ q. list_any (λ e. (e.vpage == n) && is_stale_entry q e) q.entries) (λ p at awake. no_stale_entry o firsts ps since k p at awake n)
   stays_right (Disagree k j n) = at_processor (slice_get ps k) refl
     where
       one : (p : Processor) (b : Bool) → is_running p.phase ≡ b → slice_get ps k ≡ Some p → (b && holds_at ps j (λ q. is_awake q && list_any (λ m. (m.ppage == n) && disagree p q m) p.mappings)) ≡ false

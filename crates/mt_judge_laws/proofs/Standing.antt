@@ -30,8 +30,8 @@ use Rattle.mt_list_machine.specs.Calls.{is_fit}
 use Rattle.mt_procedure.specs.Runs.{Case, State, after as state_after, arrived_at, counted, due_in, due_of, event_in, is_open, list_of, may_go, move_of, moved, next_step, place_after, place_of, step_at, step_behind, system_of, phase_in}
 use Rattle.mt_procedure.specs.Steps.{after_step, event_of, passage, answer_of_step, reloading}
 use Rattle.mt_search.specs.Wrongs.{fault_of, fault_with}
-use Rattle.mt_judge_laws.specs.Manual.{at_rest, IsInstruction}
-use Rattle.mt_judge_laws.proofs.Holding.{Holds, due_alike, due_behind, holds_event, instructs, order_of, stages_are}
+use Rattle.mt_judge_laws.specs.Manual.{IsInstruction, IsMachines, at_rest}
+use Rattle.mt_judge_laws.proofs.Holding.{Holds, due_alike, due_behind, event_leads, holds_event, instructs, order_of, stages_are}
 use Rattle.mt_judge_laws.proofs.Counting.{Counts, again, all_pass, all_staged, arrived, counts, era_after, first_after, phase_after, second_after, stage_after}
 use Rattle.mt_judge_laws.proofs.Placing.{IsPlace, Turn, Waits, place_up, turn, two_at_least, Instructs}
 
@@ -81,7 +81,7 @@ abbrev pub AreCounted : Order → List Stage → List ℕ → Type 0
 AreCounted o vs arrivals = (xs : List ℕ) × (arrivals ≡ count_by (arrived o) vs ∷ count_by (again o) vs ∷ xs)
 
 pub record Stands (c : Case) (first s : State) : Type 0 where
-  pub holds : Holds c first s.processors s.words
+  pub holds : Holds c first s.processors
   pub counts : AreCounted (order_of c) (stages_of s.processors) s.arrived
   pub places : AllPlaced c first s
   pub long : length (stages_of s.processors) ≡ length first.processors
@@ -106,6 +106,7 @@ pub record Goes (c : Case) (first s : State) (k : ℕ) : Type 0 where
   pub due_is : IsDue (move_of c s k todo)
   pub right : fault_of s.processors (move_of c s k todo) ≡ None
   pub stands : Stands c first (moved c s k)
+  pub leads : IsMachines c first s → IsMachines c first (moved c s k)
 
 module _ (c : Case) (first : State) (start : IsStart (at_rest c first)) (few : length first.processors ≤ 64) (s : State) (st : Stands c first s) (k : ℕ) (p : Processor)
     (at : slice_get s.processors k ≡ Some p) (todo : ProcedureStep) (place : ListPlace) (here : slice_get s.places k ≡ Some place) (next_is : slice_get (list_of c k) place.step ≡ Some todo)
@@ -167,7 +168,7 @@ module _ (c : Case) (first : State) (start : IsStart (at_rest c first)) (few : l
     staged = set (stages_of s.processors) k (stage_after e (stage_of p))
 
     staged_is : stages_of to.processors ≡ staged
-    staged_is = stages_are c first start s st.holds k p at e now_due
+    staged_is = stages_are c first s st.holds k p at e now_due
 
     counts_are : Counts (order_of c) (stages_of s.processors) k e (stage_of p)
     counts_are =
@@ -234,7 +235,7 @@ module _ (c : Case) (first : State) (start : IsStart (at_rest c first)) (few : l
 
     pub stands_to : Stands c first (built c s k todo place (Some e))
     stands_to = record {
-      holds = holds_event c first start s st.holds k p at e now_due;
+      holds = holds_event c first s st.holds k p at e now_due;
       counts = counts_to;
       places = places_to;
       long = ap length staged_is ∙ length-set (stages_of s.processors) k (stage_after e (stage_of p)) ∙ st.long;
@@ -247,6 +248,7 @@ module _ (c : Case) (first : State) (start : IsStart (at_rest c first)) (few : l
     due_is = inr (not_invd todo t.right, subst EventIsDue (sym (event_is (Some t.event) t.is)) (due_is ∙ t.due_is));
     right = fault_is (t.right k (move_of c s k todo).outcome p);
     stands = subst (Stands c first) (sym (moved_is (Some t.event) t.is)) (stands_to t.event t.is t.due_is t.stays t.counts t.place);
+    leads = λ r. subst (IsMachines c first) (sym (moved_is (Some t.event) t.is)) (event_leads c first s st.holds k p at t.event t.due_is start r);
   }
 
   -- ---- the wait at the second barrier
@@ -291,6 +293,7 @@ module _ (c : Case) (first : State) (start : IsStart (at_rest c first)) (few : l
         due_is = inr (ap is_invd w.is, subst EventIsDue (sym (event_is None none)) (ap (is_astray (phase_in s.processors k)) w.is));
         right = fault_is (ap (λ (t : ProcedureStep). fault_with k t (move_of c s k todo).outcome p) w.is);
         stands = subst (Stands c first) (sym (moved_is None none ∙ ap (λ (t : ProcedureStep). built c s k t place None) w.is)) stands;
+        leads = λ r. subst (IsMachines c first) (sym (moved_is None none ∙ ap (λ (t : ProcedureStep). built c s k t place None) w.is)) r;
       }
 
   -- ---- an instruction of a processor that runs
@@ -315,7 +318,7 @@ module _ (c : Case) (first : State) (start : IsStart (at_rest c first)) (few : l
   instructed : InstructsHere → Goes c first s k
   instructed w =
       let a = asides w.phase todo w.fit in
-      let i = instructs c first start s st.holds k p at w.phase todo w.fit in
+      let i = instructs c first s st.holds k p at w.phase todo w.fit in
       let behind_it : State = record { processors = i.to.processors; words = i.to.memory.words; places = slice_set s.places k (step_behind place); arrived = s.arrived } in
       let built_is : built c s k todo place None ≡ behind_it =
       λ d. record { processors = (i.is d).processors; words = (i.is d).memory.words; places = slice_set s.places k (a.goes_on d); arrived = a.counts_none d } in
@@ -331,6 +334,7 @@ module _ (c : Case) (first : State) (start : IsStart (at_rest c first)) (few : l
               places = places_behind i.to w.phase w.place i.same_stages;
               long = ap length i.same_stages ∙ st.long;
             });
+        leads = λ r. subst (IsMachines c first) (sym (moved_is None a.no_event ∙ built_is)) (i.leads start r);
       }
     where
       places_behind : (to : System) → p.phase ≡ Running

@@ -1,6 +1,6 @@
 -- A right start of the manual's lists has what is kept, and the laws.
 use Rattle.std.proofs.Common.{◌≡◌, ◌⊎◌, ◌∙◌, ap, refl, sym, subst, inl, inr, ⊎_elim, arith, ℕ, zero, suc, ◌<◌, Bool, true, false, List, [], ◌∷◌, drop, length, replicate, Option, None, Some}
-use Rattle.std.specs.Prelude.{cond, ◌||◌, if◌then◌else◌, is_some, nat_lt, slice_get, IfSome}
+use Rattle.std.specs.Prelude.{cond, ◌&&◌, ◌||◌, if◌then◌else◌, is_some, nat_lt, slice_get, IfSome}
 use Rattle.std.specs.List.{count_by}
 use Rattle.std.specs.Option.{option_map, option_map_or}
 use Rattle.std.proofs.lemmas.List.{length-map}
@@ -8,7 +8,7 @@ use Rattle.std.proofs.lemmas.Option.{slice_get_within}
 use Rattle.mt_regs.specs.Registers.{writable}
 use Rattle.mt_machine.specs.declared.phase.Phase.TheVariants.{Running}
 use Rattle.mt_machine.specs.Start.{IsStart}
-use Rattle.mt_machine.specs.System.{Processor}
+use Rattle.mt_machine.specs.System.{Processor, System, change}
 use Rattle.mt_laws.proofs.Barrier.Ranks.{At, processor_at}
 use Rattle.mt_laws.proofs.Barrier.Stages.{Stage, stage_of, stages_of}
 use Rattle.mt_laws.proofs.Steps.StepCounts.{count_more}
@@ -18,17 +18,22 @@ use Rattle.mt_search.specs.declared.search.Found.TheVariants as ends
 use Rattle.mt_procedure.specs.declared.step.ListPlace.{ListPlace}
 use Rattle.mt_judge.specs.Verdicts.{IsRight}
 use Rattle.mt_procedure.specs.Dues.{AreStepsDue, IsDue, IsDueAt}
-use Rattle.mt_procedure.specs.Runs.{Case, SomeGoesOn, IsEnded, IsRun, State, arrived_at, list_of, may_go, move_of, moved, next_move, run, step_at}
+use Rattle.mt_procedure.specs.Runs.{Case, IsEnded, IsRun, SomeGoesOn, State, arrived_at, list_of, may_go, may_take, move_of, next_move, run, step_at, system_of, taken, with_system}
+use Rattle.mt_procedure.specs.Speculation.{with_fetch, with_translation}
+use Rattle.mt_procedure.specs.declared.turn.Turn.{Turn}
+use Rattle.mt_procedure.specs.declared.turn.Turn.TheVariants.{Fetch, Step, Translate}
 use Rattle.mt_search.specs.Searches.{AreAllFine, IsFound, fault_at, has_wrong, is_bad}
 use Rattle.mt_search.specs.Wrongs.{fault_of}
-use Rattle.mt_judge_laws.specs.Manual.{IsManual, IsRightStart, NothingGoesWrong, RunsAreTheMachines, SearchesFindNothing, at_rest, first_place}
-use Rattle.mt_judge_laws.proofs.Beginning.{holds_first, right_in, stage_is, start_is}
-use Rattle.mt_judge_laws.proofs.Holding.{order_of}
+use Rattle.mt_judge_laws.specs.Manual.{FillsNothing, IsMachines, IsManual, IsRightStart, NothingGoesWrong, RunsAreTheMachines, SearchesFindNothing, at_rest, first_place}
+use Rattle.mt_judge_laws.proofs.Accessing.{AllKeep, kept_stages}
+use Rattle.mt_judge_laws.proofs.Beginning.{holds_first, reaches, right_in, stage_is, start_is}
+use Rattle.mt_judge_laws.proofs.Holding.{order_of, quiet_holds}
 use Rattle.mt_judge_laws.proofs.Counting.{again, arrived}
 use Rattle.mt_judge_laws.proofs.Placing.{IsPlace}
 use Rattle.mt_judge_laws.proofs.Progress.{finished, progress}
 use Rattle.mt_judge_laws.proofs.Right.{Senses}
-use Rattle.mt_judge_laws.proofs.Standing.{AllPlaced, AreCounted, Goes as GoesHere, Stands, goes, snoops_at}
+use Rattle.mt_judge_laws.proofs.Speculating.{alone, alone_twice, fetches, translates}
+use Rattle.mt_judge_laws.proofs.Standing.{AllPlaced, AreCounted, Goes as GoesHere, PlaceOf, Stands, goes, snoops_at}
 
 -- ---- lists
 
@@ -90,73 +95,110 @@ module _ (senses : Senses) (c : Case) (s : State) (right : IsRightStart c s) (ma
     long = length-map s.processors stage_of;
   }
 
-  stands_run : (ks : List ℕ) (t : State) → Stands c s t → IsRun c t ks → Stands c s (run c t ks)
-  stands_run [] t st r = st
-  stands_run (k ∷ ks) t st r = stands_run ks (moved c t k) (goes c s starts manual.few t st k r.0).stands r.1
+  -- ---- turns
 
-  pub stands : (ks : List ℕ) → IsRun c s ks → Stands c s (run c s ks)
-  stands ks r = stands_run ks s stands_first r
+  -- a state of the lists, which is the machine's if no processor does anything by itself
+  pub record Comes (t : State) : Type 0 where
+    pub holds : Stands c s t
+    pub leads : c.mode.speculates ≡ false → IsMachines c s t
 
-  -- ---- what follows
-
-  no_wrong : (t : State) → Stands c s t → has_wrong t ≡ false
-  no_wrong t st = right_in senses c s right manual.goal t st.holds
-
-  move_is : (t : State) (k : ℕ) (g : GoesHere c s t k) → next_move c t k ≡ Some (move_of c t k g.todo)
-  move_is t k g = ap (option_map (move_of c t k)) g.is
-
-  fine_step : (t : State) → Stands c s t → (k : ℕ) → may_go c t k ≡ true → is_bad c t k ≡ false
-  fine_step t st k go =
-      let g = goes c s starts manual.few t st k go in
-      let no_fault : fault_at c t k ≡ None = ap (λ (x : Option Move). option_map_or (fault_of t.processors) x None) (move_is t k g) ∙ g.right in
-      let right_behind = no_wrong (moved c t k) g.stands in
-      λ i. is_some (no_fault i) || right_behind i
-
-  fine : AreAllFine c s
-  fine ks r =
-      let st = stands ks r in
-      record {
-        right = no_wrong (run c s ks) st;
-        steps = fine_step (run c s ks) st;
-        goes = progress c s starts manual.few (run c s ks) st;
-      }
-
-  due_in_state : (t : State) → Stands c s t → AreStepsDue c t
-  due_in_state t st k within = one (may_go c t k) refl
-    where
-      one : (b : Bool) → may_go c t k ≡ b → IsDueAt c t k
-      one true go = let g = goes c s starts manual.few t st k go in subst (λ (x : Option Move). IfSome x IsDue) (sym (move_is t k g)) g.due_is
-      one false stays =
-          let none_is : next_move c t k ≡ None = ap (λ (b : Bool). option_map (move_of c t k) (if b then step_at c t k else None)) stays in
-          subst (λ (x : Option Move). IfSome x IsDue) (sym none_is) tt
-
-  pub is_right : IsRight c s
-  is_right = record {
-    fine = fine;
-    order = record {
-      due = λ ks r. due_in_state (run c s ks) (stands ks r);
-      finished = λ ks r. finished c s starts manual.few (run c s ks) (stands ks r);
-    };
+  -- the lists stay where they are while a processor does something by itself
+  stays : (t : State) (to : System) → AllKeep t.processors to.processors → Stands c s t → Stands c s (with_system to t)
+  stays t to q st = record {
+    holds = quiet_holds c s t.processors to.processors q st.holds;
+    counts = subst (λ (vs : List Stage). AreCounted (order_of c) vs t.arrived) (sym (kept_stages t.processors to.processors q)) st.counts;
+    places = λ k x at_x.
+        let p = st.places k x (subst (λ (vs : List Stage). At vs k x) (kept_stages t.processors to.processors q) at_x) in
+        let r : PlaceOf c s (with_system to t) k x = record { behind = p.behind; fit = p.fit; place = p.place; here = p.here; is = p.is } in r;
+    long = ap length (kept_stages t.processors to.processors q) ∙ st.long;
   }
 
-  found_is : (f : Found) → IsFound c s f → (f ≡ ends.Nothing) ⊎ (f ≡ ends.Stopped)
-  found_is ends.WrongStart h = absurd (let e = right.right in cc)
-  found_is (ends.Wrong path) h =
-      absurd (let w = (fine h.front h.runs).steps h.last h.wrong.goes in let bad = h.wrong.bad in cc)
-  found_is (ends.Stuck path) h = absurd (⊎_elim
-      (λ (e : IsEnded c (run c s path.items)). h.unended.2 (e h.unended.0 h.unended.1))
-      (λ (g : SomeGoesOn c (run c s path.items)). let waits = h.waits g.0 in let on = g.1 in cc)
-      (fine path.items h.runs).goes)
-  found_is ends.Stopped h = inr refl
-  found_is ends.Nothing h = inl refl
+  module _ (fills : FillsNothing c) where
+    comes : (u : Turn) (t : State) → Comes t → may_take c t u ≡ true → Comes (taken c t u)
+    comes (Step k) t g may =
+        let next = goes c s starts manual.few t g.holds k may in
+        record { holds = next.stands; leads = λ off. next.leads (g.leads off) }
+    comes (Translate k page) t g may =
+        record { holds = stays t (change (with_translation page) k (system_of c t)) (translates c fills s t g.holds.holds k page may) g.holds; leads = λ off. absurd (alone c _ off may) }
+    comes (Fetch k line) t g may =
+        record { holds = stays t (with_fetch line k (system_of c t)) (fetches c fills s t g.holds.holds k line may) g.holds; leads = λ off. absurd (alone_twice c _ _ off may) }
+
+    comes_on : (ts : List Turn) (t : State) → Comes t → IsRun c t ts → Comes (run c t ts)
+    comes_on [] t g r = g
+    comes_on (u ∷ ts) t g r = comes_on ts (taken c t u) (comes u t g r.0) r.1
+
+    pub comes_by : (ts : List Turn) → IsRun c s ts → Comes (run c s ts)
+    comes_by ts r = comes_on ts s (record { holds = stands_first; leads = λ off. reaches senses c s right manual.goal }) r
+
+    stands : (ts : List Turn) → IsRun c s ts → Stands c s (run c s ts)
+    stands ts r = (comes_by ts r).holds
+
+    -- ---- what follows
+
+    no_wrong : (t : State) → Stands c s t → has_wrong t ≡ false
+    no_wrong t st = right_in senses c s right manual.goal t st.holds
+
+    move_is : (t : State) (k : ℕ) (g : GoesHere c s t k) → next_move c t k ≡ Some (move_of c t k g.todo)
+    move_is t k g = ap (option_map (move_of c t k)) g.is
+
+    no_fault : (u : Turn) (t : State) → Stands c s t → may_take c t u ≡ true → fault_at c t u ≡ None
+    no_fault (Step k) t st may =
+        let g = goes c s starts manual.few t st k may in
+        ap (λ (x : Option Move). option_map_or (fault_of t.processors) x None) (move_is t k g) ∙ g.right
+    no_fault (Translate k page) t st may = refl
+    no_fault (Fetch k line) t st may = refl
+
+    fine_turn : (t : State) → Comes t → (u : Turn) → may_take c t u ≡ true → is_bad c t u ≡ false
+    fine_turn t g u may =
+        let none = no_fault u t g.holds may in
+        let right_behind = no_wrong (taken c t u) (comes u t g may).holds in
+        λ i. is_some (none i) || right_behind i
+
+    fine : AreAllFine c s
+    fine ts r =
+        let g = comes_by ts r in
+        record {
+          right = no_wrong (run c s ts) g.holds;
+          turns = fine_turn (run c s ts) g;
+          goes = progress c s starts manual.few (run c s ts) g.holds;
+        }
+
+    due_in_state : (t : State) → Stands c s t → AreStepsDue c t
+    due_in_state t st k within = one (may_go c t k) refl
+      where
+        one : (b : Bool) → may_go c t k ≡ b → IsDueAt c t k
+        one true go = let g = goes c s starts manual.few t st k go in subst (λ (x : Option Move). IfSome x IsDue) (sym (move_is t k g)) g.due_is
+        one false still =
+            let none_is : next_move c t k ≡ None = ap (λ (b : Bool). option_map (move_of c t k) (if b then step_at c t k else None)) still in
+            subst (λ (x : Option Move). IfSome x IsDue) (sym none_is) tt
+
+    pub is_right : IsRight c s
+    is_right = record {
+      fine = fine;
+      order = record {
+        due = λ ts r. due_in_state (run c s ts) (stands ts r);
+        finished = λ ts r. finished c s starts manual.few (run c s ts) (stands ts r);
+      };
+    }
+
+    found_is : (f : Found) → IsFound c s f → (f ≡ ends.Nothing) ⊎ (f ≡ ends.Stopped)
+    found_is ends.WrongStart h = absurd (let e = right.right in cc)
+    found_is (ends.Wrong path) h =
+        absurd (let w = (fine h.front h.runs).turns h.last h.wrong.goes in let bad = h.wrong.bad in cc)
+    found_is (ends.Stuck path) h = absurd (⊎_elim
+        (λ (e : IsEnded c (run c s path.items)). h.unended.2 (e h.unended.0 h.unended.1))
+        (λ (g : SomeGoesOn c (run c s path.items)). let waits = h.waits g.0 in let on = g.1 in cc)
+        (fine path.items h.runs).goes)
+    found_is ends.Stopped h = inr refl
+    found_is ends.Nothing h = inl refl
 
 -- ---- the laws
 
 pub runs_are : Senses → RunsAreTheMachines
-runs_are senses c s ks right manual r = (stands senses c s right manual ks r).holds.reached
+runs_are senses c s ts right manual off r = (comes_by senses c s right manual (ap (λ b. b && c.mode.leaks) off) ts r).leads off
 
 pub none_goes_wrong : Senses → NothingGoesWrong
-none_goes_wrong senses c s right manual = is_right senses c s right manual
+none_goes_wrong senses c s right manual fills = is_right senses c s right manual fills
 
 pub searches_find : Senses → SearchesFindNothing
-searches_find senses c s f right manual h = found_is senses c s right manual f h
+searches_find senses c s f right manual fills h = found_is senses c s right manual fills f h

@@ -1,6 +1,6 @@
 -- The manual's own procedure as a list of steps, the starts of it, and what is proved of each of its runs (own).
 -- Intel SDM volume 3A, chapter Memory Cache Control, section "MTRR Considerations in MP Systems".
-use Rattle.std.specs.Prelude.{◌≡◌, ◌⊎◌, ℕ, ◌≤◌, Bool, true, false, List, [], ◌∷◌, ◌++◌, length, replicate, slice_get, None, Some}
+use Rattle.std.specs.Prelude.{◌≡◌, ◌⊎◌, ℕ, ◌≤◌, Bool, true, false, ◌&&◌, List, [], ◌∷◌, ◌++◌, length, replicate, slice_get, None, Some}
 use Rattle.std.specs.List.{All}
 use Rattle.mt_machine.specs.Machine.{Calls, FitsOp, IsEnabled, Machine, Reached, remaining_order}
 use Rattle.mt_machine.specs.Start.{IsQuiet}
@@ -10,6 +10,7 @@ use Rattle.mt_search.specs.declared.search.Found.TheVariants as found
 use Rattle.mt_procedure.specs.declared.step.ListPlace.{ListPlace}
 use Rattle.mt_procedure.specs.declared.step.ProcedureStep.{ProcedureStep}
 use Rattle.mt_procedure.specs.declared.step.ProcedureStep.TheVariants as list
+use Rattle.mt_procedure.specs.declared.turn.Turn.{Turn}
 use Rattle.mt_procedure.specs.Runs.{Case, IsRun, State, list_of, procedure_order, run, system_of}
 use Rattle.mt_search.specs.Searches.{IsFound, has_wrong}
 use Rattle.mt_judge.specs.Verdicts.{IsRight}
@@ -74,6 +75,10 @@ pub record IsManual (c : Case) (s : State) : Type 0 where
   pub places : s.places ≡ replicate (length s.processors) first_place
   pub arrived : s.arrived ≡ replicate 8 0
 
+-- "Cache Control Registers and Bits": no-fill mode fills no line. A case in which a processor does nothing by itself has no line filled so
+abbrev pub FillsNothing : Case → Type 0
+FillsNothing c = (c.mode.speculates && c.mode.leaks) ≡ false
+
 -- ---- the laws
 
 -- the machine of a state: its update is called and its go given, and it is under way unless each processor has released
@@ -84,15 +89,17 @@ machine_of c s = record { system = system_of c s; order = remaining_order (proce
 abbrev pub IsMachines : Case → State → State → Type 0
 IsMachines c s t = Reached (at_rest c s) (machine_of c t)
 
--- each run of the lists is a run of the machine
+-- each run of the lists, in which no processor does anything by itself, is a run of the machine
 abbrev pub RunsAreTheMachines : Type 0
-RunsAreTheMachines = (c : Case) (s : State) (ks : List ℕ) → IsRightStart c s → IsManual c s → IsRun c s ks → IsMachines c s (run c s ks)
+RunsAreTheMachines =
+    (c : Case) (s : State) (ts : List Turn) → IsRightStart c s → IsManual c s → c.mode.speculates ≡ false → IsRun c s ts → IsMachines c s (run c s ts)
 
--- in every interleaving nothing is wrong, each step is due, and no list ends in the midst of the update
+-- in every interleaving nothing is wrong, each step is due, and no list ends in the midst of the update, whatever a processor translates and
+-- fetches by itself
 abbrev pub NothingGoesWrong : Type 0
-NothingGoesWrong = (c : Case) (s : State) → IsRightStart c s → IsManual c s → IsRight c s
+NothingGoesWrong = (c : Case) (s : State) → IsRightStart c s → IsManual c s → FillsNothing c → IsRight c s
 
 -- so a search finds nothing, unless it stops
 abbrev pub SearchesFindNothing : Type 0
 SearchesFindNothing =
-    (c : Case) (s : State) (f : Found) → IsRightStart c s → IsManual c s → IsFound c s f → (f ≡ found.Nothing) ⊎ (f ≡ found.Stopped)
+    (c : Case) (s : State) (f : Found) → IsRightStart c s → IsManual c s → FillsNothing c → IsFound c s f → (f ≡ found.Nothing) ⊎ (f ≡ found.Stopped)

@@ -5,10 +5,12 @@ use Rattle.mt_machine.specs.Access.{is_running}
 use Rattle.mt_procedure.specs.declared.moves.Move.{Move}
 use Rattle.mt_procedure.specs.declared.step.ProcedureStep.{ProcedureStep}
 use Rattle.mt_procedure.specs.declared.step.ProcedureStep.TheVariants as list
-use Rattle.mt_procedure.specs.Runs.{Case, State, moved, next_move, run}
+use Rattle.mt_procedure.specs.declared.turn.Turn.{Turn}
+use Rattle.mt_procedure.specs.declared.turn.Turn.TheVariants.{Step}
+use Rattle.mt_procedure.specs.Runs.{Case, State, may_take, next_move, run, taken}
 use Rattle.mt_search.specs.Searches.{has_wrong}
 use Rattle.mt_search.specs.Wrongs.{fault_of}
-use Rattle.mt_judge_laws.specs.Manual.{IsInstruction, IsMachines, IsRightStart, MayCall}
+use Rattle.mt_judge_laws.specs.Manual.{FillsNothing, IsInstruction, IsMachines, IsRightStart, MayCall}
 
 -- what may stand beside the events: a count or a wait at a barrier, and an instruction of a processor that runs
 abbrev pub IsBeside : Phase → ProcedureStep → Type 0
@@ -20,23 +22,30 @@ IsBeside phase todo = (is_running phase ≡ true) × IsInstruction todo
 abbrev pub IsOrderly : Move → Type 0
 IsOrderly m = MatchOption m.event (IsBeside m.phase m.step) (λ e. m.due ≡ Some e)
 
--- a run of such steps
-abbrev pub AreOrderly : Case → State → List ℕ → Type 0
+-- a turn that is such a step, or in which the processor does something by itself
+abbrev pub IsOrderlyTurn : Case → State → Turn → Type 0
+IsOrderlyTurn c s (Step k) = IsSomeAnd (next_move c s k) IsOrderly
+IsOrderlyTurn c s other = may_take c s other ≡ true
+
+-- a run of such turns
+abbrev pub AreOrderly : Case → State → List Turn → Type 0
 AreOrderly c s [] = Unit {0}
-AreOrderly c s (k ∷ ks) = IsSomeAnd (next_move c s k) IsOrderly × AreOrderly c (moved c s k) ks
+AreOrderly c s (t ∷ ts) = IsOrderlyTurn c s t × AreOrderly c (taken c s t) ts
 
 -- ---- the law: from a right start, whatever the lists are
 
--- such a run is one of the machine
+-- such a run is one of the machine, if no processor does anything by itself
 abbrev pub OrderlyRunsAreTheMachines : Type 0
-OrderlyRunsAreTheMachines = (c : Case) (s : State) (ks : List ℕ) → IsRightStart c s → MayCall c s → AreOrderly c s ks → IsMachines c s (run c s ks)
+OrderlyRunsAreTheMachines =
+    (c : Case) (s : State) (ts : List Turn) → IsRightStart c s → MayCall c s → c.mode.speculates ≡ false → AreOrderly c s ts → IsMachines c s (run c s ts)
 
 -- nothing is wrong in the state after it
 abbrev pub OrderlyRunsAreRight : Type 0
-OrderlyRunsAreRight = (c : Case) (s : State) (ks : List ℕ) → IsRightStart c s → MayCall c s → AreOrderly c s ks → has_wrong (run c s ks) ≡ false
+OrderlyRunsAreRight =
+    (c : Case) (s : State) (ts : List Turn) → IsRightStart c s → MayCall c s → FillsNothing c → AreOrderly c s ts → has_wrong (run c s ts) ≡ false
 
 -- and no such step behind it has a fault
 abbrev pub OrderlyStepsHaveNoFault : Type 0
 OrderlyStepsHaveNoFault =
-    (c : Case) (s : State) (ks : List ℕ) (k : ℕ) (m : Move) → IsRightStart c s → MayCall c s → AreOrderly c s ks → next_move c (run c s ks) k ≡ Some m
-    → IsOrderly m → fault_of (run c s ks).processors m ≡ None
+    (c : Case) (s : State) (ts : List Turn) (k : ℕ) (m : Move) → IsRightStart c s → MayCall c s → FillsNothing c → AreOrderly c s ts
+    → next_move c (run c s ts) k ≡ Some m → IsOrderly m → fault_of (run c s ts).processors m ≡ None

@@ -8,12 +8,13 @@ ghost use Rattle.mt_judge_laws.specs.Orderly.{OrderlyRunsAreRight, OrderlyRunsAr
 
 use mt_judge::has_wrong_if_a_sense_holds;
 pub use worked::{
-    worked_manual_list, worked_manual_lists, worked_orderly_moves, worked_orderly_runs,
-    worked_right_starts,
+    worked_fills, worked_leak, worked_manual_list, worked_manual_lists, worked_orderly_moves,
+    worked_orderly_runs, worked_right_starts, worked_speculation,
 };
 
-/// From a right start whose goal may be called: if each step of a run is due, or may stand beside the events, the run
-/// is one of the machine. Then nothing is wrong in its state, and no step has a fault, whatever the lists are.
+/// From a right start whose goal may be called: if each step of a run is due, or may stand beside the events, nothing is
+/// wrong in its state, and no step has a fault, whatever the lists are and whatever processors translate and fetch by
+/// themselves. If they don't, the run is one of the machine.
 pub fn orderly_runs_are_right()
     ensures machines { OrderlyRunsAreTheMachines }
     ensures right { OrderlyRunsAreRight }
@@ -22,8 +23,8 @@ pub fn orderly_runs_are_right()
     has_wrong_if_a_sense_holds(); // a fact for the proof
 }
 
-/// Each run of the manual's lists from a right start is the machine's: its call, go and enabled events lead to the
-/// run's state.
+/// Each run of the manual's lists from a right start, in which no processor does anything by itself, is the machine's:
+/// its call, go and enabled events lead to the run's state.
 pub fn runs_are_the_machines()
     ensures { RunsAreTheMachines }
 {
@@ -31,7 +32,8 @@ pub fn runs_are_the_machines()
 }
 
 /// In every interleaving of the manual's lists from a right start nothing is wrong, each step is due, and no list ends
-/// amid the update. Some processor may go unless all lists have ended.
+/// amid the update. Some processor may go unless all lists have ended. Between the steps each processor may translate
+/// pages and fetch lines by itself, if no-fill mode fills none.
 pub fn nothing_goes_wrong()
     ensures { NothingGoesWrong }
 {

@@ -5,9 +5,12 @@ ghost use Rattle.mt_procedure.specs.declared.step.ProcedureStep.TheVariants.{Acc
 ghost use Rattle.mt_machine.specs.declared.op.Op.TheVariants.{Load};
 ghost use Rattle.mt_machine.specs.declared.event.Event.TheVariants.{ArriveAgain, RestorePge, Take};
 ghost use Rattle.mt_machine.specs.declared.phase.Phase.TheVariants.{Arrived2, Restored, Running, Taken};
-ghost use Rattle.mt_judge_laws.specs.Manual.{IsManual, IsManualList, IsRightStart, first_place};
+ghost use Rattle.mt_procedure.specs.declared.turn.Turn.TheVariants.{Fetch, Step, Translate};
+ghost use Rattle.mt_procedure.specs.Runs.{IsRun, run};
+ghost use Rattle.mt_search.specs.Searches.{has_wrong};
+ghost use Rattle.mt_judge_laws.specs.Manual.{FillsNothing, IsManual, IsManualList, IsRightStart, first_place};
 ghost use Rattle.mt_judge_laws.specs.Orderly.{AreOrderly, IsOrderly};
-ghost use Rattle.mt_judge_laws.specs.WorkedManual.{first_list, move, odd_before, odd_behind, second_list, started, two_lists, two_started, with_lists};
+ghost use Rattle.mt_judge_laws.specs.WorkedManual.{first_list, move, odd_before, odd_behind, old_fetch, one_list, one_started, second_list, speculating, started, two_lists, two_started, with_lists};
 
 /// A right start of two processors, and what isn't one for one thing.
 pub fn worked_right_starts()
@@ -46,8 +49,34 @@ pub fn worked_orderly_moves()
     ensures no_instruction { IsOrderly (move Running ClearPge None (Some Take)) → ⊥ }
 {}
 
-/// A run of orderly steps of two processors, and a run that isn't one.
+/// Runs of orderly turns of two processors, and runs that aren't ones.
 pub fn worked_orderly_runs()
-    ensures orderly { AreOrderly two_lists two_started (0 ∷ 1 ∷ 1 ∷ 0 ∷ []) }
-    ensures not_there { AreOrderly two_lists two_started (2 ∷ []) → ⊥ }
+    ensures orderly { AreOrderly two_lists two_started (Step 0 ∷ Step 1 ∷ Step 1 ∷ Step 0 ∷ []) }
+    ensures alone { AreOrderly (speculating false two_lists) two_started (Step 0 ∷ Translate 1 1 ∷ Fetch 1 64 ∷ Step 1 ∷ []) }
+    ensures not_there { AreOrderly two_lists two_started (Step 2 ∷ []) → ⊥ }
+    ensures not_alone { AreOrderly two_lists two_started (Translate 1 1 ∷ []) → ⊥ }
+{}
+
+/// Cases in which no-fill mode fills nothing, and one in which it fills lines.
+pub fn worked_fills()
+    ensures still { FillsNothing two_lists }
+    ensures speculating { FillsNothing (speculating false two_lists) }
+    ensures leaking { FillsNothing (speculating true two_lists) → ⊥ }
+{}
+
+/// A case that speculates, from a right start, and a run of it with a translation and a fetch.
+pub fn worked_speculation()
+    ensures start { IsRightStart (speculating false two_lists) two_started }
+    ensures manual { IsManual (speculating false two_lists) two_started }
+    ensures runs { IsRun (speculating false two_lists) two_started (Step 0 ∷ Translate 1 1 ∷ Fetch 1 64 ∷ Step 1 ∷ []) }
+{}
+
+/// If no-fill mode fills lines, a run of the manual's list from a right start goes wrong: behind the second flush of the
+/// caches a line is fetched by an entry of the old type.
+pub fn worked_leak()
+    ensures start { IsRightStart (speculating true one_list) one_started }
+    ensures manual { IsManual (speculating true one_list) one_started }
+    ensures runs { IsRun (speculating true one_list) one_started old_fetch }
+    ensures wrong { has_wrong (run (speculating true one_list) one_started old_fetch) ≡ true }
+    ensures no_fill { IsRun (speculating false one_list) one_started old_fetch → ⊥ }
 {}
