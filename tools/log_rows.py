@@ -58,7 +58,7 @@ def hidden_in(form, registers):
     if form == "x86info":
         hidden.update(name for name in registers if re.fullmatch("2[1-3].", name))
         hidden.update(["268"] if "20e" in registers else ["250", "268"])
-    if form not in ("rdmsr", "inteltool") and (form != "linux" or int(registers["277"], 16) == PAT):
+    if form not in ("rdmsr", "inteltool", "linux"):
         hidden.add("277")
     return [name for name in registers if name in hidden]
 

@@ -2,6 +2,7 @@ pub mod Ends
 pub mod Facts
 pub mod Held
 pub mod Kernels
+mod Listed
 pub mod Parts
 pub mod Puts
 pub mod Same

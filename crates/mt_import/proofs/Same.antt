@@ -1,15 +1,16 @@
 -- Two ways to tell the same slots come to the same texts and status.
 use Rattle.std.proofs.Common.{◌≡◌, ◌≤◌, ◌+◌, ◌*◌, ◌%◌, ℕ, zero, suc, Bool, true, false, List, [], ◌∷◌, ◌++◌, map, Option, Some, None, refl, sym, ap, ◌∙◌, arith}
-use Rattle.std.specs.Prelude.{IfSome, if◌then◌else◌, ◌==◌, codes}
+use Rattle.std.specs.Prelude.{IfSome, if◌then◌else◌, ◌==◌, codes, unwrap_or}
 use Rattle.mt_kinds.specs.Bits.{is_bit_set}
 use Rattle.mt_regs.specs.RegisterFile.{low_byte}
 use Rattle.mt_regs.specs.Registers.{fixed_numbers}
+use Rattle.mt_import.specs.declared.shape.Known.{Known}
 use Rattle.mt_import.specs.declared.shape.Slot.{Slot}
 use Rattle.mt_import.specs.declared.shape.Tally.{Tally}
 use Rattle.mt_import.specs.declared.supplied.Assumed.{Assumed}
 use Rattle.mt_import.specs.Supplied.{IsSupplied, Supplied, all_assumed, supplied_value}
-use Rattle.mt_import.specs.Values.{Known, assumed_capabilities, assumed_default, assumed_fixed, assumed_of, assumed_pair, assumed_value, assumed_zero, base_of, disabled_value, firm_value, firm_width, has_pairs, is_unshown, mask_of, masks_in, only_if, or_supplied, pair_count, shown_pairs, shows_one_of, shows_pairs, shows_part, widest, width_by}
-use Rattle.mt_import.specs.Outcome.{Findings, Seen, Slots, Summary, Outcome, advice_of, all_needed, allowed_text, allowing_all, behind_blank, choice_word, dump_outcome, ended, ended_by, file_of, files_of, findings_of, first_pairs, firm_of, fixed_of, help_on, help_on_width, help_words, helps_on, hint_by, hint_of, is_empty, is_missing, is_nowhere, joined, known_by, lacking_text, lacks_before, missing_lines, missing_of, missing_width, needed, note_line, note_lines, noted, noted_of, notes_of, processors, processors_text, refusal, register_words, slot_shown, summary_of, table_word, value_or_zero, value_words, values_of, width_note, width_hint_of, width_of, width_word}
+use Rattle.mt_import.specs.Values.{assumed_capabilities, assumed_default, assumed_fixed, assumed_of, assumed_pair, assumed_value, assumed_zero, base_of, disabled_value, firm_value, firm_width, has_pairs, is_unshown, likely_flags, likely_type, mask_of, masks_in, only_if, or_supplied, pair_count, shown_pairs, shows_one_of, shows_pairs, shows_part, uncached_pairs, widest, width_by}
+use Rattle.mt_import.specs.Outcome.{Findings, WidthAndFormat, Seen, Slots, Summary, Outcome, advice_of, all_needed, allowed_text, allowing_all, behind_blank, choice_word, dump_outcome, ended, ended_by, file_of, files_of, findings_of, first_pairs, firm_of, fixed_of, help_on, help_on_width, help_words, helps_on, hint_by, hint_of, is_empty, is_missing, is_nowhere, joined, known_by, lacking_text, lacks_before, missing_lines, missing_of, missing_width, needed, note_line, note_lines, noted, noted_of, notes_of, processors, processors_text, refusal, register_words, slot_shown, summary_of, table_word, value_or_zero, value_words, values_of, width_note, width_hint_of, width_of, width_word}
 use Rattle.mt_import.specs.Reader.{HasTakenFacts, IsReader, State, findings_in, slots_of, summary_in, values_in}
 
 -- ---- the same slots of one processor
@@ -48,14 +49,21 @@ module _ (v w : ℕ → Slot) (same : (n : ℕ) → v n ≡ w n) where
   same_assumed_fixed : (number : ℕ) → assumed_fixed v number ≡ assumed_fixed w number
   same_assumed_fixed number = rw (same_one_of fixed_numbers) refl
 
-  same_default : assumed_default v ≡ assumed_default w
-  same_default = rw (same 0x2ff, same 0xfe) refl
+  same_uncached : (n : ℕ) → uncached_pairs v n ≡ uncached_pairs w n
+  same_uncached zero = refl
+  same_uncached (suc n) = rw (same (0x201 + 2 * n), same (0x200 + 2 * n), same_uncached n) refl
+
+  same_default : (given : Option ℕ) → assumed_default v given ≡ assumed_default w given
+  same_default given =
+      ap (λ (s : Slot). if s.bits == 0 then Some (likely_flags (v 0xfe) given + likely_type v) else None) (same 0x2ff)
+      ∙ ap (λ (s : Slot). if (w 0x2ff).bits == 0 then Some (likely_flags s given + likely_type v) else None) (same 0xfe)
+      ∙ ap (λ (o : Option Bool). if (w 0x2ff).bits == 0 then Some (likely_flags (w 0xfe) given + (if unwrap_or o false then 6 else 0)) else None) (same_uncached 32)
 
   same_assumed_pair : (assumed : Assumed) (width : Option ℕ) (number : ℕ) → assumed_pair assumed v width number ≡ assumed_pair assumed w width number
   same_assumed_pair assumed width number = rw (same number, same_zero number) refl
 
   same_assumed : (assumed : Assumed) (known : Known) (number : ℕ) → assumed_value assumed v known number ≡ assumed_value assumed w known number
-  same_assumed assumed known number = rw (same_capabilities, same_assumed_pair assumed known.width number, same_assumed_fixed number, same_default) refl
+  same_assumed assumed known number = rw (same_capabilities, same_assumed_pair assumed known.width number, same_assumed_fixed number, same_default known.given) refl
 
   same_masks : (supplied : Supplied) (n : ℕ) → masks_in supplied v n ≡ masks_in supplied w n
   same_masks supplied zero = refl
@@ -143,7 +151,7 @@ module _ (v w : ℕ → ℕ → Option ℕ) (same : (k n : ℕ) → v k n ≡ w 
 
 -- ---- the same slots of all processors
 
-module _ (supplied : Supplied) (v w : Slots) (same : (k n : ℕ) → v k n ≡ w k n) (count : ℕ) (shown : Known) where
+module _ (supplied : Supplied) (v w : Slots) (same : (k n : ℕ) → v k n ≡ w k n) (count : ℕ) (shown : WidthAndFormat) where
   abbrev one : Findings
   one = record { slots = v; count = count; shown = shown }
 
@@ -158,7 +166,7 @@ module _ (supplied : Supplied) (v w : Slots) (same : (k n : ℕ) → v k n ≡ w
   same_value k n = rw (same_width, same_firm (v k) (w k) (same k) supplied n, same_assumed (v k) (w k) (same k) (assumed_of k supplied.assumed) (known_by supplied two) n) refl
 
   same_hint_by : (n : ℕ) → hint_by supplied one n ≡ hint_by supplied two n
-  same_hint_by n = rw (same_width, same_assumed (v 0) (w 0) (same 0) all_assumed (record { width = or_supplied (width_by supplied w shown.width) (Some 52); format = shown.format }) n) refl
+  same_hint_by n = rw (same_width, same_assumed (v 0) (w 0) (same 0) all_assumed (record (known_by supplied two) { width = or_supplied (width_by supplied w shown.width) (Some 52) }) n) refl
 
   same_firm_of : (k n : ℕ) → firm_of supplied one k n ≡ firm_of supplied two k n
   unfolding firm_of
@@ -170,7 +178,7 @@ module _ (supplied : Supplied) (v w : Slots) (same : (k n : ℕ) → v k n ≡ w
       (ap (λ l. width_note (firm_width supplied shown.width) (width_by supplied w shown.width) ++ l)
       (same_notes (values_of supplied one) (values_of supplied two) same_value (firm_of supplied one) (firm_of supplied two) same_firm_of count (needed (values_of supplied two 0 0xfe))))
 
-module _ (supplied : Supplied) (v w : Slots) (same : (k n : ℕ) → v k n ≡ w k n) (count : ℕ) (shown : Known) where
+module _ (supplied : Supplied) (v w : Slots) (same : (k n : ℕ) → v k n ≡ w k n) (count : ℕ) (shown : WidthAndFormat) where
   abbrev before : Findings
   before = record { slots = v; count = count; shown = shown }
 

@@ -1,13 +1,12 @@
 -- How a line leads on the readers of a log's tables.
-use Rattle.std.proofs.Common.{◌≡◌, ◌+◌, ◌≤◌, ◌<◌, ◌==◌, ◌&&◌, not, ℕ, Bool, true, false, List, [], ◌∷◌, ◌++◌, length, take, Option, Some, None, refl, sym, subst, ◌∙◌, ap, arith, inl, inr, append_assoc}
+use Rattle.std.proofs.Common.{◌≡◌, ◌+◌, ◌≤◌, ◌<◌, ℕ, Bool, true, false, List, [], ◌∷◌, ◌++◌, length, take, Option, Some, None, refl, sym, subst, ◌∙◌, ap, arith, inl, inr, append_assoc}
 use Rattle.std.specs.Prelude.{IfOk, Result, Ok, Err, if◌then◌else◌, is_some, unwrap_or}
-use Rattle.std.specs.Option.{option_map_or, option_or}
+use Rattle.std.specs.Option.{option_or}
 use Rattle.std.proofs.lemmas.Bool.Decides.{nat_tests}
 use Rattle.std.proofs.lemmas.Bool.{cases_lt}
 use Rattle.std.proofs.lemmas.List.{append-nil, length-take-le, take_all}
 use Rattle.mt_text.specs.Text.{is_too_long, lines_of, past_limit}
-use Rattle.mt_text.specs.Reader.{Course, TakesLine}
-use Rattle.mt_text.specs.declared.line.Line.{Line}
+use Rattle.mt_text.specs.Reader.{Course}
 use Rattle.mt_text.specs.declared.place.Place.{Place}
 use Rattle.mt_import.specs.declared.fault.ImportFault.{ImportFault}
 use Rattle.mt_import.specs.declared.fault.ImportFault.TheVariants.{BadLine}
@@ -25,7 +24,7 @@ use Rattle.mt_import.specs.declared.shape.Told.{Told}
 use Rattle.mt_import.specs.declared.shape.Way.{Way}
 use Rattle.mt_import.specs.Readings.{Fact, context_after, line_facts, starts}
 use Rattle.mt_import.specs.declared.format.Choice.{Choice}
-use Rattle.mt_import.specs.Shown.{chosen, format_of, is_auto, said_in}
+use Rattle.mt_import.specs.Shown.{format_of, is_auto, said_in}
 use Rattle.mt_import.specs.Supplied.{Supplied}
 use Rattle.mt_import.specs.Outcome.{Seen, Outcome, ended_by, facts_fault, nothing_seen, refusal, seen_after, warned_till}
 use Rattle.mt_import.specs.Import.{answered, closed, failure, log_answer, tables_outcome}

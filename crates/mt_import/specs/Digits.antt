@@ -6,7 +6,7 @@ use Rattle.mt_rows.specs.declared.row.Kind.TheVariants.{Blank, Mark, Ex, Hexadec
 use Rattle.mt_rows.specs.Scan.{Item, items}
 use Rattle.mt_rows.specs.Scan.Item.{byte, last, run}
 use Rattle.mt_import.specs.declared.tables.Says.{Says}
-use Rattle.mt_import.specs.declared.tables.Says.TheVariants.{Register, Halves, Turn, TurnToFirst, TurnToUnread, Bare, BareHalves, OfProcessor, ValueFirst, Lists, ListsProcessor, ListsUnread, Width, Bad}
+use Rattle.mt_import.specs.declared.tables.Says.TheVariants.{Register, Halves, Turn, TurnToFirst, TurnToUnread, UnreadPrompt, Bare, BareHalves, OfProcessor, ValueFirst, Lists, ListsProcessor, ListsUnread, Width, Bad}
 use Rattle.mt_import.specs.Tables.{Row}
 
 -- the runs of digits that a row has
@@ -31,6 +31,7 @@ wanted_runs Halves runs = run Hexadecimal 1 16 ∷ run Hexadecimal 8 8 ∷ run H
 wanted_runs (Turn first) runs = run Decimal 1 20 ∷ []
 wanted_runs TurnToFirst runs = []
 wanted_runs TurnToUnread runs = []
+wanted_runs UnreadPrompt runs = []
 wanted_runs Bare runs = run Hexadecimal 1 16 ∷ run Hexadecimal 16 16 ∷ []
 wanted_runs BareHalves runs = run Hexadecimal 1 16 ∷ run Hexadecimal 8 8 ∷ run Hexadecimal 8 8 ∷ []
 wanted_runs OfProcessor runs = run Decimal 1 20 ∷ run Hexadecimal 1 16 ∷ run Hexadecimal 16 16 ∷ []

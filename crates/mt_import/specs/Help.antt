@@ -7,9 +7,11 @@ use Rattle.mt_shell.specs.Own.{own_text as text_of_words}
 abbrev pub help_lines : List (List ℕ)
 help_lines =
     codes "usage: mtrr-import FORMAT [WORD ..] [LOG] > DUMP"
+    ∷ codes "       mtrr-import memory [FORMAT [table=N]] [LOG] > MAP"
     ∷ codes ""
     ∷ codes "Makes a dump for mtrr of another program's log. Writes what is missing or"
-    ∷ codes "wrong to standard error."
+    ∷ codes "wrong to standard error. With memory it writes the log's memory map:"
+    ∷ codes "mtrr-import memory --help."
     ∷ codes ""
     ∷ codes "  FORMAT          auto, chipsec, coreboot, edk2, inteltool, linux, plain, rdmsr,"
     ∷ codes "                  windbg, x86info, xen"

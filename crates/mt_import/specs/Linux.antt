@@ -44,11 +44,6 @@ abbrev pub bytes_value : List (Option ℕ) → Option ℕ
 bytes_value [] = Some 0
 bytes_value (byte ∷ bytes) = value_with byte (bytes_value bytes)
 
--- The kernel prints the PAT's value after power-on also for a processor that has no PAT.
-abbrev pub pat_told : Option ℕ → Option ℕ
-pat_told None = None
-pat_told (Some value) = if value == 0x7040600070406 then None else Some value
-
 abbrev pub is_pat_name : List ℕ → Bool
 is_pat_name word = is_text (codes "x86/PAT:") word || is_text (codes "x86:") word || is_text (codes "PAT") word
 
@@ -59,7 +54,7 @@ is_configuration word = is_text (codes "Configuration") word || is_text (codes "
 abbrev pub pat_from : ℕ → ℕ → List (ℕ × List ℕ) → LineSays
 pat_from at number words =
     if length words == at + 9 && is_text (codes "[0-7]:") (text_of words at) && is_configuration (text_of words (at - 1))
-    then shows_one (Some 0) (Some 0x277) (pat_told (bytes_value (entries_from (at + 1) words))) (place_of number words (at + 1))
+    then shows_one (Some 0) (Some 0x277) (bytes_value (entries_from (at + 1) words)) (place_of number words (at + 1))
     else Nothing
 
 -- `x86/PAT: Configuration [0-7]: ..`, `x86: PAT configuration [0-7]: ..` or `PAT configuration [0-7]: ..`

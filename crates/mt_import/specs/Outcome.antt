@@ -20,6 +20,7 @@ use Rattle.mt_import.specs.declared.fault.Rival.{Rival}
 use Rattle.mt_import.specs.declared.fault.Rival.TheVariants.{Line, Word, CapabilityLine, CapabilityWord, RegisterLine}
 use Rattle.mt_import.specs.declared.format.Format.{Format}
 use Rattle.mt_import.specs.declared.format.Format.TheVariants.{Rdmsr, X86info, Inteltool, Coreboot, Edk2, Linux, Xen, Chipsec, Windbg, Plain}
+use Rattle.mt_import.specs.declared.shape.Known.{Known}
 use Rattle.mt_import.specs.declared.shape.LastPair.{LastPair}
 use Rattle.mt_import.specs.declared.shape.Pick.{Pick}
 use Rattle.mt_import.specs.declared.shape.Pick.TheVariants.{Each, Number, Last}
@@ -33,7 +34,7 @@ use Rattle.mt_import.specs.Readings.{Fact, is_line, is_register_value, is_width,
 use Rattle.mt_import.specs.Slot.{blank_slot, clashes, slot_with}
 use Rattle.mt_import.specs.Supplied.{Supplied, all_assumed, bits_differ, differs, supplied_value}
 use Rattle.mt_import.specs.Warnings.{none_warned, warned_by, warned_with, warning_lines}
-use Rattle.mt_import.specs.Values.{Known, assumed_value, firm_value, firm_width, is_pair_number, masks_in, or_supplied, value_by, widest, width_by}
+use Rattle.mt_import.specs.Values.{assumed_value, firm_value, firm_width, is_pair_number, lacks_fix, masks_in, or_supplied, value_by, widest, width_by}
 
 -- ---- what facts show
 
@@ -152,11 +153,6 @@ rival supplied before reading =
     else if counts_fewer (supplied_value supplied 0xfe) (least_count reading) then Some CapabilityWord
     else if clashes (slot_shown before reading.processor reading.number) reading then Some (Line (slot_shown before reading.processor reading.number).line)
     else count_rival (capabilities_shown before) (last_shown before) reading
-
--- without FIX, bit 8 of the capability register
-abbrev pub lacks_fix : Option ℕ → Bool
-lacks_fix None = false
-lacks_fix (Some capabilities) = not (is_bit_set capabilities 8)
 
 -- the capability register, where FIX is shown
 abbrev pub fix_shown : Slot → Option ℕ
@@ -460,15 +456,20 @@ refusal tally missing = record { notes = []; dump = []; reasons = count_line tal
 abbrev pub Slots : Type 0
 Slots = ℕ → ℕ → Slot
 
+-- the width that lines show, and the format of the log
+pub record WidthAndFormat : Type 0 where
+  pub width : Option ℕ
+  pub format : Option Format
+
 -- what the lines of a log show: each processor's registers, how many processors there are, and the width and the format
 pub record Findings : Type 0 where
   pub slots : Slots
   pub count : ℕ
-  pub shown : Known
+  pub shown : WidthAndFormat
 
 -- what is known of a log, of which lines may show the width
 abbrev pub known_by : Supplied → Findings → Known
-known_by supplied found = record { width = width_by supplied found.slots found.shown.width; format = found.shown.format }
+known_by supplied found = record { width = width_by supplied found.slots found.shown.width; format = found.shown.format; given = supplied_value supplied 0xfe }
 
 -- the values of each processor's registers
 unfoldable pub values_of : Supplied → Findings → ℕ → ℕ → Option ℕ
@@ -481,7 +482,7 @@ firm_of supplied found k number = firm_value supplied (found.slots k) number
 -- what processor 0's register would be if all were assumed
 abbrev pub hint_by : Supplied → Findings → ℕ → Option ℕ
 hint_by supplied found number =
-    assumed_value all_assumed (found.slots 0) (record { width = or_supplied (width_by supplied found.slots found.shown.width) (Some 52); format = found.shown.format }) number
+    assumed_value all_assumed (found.slots 0) (record (known_by supplied found) { width = or_supplied (width_by supplied found.slots found.shown.width) (Some 52) }) number
 
 -- the same words with all assumptions, and with the greatest width where none is supplied
 abbrev pub allowing_all : Supplied → Supplied

@@ -1,7 +1,7 @@
 -- What the lines of a log say, each by itself, and the facts that they come to (own).
 --     said_facts context said      what a line shows, behind lines that lead to this
 --     context_after context format said      what the line leads to
-use Rattle.std.specs.Prelude.{ℕ, ◌+◌, ◌==◌, ◌&&◌, ◌||◌, not, nat_lt, Bool, true, false, List, [], ◌∷◌, ◌++◌, if◌then◌else◌, Option, Some, None, is_some, unwrap_or}
+use Rattle.std.specs.Prelude.{ℕ, ◌+◌, ◌==◌, ◌&&◌, ◌||◌, not, nat_le, nat_lt, Bool, true, false, List, [], ◌∷◌, ◌++◌, if◌then◌else◌, Option, Some, None, is_some, unwrap_or}
 use Rattle.mt_ports.specs.Causes.{one_more}
 use Rattle.mt_regs.specs.RegisterFile.{RegisterFile, blank_file}
 use Rattle.mt_regs.specs.Registers.{number_limit, value_at}
@@ -30,6 +30,12 @@ all_registers = blank_file 36 0x120
 -- a register that some dump has
 abbrev pub is_register : ℕ → Bool
 is_register number = nat_lt number number_limit && is_some (value_at all_registers number)
+
+-- the same by their numbers: the capability register, 32 pairs, fixed ranges, the PAT and the default type
+abbrev pub is_listed : ℕ → Bool
+is_listed number =
+    number == 0xfe || (nat_le 0x200 number && nat_le number 0x23f) || number == 0x250 || number == 0x258 || number == 0x259
+    || (nat_le 0x268 number && nat_le number 0x26f) || number == 0x277 || number == 0x2ff
 
 -- A line with the format that is known behind it and whether the line is of that format, bits of a register, the address width and its place, what a line of this number warns of, or why a log shows no dump.
 pub data Fact : Type 0 where

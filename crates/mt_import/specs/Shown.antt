@@ -26,7 +26,7 @@ use Rattle.mt_import.specs.X86info.{sizes_said, x86info_said}
 use Rattle.mt_import.specs.Edk2.{edk2_said}
 use Rattle.mt_import.specs.Linux.{linux_said}
 use Rattle.mt_import.specs.Xen.{xen_said}
-use Rattle.mt_import.specs.Readings.{Fact, context_after, is_register, line_facts, starts}
+use Rattle.mt_import.specs.Readings.{Fact, context_after, line_facts, starts}
 use Rattle.mt_import.specs.Warnings.{warning_of}
 
 abbrev pub said_by_line : Format → ℕ → List ℕ → LineSays
@@ -97,7 +97,7 @@ is_telling (Value value place) = false
 is_telling (Turns turn) = tells_turn turn
 is_telling (Width width place) = true
 is_telling (Warns warning number) = false
-is_telling (Lists processor shown) = is_register shown.number
+is_telling (Lists processor shown) = true
 is_telling (Bad why place) = false
 
 unfoldable pub tells : Format → ℕ → List ℕ → Bool

@@ -12,11 +12,12 @@ use Rattle.mt_text.specs.declared.place.Place.{Place}
 use Rattle.mt_import.specs.declared.reading.LineSays.{LineSays}
 use Rattle.mt_import.specs.declared.reading.LineSays.TheVariants.{Bad, Nothing, Lists, Turns, Width}
 use Rattle.mt_import.specs.declared.reading.Turn.{Turn}
-use Rattle.mt_import.specs.declared.reading.Turn.TheVariants.{To, Unread}
+use Rattle.mt_import.specs.declared.reading.Turn.TheVariants.{To, Unread, UnreadCall}
 use Rattle.mt_import.specs.declared.tables.Says.{Says}
 use Rattle.mt_import.specs.declared.tables.TheConstants.{EACH}
 use Rattle.mt_import.specs.declared.tables.Says.TheVariants as says
 use Rattle.mt_import.specs.Pieces.{register_in, shows_one, unread_processor}
+use Rattle.mt_import.specs.Readings.{is_register}
 use Rattle.mt_import.specs.Slot.{all_bits}
 
 -- ---- a row
@@ -35,9 +36,10 @@ processor_in number = if nat_lt number 0x10000 then number else unread_processor
 
 abbrev pub lists_one : ℕ → Option ℕ → Option ℕ → Field → LineSays
 lists_one number processor None value = Nothing
-lists_one number processor (Some register) value = Lists processor (record { number = register; bits = all_bits; value = value.value; place = bare_place number value })
+lists_one number processor (Some register) value =
+    if is_register register then Lists processor (record { number = register; bits = all_bits; value = value.value; place = bare_place number value }) else Nothing
 
--- a line of a list, of this processor
+-- a line of a list, of this processor: of a register that some dump has
 abbrev pub listed : ℕ → Option ℕ → Fields → LineSays
 listed number processor f = lists_one number processor (register_in (Ok f.second_last.value)) f.last
 
@@ -58,6 +60,7 @@ says_of says.Halves number f = shows_one None (register_in (Ok f.third_last.valu
 says_of (says.Turn first) number f = Turns (turned_from first f.last.value)
 says_of says.TurnToFirst number f = Turns (To 0)
 says_of says.TurnToUnread number f = Turns Unread
+says_of says.UnreadPrompt number f = Turns UnreadCall
 says_of says.Bare number f = shows_one None (register_in (Ok f.second_last.value)) (Some f.last.value) (bare_place number f.last)
 says_of says.BareHalves number f = shows_one None (register_in (Ok f.third_last.value)) (halves_value f.second_last.value f.last.value) (bare_place number f.second_last)
 says_of says.OfProcessor number f = shows_one (Some (processor_in f.third_last.value)) (register_in (Ok f.second_last.value)) (Some f.last.value) (bare_place number f.last)

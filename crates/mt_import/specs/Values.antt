@@ -8,15 +8,11 @@ use Rattle.mt_regs.specs.RegisterFile.{low_byte}
 use Rattle.mt_regs.specs.Registers.{fixed_numbers}
 use Rattle.mt_import.specs.declared.format.Format.{Format}
 use Rattle.mt_import.specs.declared.format.Format.TheVariants.{Rdmsr, X86info, Inteltool, Coreboot, Edk2, Linux, Xen, Chipsec, Windbg, Plain}
+use Rattle.mt_import.specs.declared.shape.Known.{Known}
 use Rattle.mt_import.specs.declared.shape.Slot.{Slot}
 use Rattle.mt_import.specs.declared.supplied.Assumed.{Assumed}
 use Rattle.mt_import.specs.Slot.{is_disabled, is_whole, whole_value}
 use Rattle.mt_import.specs.Supplied.{Supplied, supplied_value}
-
--- the address width, and the format of the log, where they are known
-pub record Known : Type 0 where
-  pub width : Option ℕ
-  pub format : Option Format
 
 -- what stands first, or else the other
 abbrev pub or_supplied : Option ℕ → Option ℕ → Option ℕ
@@ -138,13 +134,40 @@ shows_one_of slots (number ∷ numbers) = if (slots number).bits == 0 then shows
 abbrev pub assumed_fixed : (ℕ → Slot) → ℕ → Option ℕ
 assumed_fixed slots number = if shows_one_of slots fixed_numbers then None else Some (firmware_value number)
 
+-- lines show the type of a PhysBase, its low byte, as UC
+abbrev pub shows_uncached : Slot → Bool
+shows_uncached base = base.bits % 256 == 255 && low_byte base.value == 0
+
 -- lines show FIX of the capability register as clear
 abbrev pub shows_fix_clear : Slot → Bool
 shows_fix_clear capabilities = is_bit_set capabilities.bits 8 && not (is_bit_set capabilities.value 8)
 
--- assume=fixed: E, FE and UC, where no line shows a bit of IA32_MTRR_DEF_TYPE, and none FIX as clear
-abbrev pub assumed_default : (ℕ → Slot) → Option ℕ
-assumed_default slots = if (slots 0x2ff).bits == 0 && not (shows_fix_clear (slots 0xfe)) then Some 0xc00 else None
+-- without FIX, bit 8 of the capability register
+abbrev pub lacks_fix : Option ℕ → Bool
+lacks_fix None = false
+lacks_fix (Some capabilities) = not (is_bit_set capabilities 8)
+
+-- with one pair more, if it is used
+abbrev pub uncached_with : Bool → Bool → Option Bool → Option Bool
+uncached_with true uncached before = Some (uncached && unwrap_or before true)
+uncached_with false uncached before = before
+
+-- whether the pairs are all UC whose V lines show as set, of the first ones, if there is one
+abbrev pub uncached_pairs : (ℕ → Slot) → ℕ → Option Bool
+uncached_pairs slots zero = None
+uncached_pairs slots (suc n) = uncached_with (is_bit_set (slots (0x201 + 2 * n)).value 11) (shows_uncached (slots (0x200 + 2 * n))) (uncached_pairs slots n)
+
+-- WB where pairs make UC what isn't RAM, as under SeaBIOS, and UC where they make RAM WB
+abbrev pub likely_type : (ℕ → Slot) → ℕ
+likely_type slots = if unwrap_or (uncached_pairs slots 32) false then 6 else 0
+
+-- E, and FE unless lines or a word have FIX as clear
+abbrev pub likely_flags : Slot → Option ℕ → ℕ
+likely_flags capabilities given = if shows_fix_clear capabilities || lacks_fix given then 0x800 else 0xc00
+
+-- assume=fixed: what firmware of PCs sets, where no line shows a bit of IA32_MTRR_DEF_TYPE
+abbrev pub assumed_default : (ℕ → Slot) → Option ℕ → Option ℕ
+assumed_default slots given = if (slots 0x2ff).bits == 0 then Some (likely_flags (slots 0xfe) given + likely_type slots) else None
 
 abbrev pub only_if : Bool → Option ℕ → Option ℕ
 only_if true value = value
@@ -159,7 +182,7 @@ assumed_value assumed slots known number =
     else if number == 0xfe then only_if assumed.capabilities (assumed_capabilities slots)
     else if is_pair_number number then assumed_pair assumed slots known.width number
     else if is_fixed_number number then only_if assumed.fixed (assumed_fixed slots number)
-    else if number == 0x2ff then only_if assumed.fixed (assumed_default slots)
+    else if number == 0x2ff then only_if assumed.fixed (assumed_default slots known.given)
     else None
 
 -- Sizes and kernels' tables are of processor 0, so that masks, fixed ranges and the capability register are assumed of it alone.

@@ -9,7 +9,6 @@ use crate::inteltool::inteltool_said;
 use crate::linux::linux_said;
 use crate::plain::plain_said;
 use crate::rdmsr::rdmsr_said;
-use crate::reading::is_register;
 use crate::tables::each_said;
 use crate::warnings::warning_of;
 use crate::windbg::windbg_said;
@@ -159,12 +158,12 @@ fn is_telling(said: &LineSays) -> bool
     match said {
         LineSays::Announces(..)
         | LineSays::Shows(..)
+        | LineSays::Lists(..)
         | LineSays::Begins(_)
         | LineSays::FixedRanges(..)
         | LineSays::VariableRanges(..)
         | LineSays::Width(..) => true,
         LineSays::Turns(turn) => turn.tells(),
-        LineSays::Lists(_, shown) => is_register(shown.number as u64),
         _ => false,
     }
 }

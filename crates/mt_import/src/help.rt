@@ -7,9 +7,11 @@ fn help_text() -> &'static [u8]
     ensures short { length result.now ≤ 0x8000 }
 {
     b"usage: mtrr-import FORMAT [WORD ..] [LOG] > DUMP
+       mtrr-import memory [FORMAT [table=N]] [LOG] > MAP
 
 Makes a dump for mtrr of another program's log. Writes what is missing or
-wrong to standard error.
+wrong to standard error. With memory it writes the log's memory map:
+mtrr-import memory --help.
 
   FORMAT          auto, chipsec, coreboot, edk2, inteltool, linux, plain, rdmsr,
                   windbg, x86info, xen

@@ -1,6 +1,6 @@
 ghost use Rattle.std.specs.Prelude.{◌≡◌, ◌≤◌, ◌<◌, ◌^◌, codes, length, IfSome};
 ghost use Rattle.mt_import.specs.Pieces.{before, behind};
-ghost use Rattle.mt_import.specs.Linux.{amount_by, amount_in, amount_text, amount_word, bytes_value, cleanup_said, cleanup_type, count_said, cut_before, entries_from, entries_in, entry_named, is_cleanup, is_configuration, is_count, is_map, is_pat_change, is_pat_name, is_size, linux_said, linux_words_said, map_count, map_pairs, map_said, number_behind, pair_before, pair_by, pair_numbered, pair_shown, pat_changed, pat_from, pat_said, pat_told, pat_word, region_by, region_said, size_shown, size_word, type_in, unit_named};
+ghost use Rattle.mt_import.specs.Linux.{amount_by, amount_in, amount_text, amount_word, bytes_value, cleanup_said, cleanup_type, count_said, cut_before, entries_from, entries_in, entry_named, is_cleanup, is_configuration, is_count, is_map, is_pat_change, is_pat_name, is_size, linux_said, linux_words_said, map_count, map_pairs, map_said, number_behind, pair_before, pair_by, pair_numbered, pair_shown, pat_changed, pat_from, pat_said, pat_word, region_by, region_said, size_shown, size_word, type_in, unit_named};
 
 use crate::kernel::{base_value, kernel_said, type_named};
 use crate::line_words::{LineWords, head_end};
@@ -8,7 +8,7 @@ use crate::pieces::{is_text, number_in, prefixed_number, shown_bits, shows_one, 
 use crate::reading::{one_shown, two_shown};
 use crate::{LineSays, Shown};
 use mt_kinds::PHYSMASK_V;
-use mt_regs::{CAPABILITIES, FIRST_PAIR, PAT, POWER_UP_PAT};
+use mt_regs::{CAPABILITIES, FIRST_PAIR, PAT};
 use mt_text::{Line, Place, decimal, hex64};
 
 const VALID: u64 = 1 << PHYSMASK_V;
@@ -68,15 +68,6 @@ fn bytes_value(bytes: &[Option<u8>]) -> Option<u64>
     }
 }
 
-fn pat_told(value: Option<u64>) -> Option<u64>
-    ensures { result ≡ pat_told value }
-{
-    match value {
-        Some(value) if value != POWER_UP_PAT => Some(value),
-        _ => None,
-    }
-}
-
 fn is_pat_name(word: &[u8]) -> bool
     ensures { result ≡ is_pat_name word.now }
 {
@@ -99,7 +90,7 @@ fn pat_from(at: u8, words: &LineWords<'_>) -> LineSays
         && is_text(b"[0-7]:", words.text(at))
         && is_configuration(words.text(at - 1))
     {
-        let value = pat_told(bytes_value(&entries_from(at + 1, words)));
+        let value = bytes_value(&entries_from(at + 1, words));
         shows_one(Some(0), Some(PAT), value, words.place(at + 1))
     } else {
         LineSays::Nothing

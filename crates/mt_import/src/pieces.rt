@@ -8,7 +8,7 @@ use crate::{LineSays, Shown};
 use mt_text::{Line, NumberFault, Place, Word, hex64};
 
 // Registers with three hexadecimal digits.
-pub(crate) const REGISTERS: u64 = 0x1000;
+const REGISTERS: u64 = 0x1000;
 
 /// How long `0x` and sixteen digits are.
 pub(crate) const VALUE_SIZE: usize = 18;

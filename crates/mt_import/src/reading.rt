@@ -1,13 +1,13 @@
 ghost use Rattle.std.specs.Prelude.{◌≡◌, true};
-ghost use Rattle.mt_import.specs.Readings.{all_registers, announced_after, context_after, fixed_after, fixed_shows, flag_shown, is_match, is_mixed, is_register, lists_after, named_processor, one_shown, processor_after, processor_turned_to, starts, table_behind, two_shown, variable_bits, variable_shows};
+ghost use Rattle.mt_import.specs.Readings.{announced_after, context_after, fixed_after, fixed_shows, flag_shown, is_listed, is_match, is_mixed, is_register, lists_after, named_processor, one_shown, processor_after, processor_turned_to, starts, table_behind, two_shown, variable_bits, variable_shows};
 ghost use Rattle.mt_import.specs.Reader.{HasSlot};
 ghost use Rattle.mt_import.specs.Shown.{tells_turn};
 
-use crate::pieces::{REGISTERS, UNREAD_PROCESSOR, count_on, shown_bits};
+use crate::pieces::{UNREAD_PROCESSOR, count_on, shown_bits};
 use crate::shape::{Announced, FixedLine, Shown, Warning};
 use crate::{Format, Reason};
 use mt_kinds::{DEF_TYPE_E, DEF_TYPE_FE, MTRRCAP_FIX};
-use mt_regs::{CAPABILITIES, DEFAULT_TYPE, RegFile};
+use mt_regs::{CAPABILITIES, DEFAULT_TYPE};
 use mt_text::Place;
 
 const FIXED_RANGES: u64 = 1 << MTRRCAP_FIX;
@@ -29,7 +29,7 @@ pub enum Turn {
     To(u32),
     /// One whose number can't be read.
     Unread,
-    /// That of a call that can't be read.
+    /// The same by a call or a prompt, as only its format has.
     UnreadCall,
 }
 
@@ -288,18 +288,13 @@ impl Context {
     }
 }
 
-// FIX, and 32 pairs.
-const ALL_REGISTERS: u64 = 0x120;
-
-// The file that has them all.
-#[tactic(auto, unfolding(crate::specs::Readings::all_registers))]
-fn all_registers() -> RegFile
-    ensures { result ≡ all_registers }
+fn is_listed(number: u64) -> bool
+    ensures { result ≡ is_listed number }
 {
-    match RegFile::blank(36, ALL_REGISTERS) {
-        Ok(file) => file,
-        Err(_) => unreachable!(),
-    }
+    matches!(
+        number,
+        0xfe | 0x200..=0x23f | 0x250 | 0x258 | 0x259 | 0x268..=0x26f | 0x277 | 0x2ff
+    )
 }
 
 /// Whether some dump has a register of this number.
@@ -307,10 +302,5 @@ pub(crate) fn is_register(number: u64) -> bool
     ensures register { result ≡ is_register number }
     ensures slot { result ≡ true → HasSlot number }
 {
-    if number >= REGISTERS {
-        return false;
-    }
-    let file = all_registers();
-    file.is_register_file(); // a fact for the proof
-    file.get(number as u32).is_some()
+    is_listed(number)
 }

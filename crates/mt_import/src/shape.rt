@@ -115,6 +115,17 @@ pub struct Tally {
     pub warned: Warned,
 }
 
+/// What is known of a log beside what its lines show of registers.
+#[derive(Clone, Copy)]
+pub struct Known {
+    /// The address width.
+    pub width: Option<u8>,
+    /// The format.
+    pub format: Option<Format>,
+    /// The capability register, if a word supplies it.
+    pub given: Option<u64>,
+}
+
 /// Which tables of a log are read.
 #[derive(Clone, Copy)]
 pub enum Pick {

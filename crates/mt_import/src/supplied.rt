@@ -79,6 +79,18 @@ fn value_among(number: u32, registers: &[(u32, u64)]) -> Option<u64>
     }
 }
 
+// The same registers.
+fn copied(registers: &[(u32, u64)]) -> ArrayVec<(u32, u64), 86>
+    requires { length registers.now ≤ 86 }
+    ensures { result.items ≡ registers.now }
+{
+    let mut copy = ArrayVec::new();
+    for register in registers {
+        copy.push(*register);
+    }
+    copy
+}
+
 fn given_width(digits: &[u8]) -> Option<Given>
     ensures given { result ≡ given_width (decimal_number digits.now 52) }
     ensures sound { IfSome result AreGiven }
@@ -321,13 +333,9 @@ impl Supplied {
     pub(crate) fn allowing_all(&self) -> Supplied
         ensures { result ≡ allowing_all self.now }
     {
-        let mut registers = ArrayVec::new();
-        registers
-            .try_extend_from_slice(self.registers.as_slice())
-            .unwrap();
         Supplied {
             width: self.width.or(Some(GREATEST_WIDTH as u8)),
-            registers,
+            registers: copied(self.registers.as_slice()),
             assumed: Assumed::all(),
             table: self.table,
         }

@@ -2,6 +2,7 @@ ghost use Rattle.std.specs.Prelude.{◌≡◌};
 ghost use Rattle.mt_import.specs.Tables.{bare_place, each_said, halves_value, listed, place_of, processor_in, rows_at, said_in, says_of, turned_from, width_in};
 
 use crate::pieces::{UNREAD_PROCESSOR, count_on, register_in, shows_one};
+use crate::reading::is_register;
 use crate::{LineSays, Reason, Shown, Turn};
 use mt_rows::{Field, Fields, MARKS, Part, scanned};
 use mt_text::{Line, Place};
@@ -24,6 +25,8 @@ pub enum Says {
     TurnToFirst,
     /// The lines behind it are of a processor whose number can't be read.
     TurnToUnread,
+    /// The same, and only this format has such a line.
+    UnreadPrompt,
     /// A register by its number and its value.
     Bare,
     /// A register by its number and the halves of its value, the upper first.
@@ -78,13 +81,16 @@ fn processor_in(number: u64) -> u32
     }
 }
 
-// A line of a list, of this processor.
+// A line of a list, of this processor. Registers that no dump has are passed over.
 fn listed(line: u64, processor: Option<u32>, fields: Fields) -> LineSays
     ensures { result ≡ listed line processor fields }
 {
     let Some(number) = register_in(Ok(fields.second_last.value)) else {
         return LineSays::Nothing;
     };
+    if !is_register(number as u64) {
+        return LineSays::Nothing;
+    }
     let shown = Shown {
         number,
         bits: u64::MAX,
@@ -143,6 +149,7 @@ fn says_of(says: Says, line: u64, fields: Fields) -> LineSays
         Says::Turn(first) => LineSays::Turns(turned_from(first, fields.last.value)),
         Says::TurnToFirst => LineSays::Turns(Turn::To(0)),
         Says::TurnToUnread => LineSays::Turns(Turn::Unread),
+        Says::UnreadPrompt => LineSays::Turns(Turn::UnreadCall),
         Says::Bare => shows_one(
             None,
             register_in(Ok(fields.second_last.value)),

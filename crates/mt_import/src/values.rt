@@ -1,12 +1,13 @@
-ghost use Rattle.std.specs.Prelude.{◌≡◌, ◌≤◌, ◌<◌, ◌^◌, IfSome, Some};
+ghost use Rattle.std.specs.Prelude.{◌≡◌, ◌≤◌, ◌<◌, ◌+◌, ◌*◌, ◌^◌, IfSome, Some};
 ghost use Rattle.mt_regs.specs.RegisterFile.{low_byte};
 ghost use Rattle.mt_import.specs.Reader.{IsFit, findings_in, firm_in, hint_in, slots_of, values_in};
-ghost use Rattle.mt_import.specs.Outcome.{hint_by};
+ghost use Rattle.mt_kinds.specs.Bits.{is_bit_set};
+ghost use Rattle.mt_import.specs.Outcome.{hint_by, known_by};
 ghost use Rattle.mt_import.specs.Slot.{whole_value};
 ghost use Rattle.mt_import.specs.Supplied.{supplied_value};
-ghost use Rattle.mt_import.specs.Values.{assumed_capabilities, assumed_default, assumed_fixed, assumed_mask, assumed_of, assumed_pair, assumed_pat, assumed_value, assumed_zero, base_of, disabled_value, firm_value, firm_width, firmware_value, has_pairs, is_fixed_number, is_of_table, is_pair_number, is_unshown, mask_of, mask_of_size, masks_in, only_if, or_supplied, pair_count, shown_pairs, shows_fix_clear, shows_one_of, shows_pairs, shows_part, size_in, widest, width_by, width_by_zeros};
+ghost use Rattle.mt_import.specs.Values.{assumed_capabilities, assumed_default, assumed_fixed, assumed_mask, assumed_of, assumed_pair, assumed_pat, assumed_value, assumed_zero, base_of, disabled_value, firm_value, firm_width, firmware_value, has_pairs, is_fixed_number, is_of_table, is_pair_number, is_unshown, lacks_fix, likely_flags, likely_type, mask_of, mask_of_size, masks_in, only_if, or_supplied, pair_count, shown_pairs, shows_fix_clear, shows_one_of, shows_pairs, shows_part, shows_uncached, size_in, uncached_pairs, uncached_with, widest, width_by, width_by_zeros};
 
-use crate::shape::Slot;
+use crate::shape::{Known, Slot};
 use crate::supplied::Assumed;
 use crate::{Format, LogReader, Supplied};
 use mt_kinds::{DEF_TYPE_E, DEF_TYPE_FE, MTRRCAP_FIX, MTRRCAP_WC, PHYSMASK_V, is_bit_set};
@@ -18,8 +19,9 @@ const VALID: u64 = 1 << PHYSMASK_V;
 
 const FIXED_AND_COMBINING: u64 = (1 << MTRRCAP_FIX) + (1 << MTRRCAP_WC);
 
-// Of type UC.
-const ENABLED_DEFAULT: u64 = (1 << DEF_TYPE_E) + (1 << DEF_TYPE_FE);
+const ENABLED: u64 = 1 << DEF_TYPE_E;
+
+const FIXED_ENABLED: u64 = 1 << DEF_TYPE_FE;
 
 const FIXED_NUMBERS: [u32; 11] = [
     0x250, 0x258, 0x259, 0x268, 0x269, 0x26a, 0x26b, 0x26c, 0x26d, 0x26e, 0x26f,
@@ -32,6 +34,10 @@ const LINUX_PAT: u64 = 0x0407_0506_0007_0106;
 const XEN_PAT: u64 = 0x0000_0501_0007_0406;
 
 const PAIRS: u32 = 32;
+
+const UNCACHEABLE: u64 = 0;
+
+const WRITE_BACK: u64 = 6;
 
 const MOST_BITS: u8 = 52;
 
@@ -192,6 +198,46 @@ fn shows_part(slot: &Slot) -> bool
     (is_bit_set(slot.value, MTRRCAP_FIX) || slot.bits % 256 == 255) && !slot.is_whole()
 }
 
+/// Whether a capability register is without FIX.
+pub(crate) fn lacks_fix(capabilities: Option<u64>) -> bool
+    ensures { result ≡ lacks_fix capabilities }
+{
+    match capabilities {
+        Some(capabilities) => !is_bit_set(capabilities, MTRRCAP_FIX),
+        None => false,
+    }
+}
+
+// Whether lines show the type of a PhysBase as UC.
+fn shows_uncached(base: &Slot) -> bool
+    ensures { result ≡ shows_uncached base.now }
+{
+    base.bits % 256 == 255 && base.value % 256 == 0
+}
+
+// With one pair more, if it is used.
+fn uncached_with(is_used: bool, is_uncached: bool, before: Option<bool>) -> Option<bool>
+    ensures { result ≡ uncached_with is_used is_uncached before }
+{
+    if is_used {
+        Some(is_uncached && before.unwrap_or(true))
+    } else {
+        before
+    }
+}
+
+// E, and FE unless lines or a word have FIX as clear.
+fn likely_flags(capabilities: &Slot, given: Option<u64>) -> u64
+    ensures flags { result ≡ likely_flags capabilities.now given }
+    ensures small { result ≤ 0xc00 }
+{
+    if shows_fix_clear(capabilities) || lacks_fix(given) {
+        ENABLED
+    } else {
+        ENABLED + FIXED_ENABLED
+    }
+}
+
 fn shows_fix_clear(slot: &Slot) -> bool
     ensures { result ≡ shows_fix_clear slot.now }
 {
@@ -350,42 +396,84 @@ impl LogReader {
         }
     }
 
-    fn assumed_default(&self, k: u32) -> Option<u64>
-        requires { k < 16 }
-        ensures { result ≡ assumed_default (slots_of self.now k) }
+    // Whether pairs so far and this one are all UC that are used.
+    fn uncached_behind(&self, k: u32, n: u32, before: Option<bool>) -> Option<bool>
+        requires processor { k < 16 }
+        requires pair { n < 32 }
+        ensures { result ≡ uncached_with (is_bit_set (slots_of self.now k (0x201 + 2 * n)).value 11) (shows_uncached (slots_of self.now k (0x200 + 2 * n))) before }
     {
-        let capabilities = self.slot(k, CAPABILITIES);
-        if self.slot(k, DEFAULT_TYPE).bits == 0 && !shows_fix_clear(&capabilities) {
-            Some(ENABLED_DEFAULT)
+        let mask = self.slot(k, FIRST_MASK + 2 * n);
+        let base = self.slot(k, FIRST_PAIR + 2 * n);
+        let is_used = is_bit_set(mask.value, PHYSMASK_V);
+        uncached_with(is_used, shows_uncached(&base), before)
+    }
+
+    // Whether the pairs are all UC whose V lines show as set, if there is one.
+    fn uncached_pairs(&self, k: u32) -> Option<bool>
+        requires { k < 16 }
+        ensures { result ≡ uncached_pairs (slots_of self.now k) 32 }
+    {
+        let mut uncached = None;
+        'pairs: for n in 0..PAIRS {
+            uncached = self.uncached_behind(k, n, uncached);
+        }
+        uncached
+    }
+
+    fn likely_type(&self, k: u32) -> u64
+        requires { k < 16 }
+        ensures code { result ≡ likely_type (slots_of self.now k) }
+        ensures small { result ≤ 6 }
+    {
+        if self.uncached_pairs(k).unwrap_or(false) {
+            WRITE_BACK
+        } else {
+            UNCACHEABLE
+        }
+    }
+
+    fn assumed_default(&self, k: u32, given: Option<u64>) -> Option<u64>
+        requires { k < 16 }
+        ensures { result ≡ assumed_default (slots_of self.now k) given }
+    {
+        if self.slot(k, DEFAULT_TYPE).bits == 0 {
+            let flags = likely_flags(&self.slot(k, CAPABILITIES), given);
+            Some(flags + self.likely_type(k))
         } else {
             None
         }
     }
 
-    fn assumed_value(
-        &self,
-        assumed: &Assumed,
-        k: u32,
-        width: Option<u8>,
-        number: u32,
-    ) -> Option<u64>
+    fn assumed_value(&self, assumed: &Assumed, k: u32, known: &Known, number: u32) -> Option<u64>
         requires processor { k < 16 }
         requires number { number < 0x1000 }
-        requires width { IfSome width (λ width. width ≤ 52) }
-        ensures { result ≡ assumed_value assumed.now (slots_of self.now k) (record { width = width; format = self.now.tally.format }) number }
+        requires width { IfSome known.now.width (λ width. width ≤ 52) }
+        ensures { result ≡ assumed_value assumed.now (slots_of self.now k) known.now number }
     {
         if number == PAT {
-            only_if(assumed.pat, Some(assumed_pat(self.tally().format)))
+            only_if(assumed.pat, Some(assumed_pat(known.format)))
         } else if number == CAPABILITIES {
             only_if(assumed.capabilities, self.assumed_capabilities(k))
         } else if is_pair_number(number) {
-            self.assumed_pair(assumed, k, width, number)
+            self.assumed_pair(assumed, k, known.width, number)
         } else if is_fixed_number(number) {
             only_if(assumed.fixed, self.assumed_fixed(k, number))
         } else if number == DEFAULT_TYPE {
-            only_if(assumed.fixed, self.assumed_default(k))
+            only_if(assumed.fixed, self.assumed_default(k, known.given))
         } else {
             None
+        }
+    }
+
+    // What is known beside registers.
+    fn known(&self, supplied: &Supplied) -> Known
+        ensures known { result ≡ known_by supplied.now (findings_in self.now) }
+        ensures fit { IfSome result.width IsFit }
+    {
+        Known {
+            width: self.width(supplied),
+            format: self.tally().format,
+            given: supplied.value(CAPABILITIES),
         }
     }
 
@@ -395,11 +483,10 @@ impl LogReader {
         requires number { number < 0x1000 }
         ensures { result ≡ values_in supplied.now self.now k number }
     {
-        let width = self.width(supplied);
         let assumed = assumed_of(k, supplied.assumed());
         or_supplied(
             self.firm_value(supplied, k, number),
-            self.assumed_value(&assumed, k, width, number),
+            self.assumed_value(&assumed, k, &self.known(supplied), number),
         )
     }
 
@@ -418,8 +505,12 @@ impl LogReader {
         requires { number < 0x1000 }
         ensures { result ≡ hint_by supplied.now (findings_in self.now) number }
     {
-        let width = or_widest(self.width(supplied));
-        self.assumed_value(&Assumed::all(), 0, width, number)
+        let known = self.known(supplied);
+        let known = Known {
+            width: or_widest(known.width),
+            ..known
+        };
+        self.assumed_value(&Assumed::all(), 0, &known, number)
     }
 
     /// The same where no processor would lack it.

@@ -19,7 +19,7 @@ pub const WINDBG: [Row<'static>; 6] = [
     (&[(b"", SPACE), (b"msr[", HEX), (b"]", SPACE), (b"=", SPACE), (b"", HEX_16)], Says::Bare),
     (&[(b"", SPACE), (b"msr[0", EX), (b"", HEX), (b"]", SPACE), (b"=", SPACE), (b"", HEX_16)], Says::Bare),
     // The prompt `1: kd>` names the processor. From 10 on its base isn't known.
-    (&[(b"", DIGITS), (b": kd>", Run::Nothing)], Says::TurnToUnread),
+    (&[(b"", DIGITS), (b": kd>", Run::Nothing)], Says::UnreadPrompt),
     (&[(b"", DECIMAL), (b": kd>", Run::Nothing)], Says::Turn(0)),
 ];
 

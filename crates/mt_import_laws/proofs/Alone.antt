@@ -17,11 +17,11 @@ use Rattle.mt_import.specs.declared.shape.Tables.{Tables}
 use Rattle.mt_import.specs.declared.shape.Told.{Told}
 use Rattle.mt_import.specs.declared.shape.Warned.{Warned}
 use Rattle.mt_import.specs.declared.shape.Way.{Way}
-use Rattle.mt_import.specs.Import.{answered, closed, failed, failure, log_answer, log_outcome, tables_outcome}
-use Rattle.mt_import.specs.LogTables.{context_told, facts_alone, facts_of_tables, facts_told, has_picked, is_all, is_between_lines, is_read, kept, line_kept, lines_alone, no_tables, table_hint, tables_behind, tables_of, tables_text, told_by, told_in, way_behind, way_from}
-use Rattle.mt_import.specs.Outcome.{Outcome, Seen, ended, facts_fault, fault_line, nothing_seen, refusal, seen_after, unless, warned_till}
-use Rattle.mt_import.specs.Readings.{Fact, context_after, line_facts, starts}
-use Rattle.mt_import.specs.Shown.{chosen, context_behind, facts_from, facts_of_line, format_of, is_auto, said_in, said_of, shown}
+use Rattle.mt_import.specs.Import.{answered, closed, failure, log_answer, log_outcome, tables_outcome}
+use Rattle.mt_import.specs.LogTables.{context_told, facts_alone, facts_of_tables, facts_told, has_picked, is_all, is_read, kept, line_kept, lines_alone, no_tables, tables_behind, tables_of, told_by, told_in, way_behind, way_from}
+use Rattle.mt_import.specs.Outcome.{Seen, ended, facts_fault, fault_line, nothing_seen, seen_after, unless, warned_till}
+use Rattle.mt_import.specs.Readings.{context_after, line_facts, starts}
+use Rattle.mt_import.specs.Shown.{chosen, facts_from, format_of, is_auto, said_in, said_of, shown}
 use Rattle.mt_import.specs.Supplied.{Supplied}
 use Rattle.mt_import_laws.specs.Alone.{HasAlone, ReadsAll}
 use Rattle.mt_import_laws.specs.FirstLine.{ComeToSame}

@@ -13,7 +13,8 @@ use Rattle.mt_import.specs.declared.shape.Reading.{Reading}
 use Rattle.mt_import.specs.declared.shape.Slot.{Slot}
 use Rattle.mt_import.specs.Shown.{is_auto}
 use Rattle.mt_import.specs.Supplied.{Supplied, supplied_value}
-use Rattle.mt_import.specs.Outcome.{capabilities_shown, ended, fix_shown, fixless_rival, lacks_fix, last_fixed_line, ranged_rival, shows_fixed, shows_no_fix}
+use Rattle.mt_import.specs.Outcome.{capabilities_shown, ended, fix_shown, fixless_rival, last_fixed_line, ranged_rival, shows_fixed, shows_no_fix}
+use Rattle.mt_import.specs.Values.{lacks_fix}
 use Rattle.mt_import.specs.Import.{log_outcome}
 use Rattle.mt_import_laws.specs.Origins.{IsAmong, readings_of, seen_of}
 use Rattle.mt_import_laws.proofs.Capabilities.{agreed}

@@ -11,6 +11,8 @@ mod Lines
 mod Widths
 mod Sections
 mod Dumps
+mod Missing
+mod Assumptions
 mod Notes
 mod Warnings
 mod Alike
@@ -44,6 +46,7 @@ mod Edk2Lines
 mod Edk2Table
 mod HexDigits
 mod RowTables
+mod RowFirst
 mod X86infoLines
 mod X86infoTable
 mod PartsBack

@@ -12,12 +12,13 @@ use Rattle.mt_import.specs.declared.reading.LineSays.{LineSays}
 use Rattle.mt_import.specs.declared.reading.LineSays.TheVariants.{Nothing, Announces, Value, Turns, Shows, Lists, Begins, FixedRanges, VariableRanges, Width, Warns, Bad}
 use Rattle.mt_import.specs.declared.shape.Shown.{Shown}
 use Rattle.mt_import.specs.Pieces.{register_in, shows_one, shows_width, unread_processor, value_at}
-use Rattle.mt_import.specs.Readings.{one_shown, two_shown}
+use Rattle.mt_import.specs.Readings.{is_register, one_shown, two_shown}
 use Rattle.mt_import.specs.Coreboot.{flag_said, fixed_of, level_words, other_from, said_from, said_of_id, set_from, shows_pair as shows_set_pair, size_from}
 use Rattle.mt_import.specs.Edk2.{said_by_words as edk2_words, shows_pair}
 use Rattle.mt_import.specs.declared.inteltool.TheConstants.{INTELTOOL}
 use Rattle.mt_import.specs.declared.tables.Says.{Says}
 use Rattle.mt_import.specs.declared.tables.Says.TheVariants as says
+use Rattle.mt_import.specs.Slot.{all_bits}
 use Rattle.mt_import.specs.Tables.{Row, bare_place, each_said, halves_value, lists_one, place_of, processor_in, rows_in, said_in as said_in_rows, said_or, says_of}
 use Rattle.mt_import.specs.declared.chipsec.TheConstants.{CHIPSEC}
 use Rattle.mt_import.specs.declared.plain.TheConstants.{PLAIN}
@@ -123,7 +124,12 @@ module _ (move : ℕ → ℕ) where
 
   list : (number : ℕ) (processor register : Option ℕ) (value : Field) → moved_said (lists_one number processor register value) ≡ lists_one (move number) processor register value
   list number processor None value = refl
-  list number processor (Some register) value = refl
+  list number processor (Some register) value = by (is_register register)
+    where
+      by : (test : Bool) → moved_said (if test then Lists processor (record { number = register; bits = all_bits; value = value.value; place = bare_place number value }) else Nothing)
+          ≡ (if test then Lists processor (record { number = register; bits = all_bits; value = value.value; place = bare_place (move number) value }) else Nothing)
+      by true = refl
+      by false = refl
 
   of_says : (meaning : Says) (number : ℕ) (fields : Fields) → moved_said (says_of meaning number fields) ≡ says_of meaning (move number) fields
   of_says says.Register number fields = one None (register_in (Ok fields.second_last.value)) (Some fields.last.value) (place_of number fields.last)
@@ -131,6 +137,7 @@ module _ (move : ℕ → ℕ) where
   of_says (says.Turn first) number fields = refl
   of_says says.TurnToFirst number fields = refl
   of_says says.TurnToUnread number fields = refl
+  of_says says.UnreadPrompt number fields = refl
   of_says says.Bare number fields = one None (register_in (Ok fields.second_last.value)) (Some fields.last.value) (bare_place number fields.last)
   of_says says.BareHalves number fields = one None (register_in (Ok fields.third_last.value)) (halves_value fields.second_last.value fields.last.value) (bare_place number fields.second_last)
   of_says says.OfProcessor number fields =

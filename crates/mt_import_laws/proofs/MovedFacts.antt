@@ -31,7 +31,8 @@ use Rattle.mt_import.specs.Readings.{Fact, context_after, fixed_facts, fixed_sho
 use Rattle.mt_import.specs.Shown.{chosen, context_behind, facts_from, facts_of_line, said_in}
 use Rattle.mt_import.specs.Slot.{clashes, slot_with}
 use Rattle.mt_import.specs.Supplied.{Supplied, bits_differ, differs, supplied_value}
-use Rattle.mt_import.specs.Outcome.{Seen, capabilities_shown, capability_rival, contradiction, count_rival, counted, counts_fewer, fact_fault, facts_fault, fix_shown, fixed_rival, fixless_rival, lacks_fix, last_after, last_fixed_line, last_shown, least_count, pairs_fault, processors, ranged_rival, reading_fault, rival, seen_after, seen_with, shows_fixed, shows_no_fix, slot_shown, uncounted_rival, width_contradiction, width_fault, width_rival, warned_till}
+use Rattle.mt_import.specs.Outcome.{Seen, capabilities_shown, capability_rival, contradiction, count_rival, counted, counts_fewer, fact_fault, facts_fault, fix_shown, fixed_rival, fixless_rival, last_after, last_fixed_line, last_shown, least_count, pairs_fault, processors, ranged_rival, reading_fault, rival, seen_after, seen_with, shows_fixed, shows_no_fix, slot_shown, uncounted_rival, width_contradiction, width_fault, width_rival, warned_till}
+use Rattle.mt_import.specs.Values.{lacks_fix}
 use Rattle.mt_import_laws.specs.Origins.{context_after_lines}
 use Rattle.mt_import_laws.specs.Spare.{moved_fault, moved_place, moved_rival, moved_warned}
 use Rattle.mt_import_laws.proofs.Moved.{each, in_format, moved_said, moved_shown, same_chosen}

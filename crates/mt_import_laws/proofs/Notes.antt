@@ -5,10 +5,11 @@ use Rattle.std.specs.List.{AllByRecursion, concat}
 use Rattle.std.proofs.lemmas.Bool.{and_parts, eqb-true, eqb-false}
 use Rattle.std.proofs.lemmas.List.{append-nil}
 use Rattle.std.proofs.lemmas.List.Folds.{concat-append}
+use Rattle.mt_import.specs.declared.shape.Known.{Known}
 use Rattle.mt_import.specs.declared.shape.Slot.{Slot}
 use Rattle.mt_import.specs.declared.supplied.Assumed.{Assumed}
 use Rattle.mt_import.specs.Supplied.{Supplied}
-use Rattle.mt_import.specs.Values.{Known, assumed_of, assumed_pat, assumed_value, assumed_zero, firm_value, firm_width, has_pairs, is_fixed_number, is_pair_number, is_unshown, only_if, or_supplied, width_by}
+use Rattle.mt_import.specs.Values.{assumed_of, assumed_pat, assumed_value, assumed_zero, firm_value, firm_width, has_pairs, is_fixed_number, is_pair_number, is_unshown, only_if, or_supplied, width_by}
 use Rattle.mt_import.specs.Outcome.{Seen, Outcome, findings_of, firm_of, is_noted, is_value, known_by, needed, note_by, note_line, note_lines, noted, noted_of, number_if, processors, slot_shown, values_of, width_note}
 use Rattle.mt_import.proofs.Parts.{noted_at}
 use Rattle.mt_import.proofs.Same.{value_is}

@@ -17,7 +17,7 @@ use Rattle.mt_import.specs.declared.chipsec.TheConstants.{CHIPSEC}
 use Rattle.mt_import.specs.declared.windbg.TheConstants.{WINDBG}
 use Rattle.mt_import.specs.declared.tables.Says.TheVariants.{BareHalves, OfProcessor}
 use Rattle.mt_import.specs.Pieces.{shows_one}
-use Rattle.mt_import.specs.Shown.{said_by_line, said_of, said_or_sizes, unmarked}
+use Rattle.mt_import.specs.Shown.{is_telling, said_by_line, said_of, said_or_sizes, unmarked}
 use Rattle.mt_import.specs.Supplied.{Supplied}
 use Rattle.mt_import.specs.Tables.{Row, rows_in, said_in, says_of}
 use Rattle.mt_import_laws.specs.Origins.{IsAmong}
@@ -165,13 +165,13 @@ module _ (register value : ℕ) (small : register < 0x1000) (fits : value < 2 ^ 
   abbrev texts : List (List ℕ)
   texts = windbg_texts (hex_text register) (low_digits high) (low_digits rest)
 
-  windbg_plain : list_all is_plain windbg ≡ true
+  pub windbg_plain : list_all is_plain windbg ≡ true
   windbg_plain =
       let last = digits_plain (low_digits rest) (is_eight rest rest_fits).all in
       let both = all_append is_plain (low_digits high) (codes "`" ++ low_digits rest) (digits_plain (low_digits high) (is_eight high high_fits).all) last in
       all_append is_plain (hex_text register) (codes "] = " ++ (low_digits high ++ (codes "`" ++ low_digits rest))) (digits_plain (hex_text register) (hex_digits register)) both
 
-  windbg_short : is_too_long windbg ≡ false
+  pub windbg_short : is_too_long windbg ≡ false
   windbg_short =
       let one = length-append (hex_text register) (codes "] = " ++ (low_digits high ++ (codes "`" ++ low_digits rest))) in
       let two = length-append (low_digits high) (codes "`" ++ low_digits rest) in
@@ -185,6 +185,16 @@ module _ (register value : ℕ) (small : register < 0x1000) (fits : value < 2 ^ 
 
   abbrev windbg_place : ℕ → Place
   windbg_place number = record { line = number; column = one_more (shown (length windbg) (items windbg_row.0) texts [] no_fields).second_last.column }
+
+  pub windbg_tells : (number : ℕ) → is_telling (said_by_line Windbg number windbg) ≡ true
+  windbg_tells number =
+      let a = is_hex register register_fits in
+      let b = is_eight high high_fits in
+      let c = is_eight rest rest_fits in
+      let fit = windbg_fit register high rest _ _ _ a b c (eight_long lower_digits IsDigits-lower_digits high) (eight_long lower_digits IsDigits-lower_digits rest) in
+      let read = row_reads windbg_row.0 windbg texts [] windbg_plain windbg_is refl fit refl in
+      ap is_telling (first_says [] windbg_row (drop 1 (rows_in WINDBG)) number windbg (shown (length windbg) (items windbg_row.0) texts [] no_fields) refl read
+      ∙ windbg_says (length windbg) register high rest number _ _ _ [] a b c small high_fits rest_fits)
 
   windbg_prints : PrintsOne Windbg register value windbg
   windbg_prints = record {
@@ -234,14 +244,14 @@ module _ (register value : ℕ) (small : register < 0x1000) (fits : value < 2 ^ 
   number_fits : register < 2 ^ 64
   number_fits = omega (arith, small)
 
-  chipsec_plain : list_all is_plain chipsec ≡ true
+  pub chipsec_plain : list_all is_plain chipsec ≡ true
   chipsec_plain =
       let last = all_append is_plain edx (codes ")") (upper_plain (value / 0x100000000)) refl in
       let both = all_append is_plain eax (codes ", EDX=" ++ (edx ++ codes ")")) (upper_plain (value % 0x100000000)) last in
       let behind = all_append is_plain (sixteen_digits value) tail (digits_plain (sixteen_digits value) (is_sixteen value fits).all) both in
       all_append is_plain (hex_text register) (codes " ) = " ++ (sixteen_digits value ++ tail)) (digits_plain (hex_text register) (hex_digits register)) behind
 
-  chipsec_short : is_too_long chipsec ≡ false
+  pub chipsec_short : is_too_long chipsec ≡ false
   chipsec_short =
       let one = length-append (hex_text register) (codes " ) = " ++ (sixteen_digits value ++ tail)) in
       let two = length-append (sixteen_digits value) tail in
@@ -255,6 +265,16 @@ module _ (register value : ℕ) (small : register < 0x1000) (fits : value < 2 ^ 
 
   abbrev chipsec_place : ℕ → Place
   chipsec_place number = record { line = number; column = one_more (shown (length chipsec) (items chipsec_row.0) (chipsec_texts (hex_text register) (sixteen_digits value)) tail no_fields).last.column }
+
+  pub chipsec_tells : (number : ℕ) → is_telling (said_by_line Chipsec number chipsec) ≡ true
+  chipsec_tells number =
+      let a = is_hex register number_fits in
+      let b = is_sixteen value fits in
+      let fit = chipsec_fit register value _ _ a b (sixteen_long upper_digits IsDigits-upper_digits value) in
+      let texts = chipsec_texts (hex_text register) (sixteen_digits value) in
+      let read = row_reads chipsec_row.0 chipsec texts tail chipsec_plain refl refl fit refl in
+      ap is_telling (first_says [] chipsec_row (drop 1 (rows_in CHIPSEC)) number chipsec (shown (length chipsec) (items chipsec_row.0) texts tail no_fields) refl read
+      ∙ chipsec_says (length chipsec) register value number _ _ tail a b small)
 
   chipsec_prints : PrintsOne Chipsec register value chipsec
   chipsec_prints = record {

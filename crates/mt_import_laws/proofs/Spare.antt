@@ -19,13 +19,13 @@ use Rattle.mt_import.specs.declared.shape.Shown.{Shown}
 use Rattle.mt_import.specs.declared.shape.Tally.{Tally}
 use Rattle.mt_import.specs.declared.shape.Warned.{Warned}
 use Rattle.mt_import.specs.Import.{log_outcome}
-use Rattle.mt_import.specs.Outcome.{Findings, Outcome, Seen, Slots, Summary, advice_of, count_line, dump_outcome, ended, ended_by, facts_fault, findings_of, firm_of, hint_of, is_empty, missing_of, notes_of, nothing_seen, processors, refusal, remarks, seen_after, seen_with, slot_shown, summary_of, unless, values_of, warned_till}
+use Rattle.mt_import.specs.Outcome.{WidthAndFormat, Findings, Outcome, Seen, Slots, Summary, advice_of, count_line, dump_outcome, ended, ended_by, facts_fault, findings_of, firm_of, hint_of, is_empty, missing_of, notes_of, nothing_seen, processors, refusal, remarks, seen_after, seen_with, slot_shown, summary_of, unless, values_of, warned_till}
 use Rattle.mt_import.specs.Pieces.{shown_as}
 use Rattle.mt_import.specs.Readings.{Fact, context_after, fixed_clash, fixed_facts, fixed_shows, is_fault, is_line, is_match, is_mixed, is_register, is_register_value, line_facts, named_processor, reading_facts, said_facts, shown_facts, shows_facts, starts, unless_clash, value_facts, variable_shows}
 use Rattle.mt_ports.specs.declared.status.Status.TheVariants.{Done}
 use Rattle.mt_import.specs.Shown.{chosen, context_behind, facts_from, facts_of_line, format_of, is_auto, said_in, shown}
 use Rattle.mt_import.specs.Supplied.{Supplied}
-use Rattle.mt_import.specs.Values.{Known, width_by}
+use Rattle.mt_import.specs.Values.{width_by}
 use Rattle.mt_import.specs.Warnings.{none_warned, warning_lines}
 use Rattle.mt_import.proofs.Facts.{fault_append, seen_append, till_goes, till_stops}
 use Rattle.mt_import.proofs.Same.{same_summary}
@@ -173,7 +173,7 @@ module _ (at : ℕ) where
 -- ---- the outcome
 
 -- The texts but for counts of lines don't depend on which lines show.
-module _ (move : ℕ → ℕ) (supplied : Supplied) (slots : Slots) (count : ℕ) (known : Known) where
+module _ (move : ℕ → ℕ) (supplied : Supplied) (slots : Slots) (count : ℕ) (known : WidthAndFormat) where
   abbrev found : Findings
   found = record { slots = slots; count = count; shown = known }
 
@@ -235,7 +235,7 @@ module _ (at : ℕ) where
       → ComeToSameWithout auto at (ended auto supplied seen) (ended auto supplied (moved_seen (number_without at) seen))
   moved_ended auto supplied seen some later =
       let slots : Slots = slot_shown seen.readings in
-      let known : Known = (findings_of seen).shown in
+      let known : WidthAndFormat = (findings_of seen).shown in
       let count : ℕ = processors seen.readings in
       let tally : Tally = (moved_seen (number_without at) seen).tally in
       let fewer : tally ≡ one_line_less at seen.tally = ap (λ n. let t : Tally = record { format = seen.tally.format; lines = n; matches = seen.tally.matches; warned = moved_warned (number_without at) seen.tally.warned } in t) (above at seen.tally.lines later) in

@@ -1,8 +1,9 @@
 -- What lines warn of is told.
-use Rattle.std.proofs.Common.{◌≡◌, ◌≢◌, ◌+◌, ℕ, Bool, true, false, List, [], ◌∷◌, ◌++◌, length, Option, Some, None, refl, sym, ◌∙◌, ap, subst, inl, inr, arith}
+use Rattle.std.proofs.Common.{◌≡◌, ◌+◌, ℕ, Bool, true, false, List, [], ◌∷◌, ◌++◌, length, Option, Some, None, refl, sym, ◌∙◌, ap, subst, inl, inr, arith}
 use Rattle.std.specs.Prelude.{◌⊎◌, if◌then◌else◌, is_some, IsSome}
+use Rattle.std.specs.Option.{option_or}
 use Rattle.std.proofs.lemmas.List.{append-nil}
-use Rattle.mt_ports.specs.declared.status.Status.TheVariants.{BadText}
+use Rattle.mt_ports.specs.declared.status.Status.TheVariants.{Done, Refused}
 use Rattle.mt_text.specs.Text.{is_too_long}
 use Rattle.mt_import.specs.declared.fault.ImportFault.{ImportFault}
 use Rattle.mt_import.specs.declared.format.Choice.{Choice}
@@ -10,17 +11,17 @@ use Rattle.mt_import.specs.declared.format.Format.{Format}
 use Rattle.mt_import.specs.declared.reading.Context.{Context}
 use Rattle.mt_import.specs.declared.reading.LineSays.TheVariants.{Warns}
 use Rattle.mt_import.specs.declared.shape.Reading.{Reading}
-use Rattle.mt_import.specs.declared.shape.Tally.{Tally}
 use Rattle.mt_import.specs.declared.shape.Warned.{Warned}
 use Rattle.mt_import.specs.declared.shape.Warning.{Warning}
 use Rattle.mt_import.specs.declared.shape.Warning.TheVariants.{Unlike, WrongMask, LostMemory, TopOfMemory, Syscfg, MemoryBits}
 use Rattle.mt_import.specs.Readings.{Fact, is_fault, is_line, is_register_value, is_warning, is_width, said_facts, starts}
 use Rattle.mt_import.specs.Shown.{chosen, context_behind, facts_from, facts_of_line, format_of, is_auto, said_in, shown, unmarked}
 use Rattle.mt_import.specs.Supplied.{Supplied}
-use Rattle.mt_import.specs.Outcome.{Seen, Summary, Outcome, count_line, dump_outcome, ended, ended_by, fact_fault, fault_line, findings_of, is_empty, nothing_seen, refusal, remarks, seen_after, seen_with, summary_of, unless, warned_till}
+use Rattle.mt_import.specs.Outcome.{Seen, Summary, Outcome, advice_of, count_line, dump_outcome, ended, fact_fault, facts_fault, fault_line, findings_of, is_empty, missing_of, nothing_seen, refusal, seen_after, seen_with, summary_of, unless, warned_till}
 use Rattle.mt_import.specs.Warnings.{has_memory_bits, line_warned, warned_with, warning_lines, warning_of}
 use Rattle.mt_import_laws.specs.Origins.{IsAmong, context_after_lines, seen_of}
-use Rattle.mt_import_laws.specs.Warnings.{AreWarning, HasWarning, IsWarned, SaysNothing, TellsWarnings, by_register, by_words}
+use Rattle.mt_import.specs.Import.{log_outcome}
+use Rattle.mt_import_laws.specs.Warnings.{AreAround, AreWarning, HasWarning, IsWarned, SaysNothing, TellsWarnings, beside_dump, beside_fault, beside_missing, by_register, by_words, facts_read, read_of}
 use Rattle.mt_import_laws.proofs.Among.{join_among_first, join_among_second}
 use Rattle.mt_import_laws.proofs.Faults.{fault_of, till_of}
 
@@ -156,15 +157,6 @@ module _ (warning : Warning) (number : ℕ) where
       by (inr now) = inr (by_words (inl (ap (λ w. is_warning w at) now.0 ∙ ap (is_warning warning) now.1)))
   of_fact seen (is_fault fault) facts (inl is) = inl is
 
-  only_till : (supplied : Supplied) (facts : List Fact) (seen : Seen) → line_warned (warned_till supplied seen facts) warning ≡ Some number → Known seen facts
-  only_till supplied [] seen is = inl is
-  only_till supplied (fact ∷ facts) seen is = by (is_some (fact_fault supplied seen fact)) (only_till supplied facts (seen_with seen fact)) is
-    where
-      by : (test : Bool) → (line_warned (warned_till supplied (seen_with seen fact) facts) warning ≡ Some number → Known (seen_with seen fact) facts)
-          → line_warned (if test then seen.tally.warned else warned_till supplied (seen_with seen fact) facts) warning ≡ Some number → Known seen (fact ∷ facts)
-      by true later here = inl here
-      by false later here = of_fact seen fact facts (later here)
-
   only_after : (facts : List Fact) (seen : Seen) → line_warned (seen_after seen facts).tally.warned warning ≡ Some number → Known seen facts
   only_after [] seen is = inl is
   only_after (fact ∷ facts) seen is = of_fact seen fact facts (only_after facts (seen_with seen fact) is)
@@ -181,71 +173,118 @@ module _ (warning : Warning) (number : ℕ) where
       no_line Syscfg e = cc e
       no_line MemoryBits e = cc e
 
+-- ---- what is read
+
+read_till : (supplied : Supplied) (seen : Seen) (facts : List Fact) → warned_till supplied seen facts ≡ (seen_after seen (read_of supplied seen facts)).tally.warned
+read_till supplied seen [] = refl
+read_till supplied seen (fact ∷ facts) = by (is_some (fact_fault supplied seen fact)) (read_till supplied (seen_with seen fact) facts)
+  where
+    by : (test : Bool) → warned_till supplied (seen_with seen fact) facts ≡ (seen_after (seen_with seen fact) (read_of supplied (seen_with seen fact) facts)).tally.warned
+        → (if test then seen.tally.warned else warned_till supplied (seen_with seen fact) facts) ≡ (seen_after seen (if test then [] else fact ∷ read_of supplied (seen_with seen fact) facts)).tally.warned
+    by true later = refl
+    by false later = later
+
+read_all : (supplied : Supplied) (seen : Seen) (facts : List Fact) → facts_fault supplied seen facts ≡ None → read_of supplied seen facts ≡ facts
+read_all supplied seen [] fine = refl
+read_all supplied seen (fact ∷ facts) fine = by (fact_fault supplied seen fact) (read_all supplied (seen_with seen fact) facts) fine
+  where
+    by : (own : Option ImportFault) → (facts_fault supplied (seen_with seen fact) facts ≡ None → read_of supplied (seen_with seen fact) facts ≡ facts)
+        → option_or own (facts_fault supplied (seen_with seen fact) facts) ≡ None → (if is_some own then [] else fact ∷ read_of supplied (seen_with seen fact) facts) ≡ fact ∷ facts
+    by (Some fault) later is = cc is
+    by None later is = ap (λ (fs : List Fact). fact ∷ fs) (later is)
+
 -- ---- it is told
 
+-- the texts around the warnings of an outcome behind all facts
+data AreAroundEnd (auto : Bool) (supplied : Supplied) (seen : Seen) (told : Outcome) (before others : List ℕ) : Type 0 where
+  by_dump : told.status ≡ Done → before ≡ (if auto then count_line seen.tally else []) → others ≡ [] → AreAroundEnd auto supplied seen told before others
+  by_missing : told.status ≡ Refused → before ≡ count_line seen.tally → (advice : List ℕ) → others ≡ missing_of supplied (findings_of seen) ++ advice
+      → (advice ≡ []) ⊎ (advice ≡ advice_of auto supplied (findings_of seen)) → AreAroundEnd auto supplied seen told before others
+
 -- the lines on what was warned of are within a text
-record IsWithin (warned : Warned) (whole : List ℕ) : Type 0 where
+record IsWithin (auto : Bool) (supplied : Supplied) (seen : Seen) (told : Outcome) : Type 0 where
   before : List ℕ
   others : List ℕ
-  whole_is : whole ≡ before ++ (warning_lines warned ++ others)
+  whole_is : told.reasons ≡ before ++ (warning_lines seen.tally.warned ++ others)
+  around : AreAroundEnd auto supplied seen told before others
 
-remarks_told : (auto : Bool) (tally : Tally) → IsWithin tally.warned (remarks auto tally)
-remarks_told auto tally = record {
-  before = if auto then count_line tally else [];
-  others = [];
-  whole_is = ap (λ (t : List ℕ). (if auto then count_line tally else []) ++ t) (sym (append-nil (warning_lines tally.warned)));
-}
+module _ (auto : Bool) (supplied : Supplied) (seen : Seen) where
+  abbrev told : Summary
+  told = summary_of auto supplied (findings_of seen) seen.tally
 
-refusal_told : (tally : Tally) (missing : List ℕ) → IsWithin tally.warned (refusal tally missing).reasons
-refusal_told tally missing = record { before = count_line tally; others = missing; whole_is = refl }
+  refused_told : (advice : List ℕ) → (advice ≡ []) ⊎ (advice ≡ advice_of auto supplied (findings_of seen)) → IsWithin auto supplied seen (refusal seen.tally (told.missing ++ advice))
+  refused_told advice is = record { before = count_line seen.tally; others = told.missing ++ advice; whole_is = refl; around = by_missing refl refl advice refl is }
 
-dump_told_too : (warned : Warned) (refused : Outcome) (told : Summary) (width capabilities : Option ℕ) → IsWithin warned refused.reasons → IsWithin warned (remarks told.auto told.tally)
-    → IsWithin warned (dump_outcome refused told width capabilities).reasons
-dump_told_too warned refused told (Some width) (Some capabilities) one two = two
-dump_told_too warned refused told (Some width) None one two = one
-dump_told_too warned refused told None capabilities one two = one
+  bare_told : IsWithin auto supplied seen (refusal seen.tally told.missing)
+  bare_told = record { before = count_line seen.tally; others = told.missing; whole_is = refl; around = by_missing refl refl [] (sym (append-nil told.missing)) (inl refl) }
 
-if_told : (warned : Warned) (test : Bool) (told refused : Outcome) → IsWithin warned told.reasons → IsWithin warned refused.reasons → IsWithin warned (if test then told else refused).reasons
-if_told warned true told refused one two = one
-if_told warned false told refused one two = two
+  dump_told : (width capabilities : Option ℕ) → IsWithin auto supplied seen (dump_outcome (refusal seen.tally told.missing) told width capabilities)
+  dump_told (Some width) (Some capabilities) = record {
+    before = if auto then count_line seen.tally else [];
+    others = [];
+    whole_is = ap (λ (t : List ℕ). (if auto then count_line seen.tally else []) ++ t) (sym (append-nil (warning_lines seen.tally.warned)));
+    around = by_dump refl refl refl;
+  }
+  dump_told (Some width) None = bare_told
+  dump_told None capabilities = bare_told
 
-summary_told : (told : Summary) → IsWithin told.tally.warned (ended_by told).reasons
-summary_told told =
-    if_told told.tally.warned (is_empty told.missing) (dump_outcome (refusal told.tally told.missing) told told.width (told.values 0 0xfe)) (refusal told.tally (told.missing ++ told.advice))
-    (dump_told_too told.tally.warned (refusal told.tally told.missing) told told.width (told.values 0 0xfe) (refusal_told told.tally told.missing) (remarks_told told.auto told.tally))
-    (refusal_told told.tally (told.missing ++ told.advice))
-
-ended_told : (auto : Bool) (supplied : Supplied) (seen : Seen) → IsWithin seen.tally.warned (ended auto supplied seen).reasons
-ended_told auto supplied seen = summary_told (summary_of auto supplied (findings_of seen) seen.tally)
+  end_told : IsWithin auto supplied seen (ended auto supplied seen)
+  end_told = by (is_empty told.missing)
+    where
+      by : (test : Bool) → IsWithin auto supplied seen (if test then dump_outcome (refusal seen.tally told.missing) told told.width (told.values 0 0xfe) else refusal seen.tally (told.missing ++ told.advice))
+      by true = dump_told told.width (told.values 0 0xfe)
+      by false = refused_told told.advice (inr refl)
 
 module _ (choice : Choice) (supplied : Supplied) (text : List ℕ) where
   abbrev facts : List Fact
   facts = shown (format_of choice) text
 
-  abbrev end : Outcome
-  end = ended (is_auto choice) supplied (seen_of choice text)
+  abbrev start : Seen
+  start = nothing_seen (format_of choice)
 
-  record Tells (told : Outcome) : Type 0 where
-    warned : Warned
-    within : IsWithin warned told.reasons
-    only : (warning : Warning) (number : ℕ) → line_warned warned warning ≡ Some number → IsWarned choice text warning number
-    each : told.status ≢ BadText → (warning : Warning) (number : ℕ) → IsWarned choice text warning number → IsSome (line_warned warned warning)
+  abbrev read : List Fact
+  read = facts_read choice supplied text
 
-  by_fault : (fault : Option ImportFault) → Tells (unless fault (till_of choice supplied text) end)
-  by_fault (Some fault) = record {
-    warned = till_of choice supplied text;
-    within = record { before = []; others = fault_line fault; whole_is = refl };
-    only = λ warning number is. none_first warning number facts (format_of choice) (only_till warning number supplied facts (nothing_seen (format_of choice)) is);
-    each = λ fine. absurd (fine refl);
-  }
-  by_fault None = record {
-    warned = (seen_of choice text).tally.warned;
-    within = ended_told (is_auto choice) supplied (seen_of choice text);
-    only = λ warning number is. none_first warning number facts (format_of choice) (only_after warning number facts (nothing_seen (format_of choice)) is);
-    each = λ fine warning number are. now_warned facts (nothing_seen (format_of choice)) warning number are;
-  }
+  only_read : (warned : Warned) → warned ≡ (seen_after start read).tally.warned → (warning : Warning) (number : ℕ) → line_warned warned warning ≡ Some number → AreWarning read warning number
+  only_read warned same warning number is = none_first warning number read (format_of choice) (only_after warning number read start (ap (λ w. line_warned w warning) (sym same) ∙ is))
+
+  each_read : (warned : Warned) → warned ≡ (seen_after start read).tally.warned → (warning : Warning) (number : ℕ) → AreWarning read warning number → IsSome (line_warned warned warning)
+  each_read warned same warning number are = subst (λ w. IsSome (line_warned w warning)) (sym same) (now_warned read start warning number are)
+
+  around_end : (end_of : Outcome) (before others : List ℕ) → log_outcome choice supplied text ≡ end_of → AreAroundEnd (is_auto choice) supplied (seen_of choice text) end_of before others → AreAround choice supplied text before others
+  around_end end_of before others is (by_dump status front back) = beside_dump (ap (λ (o : Outcome). o.status) is ∙ status) front back
+  around_end end_of before others is (by_missing status front advice back which) = beside_missing (ap (λ (o : Outcome). o.status) is ∙ status) front advice back which
+
+  by_fault : (fault : Option ImportFault) → fault_of choice supplied text ≡ fault → TellsWarnings choice supplied text
+  by_fault (Some fault) found =
+      let is : log_outcome choice supplied text ≡ unless (Some fault) (till_of choice supplied text) (ended (is_auto choice) supplied (seen_of choice text)) =
+      ap (λ f. unless f (till_of choice supplied text) (ended (is_auto choice) supplied (seen_of choice text))) found in
+      record {
+        warned = till_of choice supplied text;
+        before = [];
+        others = fault_line fault;
+        reasons_are = ap (λ (o : Outcome). o.reasons) is;
+        around = beside_fault (ap (λ (o : Outcome). o.status) is) refl fault found refl;
+        only = only_read (till_of choice supplied text) (read_till supplied start facts);
+        each = each_read (till_of choice supplied text) (read_till supplied start facts);
+        all = λ fine. absurd (fine (ap (λ (o : Outcome). o.status) is));
+      }
+  by_fault None found =
+      let is : log_outcome choice supplied text ≡ ended (is_auto choice) supplied (seen_of choice text) =
+      ap (λ f. unless f (till_of choice supplied text) (ended (is_auto choice) supplied (seen_of choice text))) found in
+      let within = end_told (is_auto choice) supplied (seen_of choice text) in
+      let all : read ≡ facts = read_all supplied start facts found in
+      let same : (seen_of choice text).tally.warned ≡ (seen_after start read).tally.warned = ap (λ fs. (seen_after start fs).tally.warned) (sym all) in
+      record {
+        warned = (seen_of choice text).tally.warned;
+        before = within.before;
+        others = within.others;
+        reasons_are = ap (λ (o : Outcome). o.reasons) is ∙ within.whole_is;
+        around = around_end (ended (is_auto choice) supplied (seen_of choice text)) within.before within.others is within.around;
+        only = only_read (seen_of choice text).tally.warned same;
+        each = each_read (seen_of choice text).tally.warned same;
+        all = λ fine. all;
+      }
 
   pub warnings_told : TellsWarnings choice supplied text
-  warnings_told =
-      let tells = by_fault (fault_of choice supplied text) in
-      record { warned = tells.warned; before = tells.within.before; others = tells.within.others; reasons_are = tells.within.whole_is; only = tells.only; each = tells.each }
+  warnings_told = by_fault (fault_of choice supplied text) refl

@@ -20,8 +20,8 @@ use Rattle.mt_import.specs.declared.shape.Slot.{Slot}
 use Rattle.mt_import.specs.Readings.{Fact, is_fault, is_line, is_register_value, is_warning, is_width}
 use Rattle.mt_import.specs.Slot.{all_bits, blank_slot, clashes, is_whole, slot_with}
 use Rattle.mt_import.specs.Supplied.{Supplied, bits_differ, differs, supplied_value}
-use Rattle.mt_import.specs.Values.{is_pair_number}
-use Rattle.mt_import.specs.Outcome.{Seen, capability_rival, count_of, count_rival, counted, counts_fewer, last_shown, least_count, capabilities_shown, fact_fault, facts_fault, fix_shown, fixed_rival, lacks_fix, last_fixed_line, processors, ranged_rival, reading_fault, rival, seen_after, seen_with, shows_fixed, shows_no_fix, slot_shown, uncounted_rival, width_fault}
+use Rattle.mt_import.specs.Values.{is_pair_number, lacks_fix}
+use Rattle.mt_import.specs.Outcome.{Seen, capability_rival, count_of, count_rival, counted, counts_fewer, last_shown, least_count, capabilities_shown, fact_fault, facts_fault, fix_shown, fixed_rival, last_fixed_line, processors, ranged_rival, reading_fault, rival, seen_after, seen_with, shows_fixed, shows_no_fix, slot_shown, uncounted_rival, width_fault}
 use Rattle.mt_import_laws.specs.Origins.{IsAmong}
 use Rattle.mt_import_laws.specs.Printed.{Agrees, Key, number_at, value_in}
 use Rattle.mt_import_laws.proofs.Keys.{IsKey, same_key, value_at_key}

@@ -1,4 +1,5 @@
 pub mod Origins
+pub mod Missing
 pub mod Notes
 pub mod Warnings
 pub mod Worked
@@ -7,6 +8,7 @@ pub mod Returns
 pub mod FirstLine
 pub mod Spare
 pub mod Alone
+pub mod Assumptions
 pub mod Printed
 pub mod PrintedByInteltool
 pub mod PrintedByCoreboot

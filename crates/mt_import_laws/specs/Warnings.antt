@@ -1,14 +1,17 @@
 -- What lines of a log warn of, and where it is told (own).
---     TellsWarnings choice supplied text      what lines warn of is told, and nothing else
-use Rattle.std.specs.Prelude.{ℕ, ◌≡◌, ◌≢◌, ◌+◌, ⊤, true, false, List, ◌∷◌, ◌++◌, length, Option, Some, None, IsSome}
-use Rattle.mt_ports.specs.declared.status.Status.TheVariants.{BadText}
+--     facts_read choice supplied text      what is read of a log
+--     TellsWarnings choice supplied text      what lines warn of is told at every status, and nothing else
+use Rattle.std.specs.Prelude.{ℕ, ◌≡◌, ◌≢◌, ◌⊎◌, ◌+◌, ⊤, true, false, List, [], ◌∷◌, ◌++◌, length, if◌then◌else◌, Option, Some, None, is_some, IsSome}
+use Rattle.mt_ports.specs.declared.status.Status.TheVariants.{BadText, Done, Refused}
 use Rattle.mt_text.specs.Text.{is_too_long, lines_of}
 use Rattle.mt_import.specs.declared.format.Choice.{Choice}
 use Rattle.mt_import.specs.declared.format.Format.{Format}
 use Rattle.mt_import.specs.declared.reading.LineSays.TheVariants.{Nothing}
 use Rattle.mt_import.specs.Readings.{starts, Fact, is_register_value, is_warning}
-use Rattle.mt_import.specs.Shown.{chosen, format_of, said_by_line, unmarked, shown}
-use Rattle.mt_import_laws.specs.Origins.{context_after_lines, IsAmong}
+use Rattle.mt_import.specs.Shown.{chosen, format_of, is_auto, said_by_line, unmarked, shown}
+use Rattle.mt_import.specs.Outcome.{Seen, advice_of, count_line, fact_fault, facts_fault, fault_line, findings_of, missing_of, nothing_seen, seen_with}
+use Rattle.mt_import_laws.specs.Origins.{context_after_lines, IsAmong, seen_of}
+use Rattle.mt_import.specs.declared.fault.ImportFault.{ImportFault}
 use Rattle.mt_import.specs.declared.shape.Reading.{Reading}
 use Rattle.mt_import.specs.declared.shape.Warned.{Warned}
 use Rattle.mt_import.specs.declared.shape.Warning.{Warning}
@@ -41,11 +44,35 @@ pub data AreWarning (facts : List Fact) (warning : Warning) (number : ℕ) : Typ
 abbrev pub IsWarned : Choice → List ℕ → Warning → ℕ → Type 0
 IsWarned choice text warning number = AreWarning (shown (format_of choice) text) warning number
 
--- Reasons have a line for each kind of warning: those that lines warn of, with such a line's number, and no others. Behind a fault lines may be missing.
+-- the facts before the first fault
+abbrev pub read_of : Supplied → Seen → List Fact → List Fact
+read_of supplied seen [] = []
+read_of supplied seen (fact ∷ facts) = if is_some (fact_fault supplied seen fact) then [] else fact ∷ read_of supplied (seen_with seen fact) facts
+
+-- What is read of a log: all that its lines show, or else what they show before the first fault.
+abbrev pub facts_read : Choice → Supplied → List ℕ → List Fact
+facts_read choice supplied text = read_of supplied (nothing_seen (format_of choice)) (shown (format_of choice) text)
+
+-- what stands on standard error in front of warnings and behind them
+pub data AreAround (choice : Choice) (supplied : Supplied) (text : List ℕ) (before others : List ℕ) : Type 0 where
+  beside_dump : (log_outcome choice supplied text).status ≡ Done → before ≡ (if is_auto choice then count_line (seen_of choice text).tally else []) → others ≡ []
+      → AreAround choice supplied text before others
+  beside_missing : (log_outcome choice supplied text).status ≡ Refused → before ≡ count_line (seen_of choice text).tally → (advice : List ℕ)
+      → others ≡ missing_of supplied (findings_of (seen_of choice text)) ++ advice
+      → (advice ≡ []) ⊎ (advice ≡ advice_of (is_auto choice) supplied (findings_of (seen_of choice text)))
+      → AreAround choice supplied text before others
+  beside_fault : (log_outcome choice supplied text).status ≡ BadText → before ≡ [] → (fault : ImportFault)
+      → facts_fault supplied (nothing_seen (format_of choice)) (shown (format_of choice) text) ≡ Some fault → others ≡ fault_line fault
+      → AreAround choice supplied text before others
+
+-- At every status reasons have a line for each kind of warning that what is read has, with the number of such a line, in the order of the kinds, and no
+-- other. The texts around them are given too. Without a fault all is read.
 pub record TellsWarnings (choice : Choice) (supplied : Supplied) (text : List ℕ) : Type 0 where
   pub warned : Warned
   pub before : List ℕ
   pub others : List ℕ
   pub reasons_are : (log_outcome choice supplied text).reasons ≡ before ++ (warning_lines warned ++ others)
-  pub only : (warning : Warning) (number : ℕ) → line_warned warned warning ≡ Some number → IsWarned choice text warning number
-  pub each : (log_outcome choice supplied text).status ≢ BadText → (warning : Warning) (number : ℕ) → IsWarned choice text warning number → IsSome (line_warned warned warning)
+  pub around : AreAround choice supplied text before others
+  pub only : (warning : Warning) (number : ℕ) → line_warned warned warning ≡ Some number → AreWarning (facts_read choice supplied text) warning number
+  pub each : (warning : Warning) (number : ℕ) → AreWarning (facts_read choice supplied text) warning number → IsSome (line_warned warned warning)
+  pub all : (log_outcome choice supplied text).status ≢ BadText → facts_read choice supplied text ≡ shown (format_of choice) text

@@ -1,5 +1,5 @@
 -- Logs of two lines that contradict each other, and others for which the premises of the laws hold (own).
-use Rattle.std.specs.Prelude.{ℕ, ◌≡◌, true, false, codes, List, [], ◌∷◌, ◌++◌, Some, None}
+use Rattle.std.specs.Prelude.{ℕ, ◌≡◌, true, false, codes, List, [], ◌∷◌, ◌++◌, Option, Some, None}
 use Rattle.mt_kinds.specs.Bits.{is_bit_set}
 use Rattle.mt_import.specs.declared.format.Choice.{Choice}
 use Rattle.mt_import.specs.declared.format.Choice.TheVariants.{Only}
@@ -89,6 +89,21 @@ second_boot = codes "\n\nMTRR default type: write-back\nreg00: base=0x000000000 
 -- a warning in a log of another format
 abbrev pub warning_log : List ℕ
 warning_log = codes "0x277 6\nmtrr: your CPUs had inconsistent variable MTRR settings\n"
+
+-- a warning in front of a contradiction, and one behind it
+abbrev pub late_log : List ℕ
+late_log = codes "mtrr: your BIOS has configured an incorrect mask, fixing it.\n0x277 6\n0x277 7\nmtrr: your CPUs had inconsistent variable MTRR settings\n"
+
+-- what the word `assume=pat` allows
+abbrev pub pat_allowed : Supplied
+pat_allowed = record nothing_supplied { assumed = record nothing_assumed { pat = true } }
+
+-- one processor's registers, of which none is known, and of which each is
+abbrev pub no_values : ℕ → ℕ → Option ℕ
+no_values k number = None
+
+abbrev pub all_values : ℕ → ℕ → Option ℕ
+all_values k number = Some 0
 
 pub record IsWorked : Type 0 where
   pub first : IsAmong first_reading (readings_of worked_choice worked_log)

@@ -9,15 +9,17 @@ ghost use Rattle.mt_import.specs.declared.shape.Pick.TheVariants.{Each};
 ghost use Rattle.mt_import.specs.declared.shape.Reading.{Reading};
 ghost use Rattle.mt_import.specs.declared.shape.Warning.{Warning};
 ghost use Rattle.mt_import.specs.Import.{log_outcome, outcome_of, tables_outcome};
-ghost use Rattle.mt_import.specs.Outcome.{Seen, Outcome, shows_fixed, shows_no_fix};
+ghost use Rattle.mt_import.specs.Outcome.{Seen, Outcome, shows_fixed, shows_no_fix, slot_shown};
 ghost use Rattle.mt_import.specs.Readings.{is_width};
 ghost use Rattle.mt_import.specs.Shown.{format_of, is_auto, shown};
 ghost use Rattle.mt_import.specs.Supplied.{Supplied, supplied_value};
 ghost use Rattle.mt_import_laws.specs.Alike.{AreAlikeLogs};
 ghost use Rattle.mt_import_laws.specs.Alone.{HasAlone, ReadsAll};
+ghost use Rattle.mt_import_laws.specs.Assumptions.{IsNamedValue};
 ghost use Rattle.mt_import_laws.specs.FirstLine.{ComeToSame, TellsFirst};
+ghost use Rattle.mt_import_laws.specs.Missing.{NamesMissing, NamesValues};
 ghost use Rattle.mt_import_laws.specs.Notes.{AreNoted};
-ghost use Rattle.mt_import_laws.specs.Origins.{Contradict, ContradictInCapabilities, ContradictsWord, CountsPair, HasOrigins, IsAmong, IsRead, LogSaysFixed, WidthOrigin, readings_of, seen_of};
+ghost use Rattle.mt_import_laws.specs.Origins.{Contradict, ContradictInCapabilities, ContradictsWord, CountsPair, HasOrigins, IsAmong, IsAssumed, IsRead, LogSaysFixed, WidthOrigin, readings_of, seen_of};
 ghost use Rattle.mt_import_laws.specs.Returns.{DifferInReturns};
 ghost use Rattle.mt_import_laws.specs.Spare.{ComeToSameWithout, HasSpareLine};
 ghost use Rattle.mt_import_laws.specs.Warnings.{HasWarning, IsWarned, TellsWarnings};
@@ -42,11 +44,29 @@ pub fn assumed_values_are_noted()
     ensures { (supplied : Supplied) (seen : Seen) (told : Outcome) (origins : HasOrigins supplied seen told) → AreNoted supplied seen origins.capabilities told.notes }
 {}
 
-/// What lines warn of is printed on standard error: each kind once, with the number of a line that warns of it, and no other.
-/// Beside a fault only what lines before it warn of. A line that says nothing else warns of what its words say.
+/// At every status what lines warn of is printed on standard error: each kind once, in the order of the kinds, with the number of a
+/// line that warns of it, and no other. Beside a fault it is what lines before it warn of. The texts around are the count of lines, what
+/// is missing, and the fault. A line that says nothing else warns of what its words say.
 pub fn warnings_are_told()
     ensures told { (choice : Choice) (supplied : Supplied) (text : List ℕ) → TellsWarnings choice supplied text }
     ensures read { (choice : Choice) (text : List ℕ) (warning : Warning) (has : HasWarning choice text warning) → IsWarned choice text warning (1 + length has.before) }
+{}
+
+/// Each register that a dump needs is named as missing if one of the processors lacks it, and no other register is.
+pub fn what_is_missing_is_named()
+    ensures { (supplied : Supplied) (seen : Seen) → NamesMissing supplied seen }
+{}
+
+/// The words that are tried have `VALUE` for each register that a processor would lack with all assumptions, and for no other. So if no
+/// word has it, all assumptions and a width give the log a dump's registers.
+pub fn what_is_tried_gives_the_others()
+    ensures { (supplied : Supplied) (seen : Seen) → NamesValues supplied seen }
+{}
+
+/// Each value that an assumption gives is one of those that are named for its register.
+pub fn assumed_values_are_named()
+    ensures { (supplied : Supplied) (seen : Seen) (processor number value : ℕ) → IsAssumed supplied seen processor number value
+        → IsNamedValue (slot_shown seen.readings processor) number value }
 {}
 
 /// What is shown of a register is shown by a line of the log, and is of the table that the last heading begins.

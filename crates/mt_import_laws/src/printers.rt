@@ -96,11 +96,13 @@ pub fn what_linux_prints_reads_back()
     ensures { (log : Log) (file : RegisterFile) (supplied : Supplied) → SuitsLinux log file supplied → TableReadsInOrder Linux (linux_lines log file) supplied file }
 {}
 
-/// The format of what inteltool, EDK2, coreboot and x86info print of a register file is told by its first line that tells one, so that
+/// The format of what inteltool, EDK2, coreboot, x86info, WinDbg and chipsec print of a register file is told by its first line that tells one, so that
 /// `auto` takes it. Of coreboot and x86info the line of 0FEH may not have `kernel:` where journalctl and syslog have it.
 pub fn auto_takes_what_is_printed()
     ensures inteltool { (names : Names) (file : RegisterFile) (supplied : Supplied) → SuitsInteltool names file supplied → LinesTellFirst Inteltool 1 (inteltool_lines names file) }
     ensures edk2 { (file : RegisterFile) (supplied : Supplied) → SuitsEdk2 file supplied → LinesTellFirst Edk2 1 (edk2_lines file) }
+    ensures windbg { (file : RegisterFile) (supplied : Supplied) → SuitsRdmsr file supplied → LinesTellFirst Windbg 1 (lines_by windbg_line file) }
+    ensures chipsec { (file : RegisterFile) (supplied : Supplied) → SuitsRdmsr file supplied → LinesTellFirst Chipsec 1 (lines_by chipsec_line file) }
     ensures coreboot { (leveled : Bool) (tails : Tails) (file : RegisterFile) (supplied : Supplied) → SuitsCoreboot tails file supplied
         → IsOfNoHost (coreboot_line leveled tails file None) → LinesTellFirst Coreboot 1 (coreboot_lines leveled tails file) }
     ensures x86info { (print : Print) (file : RegisterFile) (supplied : Supplied) → SuitsX86info print file supplied
@@ -119,6 +121,8 @@ pub fn worked_formats()
     ensures coreboot { LinesTellFirst Coreboot 1 (coreboot_lines true some_tails ordinary_pc) }
     ensures edk2 { LinesTellFirst Edk2 1 (edk2_lines ordinary_pc) }
     ensures xen { LinesTellFirst Xen 1 (xen_lines ordinary_pc) }
+    ensures windbg { LinesTellFirst Windbg 1 (lines_by windbg_line ordinary_pc) }
+    ensures chipsec { LinesTellFirst Chipsec 1 (lines_by chipsec_line ordinary_pc) }
     ensures linux { LinesTellFirst Linux 1 (linux_lines early_log ordinary_pc) }
     ensures other { LinesTellFirst Linux 1 (xen_lines ordinary_pc) → ⊥ }
     ensures of_coreboot { IsOfNoHost (coreboot_line true some_tails ordinary_pc None) }

@@ -3,14 +3,18 @@ ghost use Rattle.mt_text.specs.Text.{longest_line};
 ghost use Rattle.mt_import.specs.Readings.{starts};
 ghost use Rattle.mt_import.specs.declared.format.Choice.TheVariants.{Auto, Only};
 ghost use Rattle.mt_import.specs.declared.format.Format.TheVariants.{Linux, Rdmsr};
-ghost use Rattle.mt_import.specs.Supplied.{command_of};
+ghost use Rattle.mt_import.specs.Supplied.{command_of, nothing_supplied};
 ghost use Rattle.mt_import_laws.specs.Alone.{HasAlone};
-ghost use Rattle.mt_import_laws.specs.Origins.{context_after_lines};
+ghost use Rattle.mt_import_laws.specs.Origins.{IsAssumed, context_after_lines, seen_of};
 ghost use Rattle.mt_import_laws.specs.Returns.{DifferInReturns, GetsReturn};
-ghost use Rattle.mt_import_laws.specs.Worked.{IsWorked, IsWorkedFixed, IsWorkedSwitch, IsWorkedWord, headed_log, last_table, returned_log, second_boot, spaced_log, two_boots, warning_log, worked_choice, worked_log};
+ghost use Rattle.mt_import_laws.specs.Worked.{IsWorked, IsWorkedFixed, IsWorkedSwitch, IsWorkedWord, all_values, headed_log, last_table, late_log, no_values, pat_allowed, returned_log, second_boot, spaced_log, two_boots, warning_log, worked_choice, worked_log};
 ghost use Rattle.mt_import_laws.specs.Spare.{HasSpareLine, TakesNoneBack};
-ghost use Rattle.mt_import_laws.specs.Warnings.{HasWarning};
-ghost use Rattle.mt_import.specs.declared.shape.Warning.TheVariants.{Unlike};
+ghost use Rattle.mt_import_laws.specs.Warnings.{AreWarning, HasWarning, facts_read};
+ghost use Rattle.mt_import_laws.specs.Assumptions.{IsNamedValue};
+ghost use Rattle.mt_import_laws.specs.Missing.{NamesLacking, value_word_of};
+ghost use Rattle.mt_import.specs.Slot.{blank_slot};
+ghost use Rattle.mt_import.specs.Values.{linux_pat};
+ghost use Rattle.mt_import.specs.declared.shape.Warning.TheVariants.{Unlike, WrongMask};
 
 /// An instance of `contradictions_are_faults`: the lines of a log of two lines are read, and contradict each other.
 pub fn worked_contradiction()
@@ -35,6 +39,28 @@ pub fn worked_switch()
 /// An instance of `warnings_are_told`: a kernel's warning in a log of rdmsr.
 pub fn worked_warning()
     ensures { HasWarning worked_choice warning_log Unlike }
+{}
+
+/// Instances of `warnings_are_told` at status 3: what a line in front of the fault warns of is read, and not what a line behind it does.
+pub fn worked_late_warning()
+    ensures early { AreWarning (facts_read worked_choice nothing_supplied late_log) WrongMask 1 }
+    ensures late { AreWarning (facts_read worked_choice nothing_supplied late_log) Unlike 4 → ⊥ }
+{}
+
+/// Instances of `what_is_missing_is_named` and `what_is_tried_gives_the_others`: a register that a processor lacks is named. No text
+/// leaves it out, has another register in its place, or names one that each processor has.
+pub fn worked_missing()
+    ensures meets { NamesLacking no_values 1 (0x277 ∷ []) value_word_of (codes " 277=VALUE") }
+    ensures silent { NamesLacking no_values 1 (0x277 ∷ []) value_word_of [] → ⊥ }
+    ensures other { NamesLacking no_values 1 (0x277 ∷ []) value_word_of (codes " 2ff=VALUE") → ⊥ }
+    ensures known { NamesLacking all_values 1 (0x277 ∷ []) value_word_of (codes " 277=VALUE") → ⊥ }
+{}
+
+/// Instances of `assumed_values_are_named`: the PAT of a log of Linux. A PAT of 0 isn't named, nor is a register 10H.
+pub fn worked_assumption()
+    ensures meets { IsAssumed pat_allowed (seen_of (Only Linux) []) 0 0x277 linux_pat }
+    ensures value { IsNamedValue (λ number. blank_slot) 0x277 0 → ⊥ }
+    ensures number { IsNamedValue (λ number. blank_slot) 0x10 0 → ⊥ }
 {}
 
 /// An instance of `returns_change_nothing`: a line of a log gets a CR. One that stays gets none, and none is a second one or past the longest line.

@@ -1,12 +1,13 @@
 // What contradicts a reading: a word of the command line, or a line before.
 ghost use Rattle.std.specs.Prelude.{◌≡◌, ◌≤◌, ◌<◌, bit_or, None, IfSome};
 ghost use Rattle.mt_regs.specs.RegisterFile.{low_byte};
-ghost use Rattle.mt_import.specs.Outcome.{capability_rival, contradiction, count_rival, counted, counts_fewer, fix_shown, fixed_rival, fixless_rival, lacks_fix, pairs_fault, ranged_rival, reading_fault, rival, shows_no_fix, slot_shown, uncounted_rival, width_rival};
+ghost use Rattle.mt_import.specs.Outcome.{capability_rival, contradiction, count_rival, counted, counts_fewer, fix_shown, fixed_rival, fixless_rival, pairs_fault, ranged_rival, reading_fault, rival, shows_no_fix, slot_shown, uncounted_rival, width_rival};
 ghost use Rattle.mt_import.specs.Supplied.{bits_differ, differs};
 ghost use Rattle.mt_import.specs.Reader.{HasSlot, IsOfReadings, IsShort, MayKeep, pairs_after};
 
 use super::{LogReader, least_count, shows_fixed};
 use crate::shape::{LastPair, Reading, Slot};
+use crate::values::lacks_fix;
 use crate::{ImportFault, Rival, Supplied};
 use mt_kinds::is_bit_set;
 use mt_regs::{CAPABILITIES, MAX_PAIRS};
@@ -87,15 +88,6 @@ fn count_rival(capabilities: &Slot, last: Option<LastPair>, reading: &Reading) -
         capability_rival(capabilities, last, reading)
     } else {
         None
-    }
-}
-
-fn lacks_fix(capabilities: Option<u64>) -> bool
-    ensures { result ≡ lacks_fix capabilities }
-{
-    match capabilities {
-        Some(capabilities) => !is_bit_set(capabilities, FIX),
-        None => false,
     }
 }
 

@@ -1,6 +1,6 @@
 use Rattle.std.proofs.Common.{◌∙◌, ap, sym}
 use Rattle.mt_text.specs.Text.{end_of}
-use Rattle.mt_import.specs.Import.{answered, failed}
+use Rattle.mt_import.specs.Import.{failed}
 use Rattle.mt_import.proofs.Takes.{begins_log, log_course, tells_outcome}
 use Rattle.mt_import.proofs.command_reader.read_log.Goals as goal
 

@@ -14,4 +14,4 @@ pub returns-clause-windbg : goal.returns-clause-windbg
 returns-clause-windbg c = (refl, (refl, (refl, (refl, (refl, (refl, tt))))))
 
 pub returns-clause-plain : goal.returns-clause-plain
-returns-clause-plain c = (refl, (refl, (refl, (refl, (refl, (refl, (refl, (refl, (refl, (refl, (refl, (refl, (refl, (refl, tt))))))))))))))
+returns-clause-plain c = (refl, (refl, (refl, (refl, (refl, (refl, (refl, (refl, (refl, (refl, (refl, (refl, (refl, (refl, (refl, (refl, (refl, (refl, (refl, (refl, (refl, (refl, (refl, (refl, (refl, (refl, (refl, (refl, (refl, (refl, (refl, (refl, (refl, (refl, (refl, (refl, (refl, (refl, (refl, (refl, (refl, (refl, tt))))))))))))))))))))))))))))))))))))))))))

@@ -14,6 +14,8 @@ returns c = record {
   coreboot = inl refl;
   edk2 = inr (record { none = refl; alike = says_same refl }, inr (record { none = refl; alike = says_same refl }, inl refl));
   xen = inl refl;
+  windbg = inl refl;
+  chipsec = inl refl;
   linux = inl refl;
   other = λ first. elim first [
     | inl told ↦ cc told

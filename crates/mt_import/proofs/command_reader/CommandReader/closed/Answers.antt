@@ -1,4 +1,4 @@
-use Rattle.std.proofs.Common.{◌≡◌, ◌∙◌, ap, sym}
+use Rattle.std.proofs.Common.{◌∙◌, ap, sym}
 use Rattle.mt_import.specs.LogTables.{has_picked, missing_table}
 use Rattle.mt_import.specs.Outcome.{refusal}
 use Rattle.mt_import.specs.Tries.{Tried}

@@ -12,6 +12,6 @@ returns c =
     ∙ ap (λ a. or_supplied a c.assumed_value.result) c.firm_value.ensures
     ∙ ap (or_supplied (firm_value c.args.supplied.now slots c.args.number)) (
     c.assumed_value.ensures
-    ∙ ap (λ a. assumed_value a slots (record { width = c.width-width.result; format = c.args.self.now.tally.format }) c.args.number) (c.assumed_of-assumed.ensures ∙ ap (assumed_of c.args.k) c.assumed.ensures)
-    ∙ ap (λ w. assumed_value (assumed_of c.args.k c.args.supplied.now.assumed) slots (record { width = w; format = c.args.self.now.tally.format }) c.args.number) c.width-width.ensures.width
+    ∙ ap (λ a. assumed_value a slots c.known.result c.args.number) (c.assumed_of-assumed.ensures ∙ ap (assumed_of c.args.k) c.assumed.ensures)
+    ∙ ap (λ known. assumed_value (assumed_of c.args.k c.args.supplied.now.assumed) slots known c.args.number) c.known.ensures.known
     )
