@@ -3,19 +3,18 @@ use Rattle.std.proofs.Common.{◌≡◌, ◌∙◌, ◌≤◌, ◌+◌, ◌-◌,
 use Rattle.std.specs.Prelude.{if◌then◌else◌}
 use Rattle.std.proofs.lemmas.Bool.{and_parts, cases_Bool, cases_lt}
 use Rattle.std.proofs.lemmas.Bool.Decides.{nat_tests}
-use Rattle.mt_memory.specs.declared.format.Claim.{Claim}
-use Rattle.mt_memory.specs.declared.kind.MemoryKind.{MemoryKind}
-use Rattle.mt_memory.specs.declared.kind.MemoryKind.TheVariants.{Ram, Reserved, Device, Acpi, Nvs, Unusable}
-use Rattle.mt_memory.specs.declared.kind.MemoryRange.{MemoryRange}
+use Rattle.mt_memory_kinds.specs.declared.kind.MemoryKind.{MemoryKind}
+use Rattle.mt_memory_kinds.specs.declared.kind.MemoryKind.TheVariants.{Ram, Reserved, Device, Acpi, Nvs, Unusable}
+use Rattle.mt_memory_kinds.specs.declared.kind.MemoryRange.{MemoryRange}
 use Rattle.mt_memory.specs.Laying.{goes_on, joined, joined_from}
-use Rattle.mt_memory.specs.Maps.{AreAscending, AreLongest, JoinedIsSame, kind_at, ranges_of}
-use Rattle.mt_memory.specs.Ranges.{is_kind, kind_number}
+use Rattle.mt_memory.specs.Maps.{AreLongest, JoinedIsSame}
+use Rattle.mt_memory_kinds.specs.Ranges.{AreAscending, is_kind, kind_at, kind_number}
 use Rattle.mt_memory.proofs.Laid.{is_over, is_under, is_within}
 
 -- ---- kinds by their numbers
 
 abbrev kind_by : ℕ → MemoryKind
-kind_by n = if n == 0 then Ram else if n == 1 then Reserved else if n == 2 then Device else if n == 3 then Acpi else if n == 4 then Nvs else Unusable
+kind_by n = if n == 0 then Ram else if n == 1 then Device else if n == 2 then Acpi else if n == 3 then Nvs else if n == 4 then Reserved else Unusable
 
 by_number : (kind : MemoryKind) → kind_by (kind_number kind) ≡ kind
 by_number Ram = refl
@@ -28,7 +27,7 @@ by_number Unusable = refl
 equal : (a b : ℕ) → (a == b) ≡ true → a ≡ b
 equal a b test = grind (arith, nat_tests, test)
 
-same_kind : (a b : MemoryKind) → is_kind a b ≡ true → a ≡ b
+pub same_kind : (a b : MemoryKind) → is_kind a b ≡ true → a ≡ b
 same_kind a b test = sym (by_number a) ∙ ap kind_by (equal (kind_number a) (kind_number b) test) ∙ by_number b
 
 -- ---- ranges that go on
@@ -54,17 +53,17 @@ module _ (range next : MemoryRange) (goes : goes_on range next ≡ true) where
 
 -- ---- order
 
-pub joined_from_order : (pieces : List Claim) (range : MemoryRange) (low : ℕ) → low ≤ range.first → range.first ≤ range.last → AreAscending (range.last + 1) (ranges_of pieces)
-    → AreAscending low (joined_from range pieces)
+pub joined_from_order : (ranges : List MemoryRange) (range : MemoryRange) (low : ℕ) → low ≤ range.first → range.first ≤ range.last → AreAscending (range.last + 1) ranges
+    → AreAscending low (joined_from range ranges)
 joined_from_order [] range low under order are = (under, order, tt)
-joined_from_order (piece ∷ pieces) range low under order are = elim (cases_Bool (goes_on range piece.range)) [
-  | inl goes ↦ rw goes (joined_from_order pieces (extended range piece.range) low under (omega (arith, order, are.0, are.1)) are.2)
-  | inr stops ↦ rw stops (under, order, joined_from_order pieces piece.range (range.last + 1) are.0 are.1 are.2)
+joined_from_order (next ∷ ranges) range low under order are = elim (cases_Bool (goes_on range next)) [
+  | inl goes ↦ rw goes (joined_from_order ranges (extended range next) low under (omega (arith, order, are.0, are.1)) are.2)
+  | inr stops ↦ rw stops (under, order, joined_from_order ranges next (range.last + 1) are.0 are.1 are.2)
 ]
 
-pub joined_order : (pieces : List Claim) → AreAscending 0 (ranges_of pieces) → AreAscending 0 (joined pieces)
+pub joined_order : (ranges : List MemoryRange) → AreAscending 0 ranges → AreAscending 0 (joined ranges)
 joined_order [] are = tt
-joined_order (piece ∷ pieces) are = joined_from_order pieces piece.range 0 are.0 are.1 are.2
+joined_order (next ∷ ranges) are = joined_from_order ranges next 0 are.0 are.1 are.2
 
 -- ---- longest
 
@@ -76,13 +75,13 @@ record BeginsAs (range : MemoryRange) (ranges : List MemoryRange) : Type 0 where
   first : head.first ≡ range.first
   kind : head.kind ≡ range.kind
 
-begins : (pieces : List Claim) (range : MemoryRange) → BeginsAs range (joined_from range pieces)
+begins : (ranges : List MemoryRange) (range : MemoryRange) → BeginsAs range (joined_from range ranges)
 begins [] range = record { head = range; tail = []; parts = refl; first = refl; kind = refl }
-begins (piece ∷ pieces) range = elim (cases_Bool (goes_on range piece.range)) [
+begins (next ∷ ranges) range = elim (cases_Bool (goes_on range next)) [
   | inl goes ↦
-      let rest = begins pieces (extended range piece.range) in
+      let rest = begins ranges (extended range next) in
       record { head = rest.head; tail = rest.tail; parts = rw goes rest.parts; first = rest.first; kind = rest.kind }
-  | inr stops ↦ record { head = range; tail = joined_from piece.range pieces; parts = rw stops refl; first = refl; kind = refl }
+  | inr stops ↦ record { head = range; tail = joined_from next ranges; parts = rw stops refl; first = refl; kind = refl }
 ]
 
 stops_at : (range next head : MemoryRange) → goes_on range next ≡ false → head.first ≡ next.first → head.kind ≡ next.kind → goes_on range head ≡ false
@@ -93,16 +92,16 @@ longest_from range ranges next begins stops are =
     let all : AreLongest (begins.head ∷ begins.tail) = rw begins.parts at are in
     rw begins.parts (stops_at range next begins.head stops begins.first begins.kind, all)
 
-pub joined_from_longest : (pieces : List Claim) (range : MemoryRange) → AreLongest (joined_from range pieces)
+pub joined_from_longest : (ranges : List MemoryRange) (range : MemoryRange) → AreLongest (joined_from range ranges)
 joined_from_longest [] range = tt
-joined_from_longest (piece ∷ pieces) range = elim (cases_Bool (goes_on range piece.range)) [
-  | inl goes ↦ rw goes (joined_from_longest pieces (extended range piece.range))
-  | inr stops ↦ rw stops (longest_from range (joined_from piece.range pieces) piece.range (begins pieces piece.range) stops (joined_from_longest pieces piece.range))
+joined_from_longest (next ∷ ranges) range = elim (cases_Bool (goes_on range next)) [
+  | inl goes ↦ rw goes (joined_from_longest ranges (extended range next))
+  | inr stops ↦ rw stops (longest_from range (joined_from next ranges) next (begins ranges next) stops (joined_from_longest ranges next))
 ]
 
-pub joined_longest : (pieces : List Claim) → AreLongest (joined pieces)
+pub joined_longest : (ranges : List MemoryRange) → AreLongest (joined ranges)
 joined_longest [] = tt
-joined_longest (piece ∷ pieces) = joined_from_longest pieces piece.range
+joined_longest (next ∷ ranges) = joined_from_longest ranges next
 
 -- ---- kinds
 
@@ -125,19 +124,19 @@ kind_at_two range next ranges byte goes order more =
 kind_behind : (range : MemoryRange) (xs ys : List MemoryRange) (byte : ℕ) → kind_at xs byte ≡ kind_at ys byte → kind_at (range ∷ xs) byte ≡ kind_at (range ∷ ys) byte
 kind_behind range xs ys byte same = rw same refl
 
-pub joined_from_kinds : (pieces : List Claim) (range : MemoryRange) (byte : ℕ) → range.first ≤ range.last → AreAscending (range.last + 1) (ranges_of pieces)
-    → kind_at (joined_from range pieces) byte ≡ kind_at (range ∷ ranges_of pieces) byte
+pub joined_from_kinds : (ranges : List MemoryRange) (range : MemoryRange) (byte : ℕ) → range.first ≤ range.last → AreAscending (range.last + 1) ranges
+    → kind_at (joined_from range ranges) byte ≡ kind_at (range ∷ ranges) byte
 joined_from_kinds [] range byte order are = refl
-joined_from_kinds (piece ∷ pieces) range byte order are = elim (cases_Bool (goes_on range piece.range)) [
+joined_from_kinds (next ∷ ranges) range byte order are = elim (cases_Bool (goes_on range next)) [
   | inl goes ↦
-      ap (λ test. kind_at (if test then joined_from (extended range piece.range) pieces else range ∷ joined_from piece.range pieces) byte) goes
-      ∙ joined_from_kinds pieces (extended range piece.range) byte (omega (arith, order, are.0, are.1)) are.2
-      ∙ kind_at_two range piece.range (ranges_of pieces) byte goes order are.1
+      ap (λ test. kind_at (if test then joined_from (extended range next) ranges else range ∷ joined_from next ranges) byte) goes
+      ∙ joined_from_kinds ranges (extended range next) byte (omega (arith, order, are.0, are.1)) are.2
+      ∙ kind_at_two range next ranges byte goes order are.1
   | inr stops ↦
-      ap (λ test. kind_at (if test then joined_from (extended range piece.range) pieces else range ∷ joined_from piece.range pieces) byte) stops
-      ∙ kind_behind range (joined_from piece.range pieces) (piece.range ∷ ranges_of pieces) byte (joined_from_kinds pieces piece.range byte are.1 are.2)
+      ap (λ test. kind_at (if test then joined_from (extended range next) ranges else range ∷ joined_from next ranges) byte) stops
+      ∙ kind_behind range (joined_from next ranges) (next ∷ ranges) byte (joined_from_kinds ranges next byte are.1 are.2)
 ]
 
 pub joined_is_same : JoinedIsSame
 joined_is_same [] byte are = refl
-joined_is_same (piece ∷ pieces) byte are = joined_from_kinds pieces piece.range byte are.1 are.2
+joined_is_same (next ∷ ranges) byte are = joined_from_kinds ranges next byte are.1 are.2

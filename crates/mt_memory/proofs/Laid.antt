@@ -5,10 +5,11 @@ use Rattle.std.specs.List.{filter_map}
 use Rattle.std.proofs.lemmas.Bool.{cases_lt}
 use Rattle.std.proofs.lemmas.Bool.Decides.{nat_tests}
 use Rattle.mt_memory.specs.declared.format.Claim.{Claim}
-use Rattle.mt_memory.specs.declared.kind.MemoryKind.{MemoryKind}
-use Rattle.mt_memory.specs.declared.kind.MemoryRange.{MemoryRange}
-use Rattle.mt_memory.specs.Laying.{laid, part_of}
-use Rattle.mt_memory.specs.Maps.{AreAscending, LaterCounts, has, kind_at, ranges_of}
+use Rattle.mt_memory_kinds.specs.declared.kind.MemoryKind.{MemoryKind}
+use Rattle.mt_memory_kinds.specs.declared.kind.MemoryRange.{MemoryRange}
+use Rattle.mt_memory.specs.Laying.{laid, part_of, ranges_of}
+use Rattle.mt_memory.specs.Maps.{LaterCounts}
+use Rattle.mt_memory_kinds.specs.Ranges.{AreAscending, has, kind_at}
 
 -- ---- tests
 

@@ -14,11 +14,11 @@ use Rattle.mt_rows.specs.declared.row.Fields.{Fields}
 use Rattle.mt_rows.specs.Scan.{is_within, items, no_fields, read_by, scan, scanned}
 use Rattle.mt_rows.specs.Printed.{fit, is_number, printed, shown}
 use Rattle.mt_rows.proofs.Prints.{printed_is_read}
-use Rattle.mt_memory.specs.declared.kind.MemoryKind.{MemoryKind}
-use Rattle.mt_memory.specs.declared.kind.MemoryKind.TheVariants.{Ram, Reserved, Device, Acpi, Nvs, Unusable}
-use Rattle.mt_memory.specs.declared.kind.MemoryRange.{MemoryRange}
+use Rattle.mt_memory_kinds.specs.declared.kind.MemoryKind.{MemoryKind}
+use Rattle.mt_memory_kinds.specs.declared.kind.MemoryKind.TheVariants.{Ram, Reserved, Device, Acpi, Nvs, Unusable}
+use Rattle.mt_memory_kinds.specs.declared.kind.MemoryRange.{MemoryRange}
 use Rattle.mt_memory.specs.declared.own_text.MapReader.{MapReader}
-use Rattle.mt_memory.specs.Maps.{AreAscending}
+use Rattle.mt_memory_kinds.specs.Ranges.{AreAscending}
 use Rattle.mt_memory.specs.MapText.{WrittenReadsBack, added, by_fields, by_range, by_words, follows, kind_name, kind_of, line_range, map_from, map_text, of_kind, of_numbers, range_line, range_row, range_word, reads_nothing, taken}
 use Rattle.mt_memory.specs.Steps.{and_then}
 

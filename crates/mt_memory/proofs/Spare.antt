@@ -1,5 +1,5 @@
 -- Lines that change nothing.
-use Rattle.std.proofs.Common.{◌≡◌, ◌∙◌, ◌≤◌, ◌&&◌, ℕ, Bool, true, false, not, nat_lt, List, [], ◌∷◌, ◌++◌, length, Option, Some, None, refl, sym, ap, arith, length-append}
+use Rattle.std.proofs.Common.{◌≡◌, ◌∙◌, ◌≤◌, ℕ, false, nat_lt, List, [], ◌∷◌, ◌++◌, length, Option, Some, None, Ok, refl, sym, ap, arith, length-append}
 use Rattle.std.proofs.lemmas.Bool.Decides.{nat_tests}
 use Rattle.mt_text.specs.Text.{is_too_long, without_return}
 use Rattle.mt_memory.specs.declared.format.Format.{Format}
@@ -8,12 +8,8 @@ use Rattle.mt_memory.specs.Log.{State, taken_in}
 use Rattle.mt_memory.specs.Maps.{ReturnsChangeNothing, SpareHeads, SpareLines}
 use Rattle.mt_memory.specs.Showing.{chosen, told_in}
 
-stays_open : (on : Bool) → (on && not false) ≡ on
-stays_open true = refl
-stays_open false = refl
-
 pub spare_lines : SpareLines
-spare_lines s format number line known short begins shows = rw (short, known, begins, shows, stays_open s.is_open) refl
+spare_lines s format number line known short begins shows = rw (short, known, begins, shows) refl
 
 pub spare_heads : SpareHeads
 spare_heads s number line short none = rw (short, none) refl
@@ -46,7 +42,7 @@ returns_nothing s number line plain short =
     let size = length-append line (13 ∷ []) in
     let long : is_too_long (line ++ 13 ∷ []) ≡ false = few (length (line ++ 13 ∷ [])) (omega (arith, size, short)) in
     let same : is_too_long line ≡ false = few (length line) (omega (arith, short)) in
-    rw (long, same, same_chosen line plain s.format number) (same_taken line plain s (chosen s.format number line) number)
+    rw (long, same, same_chosen line plain s.format number) (ap (λ next. Ok next) (same_taken line plain s (chosen s.format number line) number))
   where
     few : (count : ℕ) → count ≤ 4096 → nat_lt 4096 count ≡ false
     few count small = grind (arith, nat_tests, small)

@@ -8,7 +8,7 @@ use Rattle.mt_rows.specs.declared.row.Fields.{Fields}
 use Rattle.mt_rows.specs.declared.row.Run.{Run}
 use Rattle.mt_rows.specs.Scan.{Held, Part, parts_at, parts_in, scanned}
 use Rattle.mt_text.specs.Text.{is_blank}
-use Rattle.mt_memory.specs.declared.kind.MemoryKind.{MemoryKind}
+use Rattle.mt_memory_kinds.specs.declared.kind.MemoryKind.{MemoryKind}
 use Rattle.mt_memory.specs.declared.table.Ends.{Ends}
 use Rattle.mt_memory.specs.declared.table.Front.{Front}
 

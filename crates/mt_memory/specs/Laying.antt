@@ -1,13 +1,14 @@
 -- What the ranges that lines show come to, one laid over the other (own).
 --     laid claim pieces      the pieces behind one more line, which counts before those that were there
 --     overlapped claim pieces      the first of the pieces that has a byte of the line's range
---     joined pieces      their ranges, where those of one kind that touch are one
-use Rattle.std.specs.Prelude.{ℕ, ◌+◌, ◌-◌, ◌==◌, ◌&&◌, nat_le, nat_lt, Bool, true, false, List, [], ◌∷◌, ◌++◌, if◌then◌else◌, Option, Some, None}
+--     ranges_of pieces      their ranges
+--     joined ranges      the same ranges, where those of one kind that touch are one
+use Rattle.std.specs.Prelude.{ℕ, ◌+◌, ◌-◌, ◌==◌, ◌&&◌, nat_le, nat_lt, Bool, true, false, List, [], ◌∷◌, ◌++◌, map, if◌then◌else◌, Option, Some, None}
 use Rattle.std.specs.List.{filter_map}
 use Rattle.mt_memory.specs.declared.format.Claim.{Claim}
 use Rattle.mt_memory.specs.declared.format.Overlap.{Overlap}
-use Rattle.mt_memory.specs.declared.kind.MemoryRange.{MemoryRange}
-use Rattle.mt_memory.specs.Ranges.{is_kind}
+use Rattle.mt_memory_kinds.specs.declared.kind.MemoryRange.{MemoryRange}
+use Rattle.mt_memory_kinds.specs.Ranges.{is_kind}
 
 -- ---- pieces: ranges of lines, cut where a later line shows their bytes
 
@@ -43,18 +44,21 @@ overlapped claim [] = None
 overlapped claim (piece ∷ pieces) =
     if meets claim.range piece then Some (record { line = claim.place.line; earlier = piece.place.line }) else overlapped claim pieces
 
+abbrev pub ranges_of : List Claim → List MemoryRange
+ranges_of pieces = map (λ piece. piece.range) pieces
+
 -- ---- longest ranges
 
 abbrev pub goes_on : MemoryRange → MemoryRange → Bool
 goes_on range next = is_kind range.kind next.kind && nat_lt range.last next.first && next.first - range.last == 1
 
-abbrev pub joined_from : MemoryRange → List Claim → List MemoryRange
+abbrev pub joined_from : MemoryRange → List MemoryRange → List MemoryRange
 joined_from range [] = range ∷ []
-joined_from range (piece ∷ pieces) =
-    if goes_on range piece.range
-    then joined_from (record { first = range.first; last = piece.range.last; kind = range.kind }) pieces
-    else range ∷ joined_from piece.range pieces
+joined_from range (next ∷ ranges) =
+    if goes_on range next
+    then joined_from (record { first = range.first; last = next.last; kind = range.kind }) ranges
+    else range ∷ joined_from next ranges
 
-abbrev pub joined : List Claim → List MemoryRange
+abbrev pub joined : List MemoryRange → List MemoryRange
 joined [] = []
-joined (piece ∷ pieces) = joined_from piece.range pieces
+joined (range ∷ ranges) = joined_from range ranges

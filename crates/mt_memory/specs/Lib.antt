@@ -1,10 +1,12 @@
+pub mod Command
 pub mod Finding
+pub mod Help
 pub mod Laying
 pub mod Log
 pub mod Maps
 pub mod MapText
+pub mod Outcome
 pub mod Pages
-pub mod Ranges
 pub mod Showing
 pub mod Steps
 pub mod Worked

@@ -1,38 +1,66 @@
 -- What the lines of a log come to (own).
 --     log_map format which text      the map that a log shows, or the first fault
 --     taken state number line      what a line of this number makes of what the lines before it lead to
-use Rattle.std.specs.Prelude.{ℕ, ◌==◌, ◌&&◌, nat_lt, not, Bool, true, false, List, [], length, if◌then◌else◌, Option, Some, None, Result, Ok, Err}
+use Rattle.std.specs.Prelude.{ℕ, ◌-◌, ◌==◌, ◌&&◌, nat_lt, Bool, true, false, List, [], length, if◌then◌else◌, Option, Some, None, Result, Ok, Err}
 use Rattle.mt_ports.specs.Causes.{one_more}
 use Rattle.mt_text.specs.Text.{end_of, is_too_long, lines_of, past_limit}
 use Rattle.mt_text.specs.declared.place.Place.{Place}
 use Rattle.mt_memory.specs.declared.format.Claim.{Claim}
 use Rattle.mt_memory.specs.declared.format.Format.{Format}
 use Rattle.mt_memory.specs.declared.format.MapFault.{MapFault}
-use Rattle.mt_memory.specs.declared.format.MapFault.TheVariants.{LongLine, SecondMap, TooManyRanges, NoMap}
+use Rattle.mt_memory.specs.declared.format.MapFault.TheVariants.{LongLine, TooManyRanges, SeveralMaps, NoMap}
+use Rattle.mt_memory.specs.declared.format.MapsBegun.{MapsBegun}
 use Rattle.mt_memory.specs.declared.format.MemoryMap.{MemoryMap}
 use Rattle.mt_memory.specs.declared.format.Overlap.{Overlap}
 use Rattle.mt_memory.specs.declared.format.Shown.{Shown}
 use Rattle.mt_memory.specs.declared.format.Shown.TheVariants.{Nothing, Range, Fault}
+use Rattle.mt_memory.specs.declared.format.UnderWay.{UnderWay}
+use Rattle.mt_memory.specs.declared.format.UnderWay.TheVariants.{Between, Other, Wanted}
 use Rattle.mt_memory.specs.declared.format.WhichMap.{WhichMap}
 use Rattle.mt_memory.specs.declared.format.WhichMap.TheVariants.{Sole, Last, Number}
-use Rattle.mt_memory.specs.Laying.{joined, laid, overlapped}
+use Rattle.mt_memory.specs.Laying.{joined, laid, overlapped, ranges_of}
 use Rattle.mt_memory.specs.Showing.{begins_map, chosen, shown_in}
-use Rattle.mt_memory.specs.Steps.{and_then, run_from}
+use Rattle.mt_memory.specs.Steps.{run_from}
 
--- What the lines before a line lead to.
+-- ---- the lines of one map
+
+-- What they come to: the pieces of their ranges, the first line that shows bytes of a line before it, and the first fault.
+pub record Settled : Type 0 where
+  pub pieces : List Claim
+  pub overlap : Option Overlap
+  pub fault : Option MapFault
+
+abbrev pub nothing_settled : Settled
+nothing_settled = record { pieces = []; overlap = None; fault = None }
+
+abbrev pub overlap_or : Option Overlap → Option Overlap → Option Overlap
+overlap_or (Some overlap) later = Some overlap
+overlap_or None later = later
+
+abbrev pub with_claim : Settled → Claim → Settled
+with_claim s claim =
+    if nat_lt 512 (length (laid claim s.pieces)) then record s { fault = Some (TooManyRanges claim.place) }
+    else record s { pieces = laid claim s.pieces; overlap = overlap_or s.overlap (overlapped claim s.pieces) }
+
+-- Nothing counts behind a fault.
+abbrev pub settled_by : Option MapFault → Settled → Shown → Settled
+settled_by (Some fault) s shown = s
+settled_by None s Nothing = s
+settled_by None s (Range claim) = with_claim s claim
+settled_by None s (Fault fault) = record s { fault = Some fault }
+
+abbrev pub settled_with : Settled → Shown → Settled
+settled_with s shown = settled_by s.fault s shown
+
+-- ---- what the lines before a line lead to
+
 pub record State : Type 0 where
   pub which : WhichMap
   pub format : Option Format  -- the format, if it is known
-  pub is_open : Bool  -- a map is under way
-  pub maps : ℕ  -- how many maps have begun
-  pub from : ℕ  -- the line in which the last of them begins
-  pub pieces : List Claim  -- what the wanted map has so far
-  pub overlap : Option Overlap  -- its first line that shows bytes of a line before it
-
-abbrev pub starts : Option Format → WhichMap → State
-starts format which = record { which = which; format = format; is_open = false; maps = 0; from = 0; pieces = []; overlap = None }
-
--- ---- maps: one begins with the first range of all, and with the first behind each heading
+  pub begun : MapsBegun
+  pub under_way : UnderWay
+  pub ahead : ℕ  -- how many maps begin up to the wanted one, unless that is the last
+  pub wanted : Settled
 
 abbrev pub is_sole : WhichMap → Bool
 is_sole Sole = true
@@ -44,69 +72,83 @@ is_last Last = true
 is_last Sole = false
 is_last (Number number) = false
 
--- that of this number is wanted
-abbrev pub is_wanted : WhichMap → ℕ → Bool
-is_wanted Sole map = true
-is_wanted Last map = true
-is_wanted (Number number) map = number == map
+abbrev pub number_of : WhichMap → ℕ
+number_of Sole = 1
+number_of Last = 0
+number_of (Number number) = number
+
+abbrev pub none_begun : MapsBegun
+none_begun = record { count = 0; first = 0; last = 0 }
+
+-- those behind one more that begins in a line
+abbrev pub begun_with : MapsBegun → ℕ → MapsBegun
+begun_with begun line = record { count = one_more begun.count; first = if begun.count == 0 then line else begun.first; last = line }
+
+abbrev pub is_between : UnderWay → Bool
+is_between Between = true
+is_between Other = false
+is_between Wanted = false
+
+abbrev pub is_wanted : UnderWay → Bool
+is_wanted Wanted = true
+is_wanted Between = false
+is_wanted Other = false
+
+abbrev pub starts : Option Format → WhichMap → State
+starts format which = record { which = which; format = format; begun = none_begun; under_way = Between; ahead = number_of which; wanted = nothing_settled }
+
+-- ---- maps: one begins with the first range of all, and with the first behind each heading
 
 -- The last map takes the place of those before it.
-abbrev pub opened : State → Place → State
-opened s place = record s {
-  is_open = true;
-  maps = one_more s.maps;
-  from = place.line;
-  pieces = if is_last s.which then [] else s.pieces;
-  overlap = if is_last s.which then None else s.overlap;
-}
+abbrev pub opened : State → ℕ → State
+opened s line =
+    if is_last s.which then record s { begun = begun_with s.begun line; under_way = Wanted; wanted = nothing_settled }
+    else record s { begun = begun_with s.begun line; under_way = if s.ahead == 1 then Wanted else Other; ahead = s.ahead - 1 }
 
-abbrev pub begun : State → Place → Result State MapFault
-begun s place =
-    if s.is_open then Ok s
-    else if is_sole s.which && nat_lt 0 s.maps then Err (SecondMap place s.from)
-    else Ok (opened s place)
+abbrev pub begun_at : State → ℕ → State
+begun_at s line = if is_between s.under_way then opened s line else s
 
--- ---- ranges
-
-abbrev pub overlap_or : Option Overlap → Option Overlap → Option Overlap
-overlap_or (Some overlap) later = Some overlap
-overlap_or None later = later
-
-abbrev pub with_claim : State → Claim → State
-with_claim s claim = record s { pieces = laid claim s.pieces; overlap = overlap_or s.overlap (overlapped claim s.pieces) }
-
-abbrev pub fitting : State → Place → Result State MapFault
-fitting s place = if nat_lt 512 (length s.pieces) then Err (TooManyRanges place) else Ok s
-
-abbrev pub laid_in : State → Claim → Result State MapFault
-laid_in s claim = if is_wanted s.which s.maps then fitting (with_claim s claim) claim.place else Ok s
+abbrev pub with_shown : State → Shown → State
+with_shown s shown = if is_wanted s.under_way then record s { wanted = settled_with s.wanted shown } else s
 
 -- ---- a line
 
-abbrev pub taken_shown : State → Shown → Result State MapFault
-taken_shown s Nothing = Ok s
-taken_shown s (Range claim) = and_then (begun s claim.place) (λ begun. laid_in begun claim)
-taken_shown s (Fault fault) = Err fault
+abbrev pub taken_shown : State → Shown → ℕ → State
+taken_shown s Nothing line = s
+taken_shown s (Range claim) line = with_shown (begun_at s line) (Range claim)
+taken_shown s (Fault fault) line = with_shown (begun_at s line) (Fault fault)
 
 -- The line is of a format, and may be a heading.
 abbrev pub headed : State → Format → Bool → State
-headed s format begins = record s { format = Some format; is_open = s.is_open && not begins }
+headed s format begins = record s { format = Some format; under_way = if begins then Between else s.under_way }
 
-abbrev pub taken_in : State → Option Format → ℕ → List ℕ → Result State MapFault
-taken_in s None number line = Ok s
-taken_in s (Some format) number line = taken_shown (headed s format (begins_map format line)) (shown_in format number line)
+abbrev pub taken_in : State → Option Format → ℕ → List ℕ → State
+taken_in s None number line = s
+taken_in s (Some format) number line = taken_shown (headed s format (begins_map format line)) (shown_in format number line) number
 
 abbrev pub taken : State → ℕ → List ℕ → Result State MapFault
-taken s number line =
-    if is_too_long line then Err (LongLine (past_limit number)) else taken_in s (chosen s.format number line) number line
+taken s number line = if is_too_long line then Err (LongLine (past_limit number)) else Ok (taken_in s (chosen s.format number line) number line)
 
 -- ---- all lines
 
-abbrev pub finished : State → Place → Result MemoryMap MapFault
-finished s end = if length s.pieces == 0 then Err (NoMap end s.maps) else Ok (record { ranges = record { items = joined s.pieces }; overlap = s.overlap })
+abbrev pub map_of_pieces : Option Format → Settled → MapsBegun → Result MemoryMap MapFault
+map_of_pieces None s begun = Err (NoMap begun)
+map_of_pieces (Some format) s begun =
+    if length s.pieces == 0 then Err (NoMap begun) else Ok (record { format = format; ranges = record { items = joined (ranges_of s.pieces) }; overlap = s.overlap })
+
+-- A fault of the map that is wanted comes first, and then several maps where one is.
+abbrev pub finished_by : Option MapFault → State → Result MemoryMap MapFault
+finished_by (Some fault) s = Err fault
+finished_by None s = if is_sole s.which && nat_lt 1 s.begun.count then Err (SeveralMaps s.begun) else map_of_pieces s.format s.wanted s.begun
+
+abbrev pub finished : State → Result MemoryMap MapFault
+finished s = finished_by s.wanted.fault s
+
+abbrev pub ended : State → Place → Result MemoryMap MapFault
+ended s end = finished s
 
 abbrev pub log_from : State → ℕ → List (List ℕ) → Place → Result MemoryMap MapFault
-log_from = run_from taken finished
+log_from = run_from taken ended
 
 abbrev pub log_map : Option Format → WhichMap → List ℕ → Result MemoryMap MapFault
 log_map format which text = log_from (starts format which) 1 (lines_of text) (end_of text)

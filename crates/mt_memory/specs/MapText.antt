@@ -11,15 +11,15 @@ use Rattle.mt_rows.specs.Scan.{Part, parts_in, scanned}
 use Rattle.mt_text.specs.Text.{end_of, is_too_long, lines_of, past_limit}
 use Rattle.mt_text.specs.Words.{first_words, place_of, text_of}
 use Rattle.mt_text.specs.declared.place.Place.{Place}
-use Rattle.mt_memory.specs.declared.kind.MemoryKind.{MemoryKind}
-use Rattle.mt_memory.specs.declared.kind.MemoryKind.TheVariants.{Ram, Reserved, Device, Acpi, Nvs, Unusable}
-use Rattle.mt_memory.specs.declared.kind.MemoryRange.{MemoryRange}
+use Rattle.mt_memory_kinds.specs.declared.kind.MemoryKind.{MemoryKind}
+use Rattle.mt_memory_kinds.specs.declared.kind.MemoryKind.TheVariants.{Ram, Reserved, Device, Acpi, Nvs, Unusable}
+use Rattle.mt_memory_kinds.specs.declared.kind.MemoryRange.{MemoryRange}
 use Rattle.mt_memory.specs.declared.map_fault.MapTextFault.{MapTextFault}
 use Rattle.mt_memory.specs.declared.map_fault.MapTextReason.{MapTextReason}
 use Rattle.mt_memory.specs.declared.map_fault.MapTextReason.TheVariants.{LongLine, BadRange, Backward, NoKind, BadKind, ExtraWord, NotAscending, TooManyRanges}
 use Rattle.mt_memory.specs.declared.own_text.MapReader.{MapReader}
 use Rattle.mt_memory.specs.declared.own_text.TheConstants.{RANGE}
-use Rattle.mt_memory.specs.Maps.{AreAscending}
+use Rattle.mt_memory_kinds.specs.Ranges.{AreAscending}
 use Rattle.mt_memory.specs.Steps.{run_from}
 
 -- ---- writing

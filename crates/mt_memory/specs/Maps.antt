@@ -1,38 +1,89 @@
--- What holds of a map (own).
---     kind_at ranges byte      the kind of a byte, if a range has it
---     AreAscending low ranges      ranges from this byte on, in ascending order, of which no two share a byte
+-- What holds of a map, and the maps of a log (own).
 --     AreLongest ranges      no two neighbours of one kind touch
-use Rattle.std.specs.Prelude.{ℕ, ◌≡◌, ◌≤◌, ◌<◌, ◌+◌, ◌&&◌, nat_le, Bool, true, false, List, [], ◌∷◌, ◌++◌, length, map, if◌then◌else◌, Option, Some, None, Ok, ⊤}
+--     maps_of format lines      what the lines of each map show
+--     kind_shown known shown byte      the kind of a byte behind lines that show this
+use Rattle.std.specs.Prelude.{ℕ, ◌≡◌, ◌≤◌, ◌<◌, ◌+◌, ◌-◌, ◌==◌, Bool, false, List, [], ◌∷◌, ◌++◌, length, if◌then◌else◌, Option, Some, None, Ok, ⊤}
 use Rattle.mt_text.specs.Text.{is_too_long, lines_of, without_return}
 use Rattle.mt_memory.specs.declared.format.Claim.{Claim}
 use Rattle.mt_memory.specs.declared.format.Format.{Format}
 use Rattle.mt_memory.specs.declared.format.MemoryMap.{MemoryMap}
-use Rattle.mt_memory.specs.declared.format.Shown.TheVariants.{Nothing, Range}
+use Rattle.mt_memory.specs.declared.format.Shown.{Shown}
+use Rattle.mt_memory.specs.declared.format.Shown.TheVariants.{Nothing, Range, Fault}
 use Rattle.mt_memory.specs.declared.format.WhichMap.{WhichMap}
-use Rattle.mt_memory.specs.declared.kind.MemoryKind.{MemoryKind}
-use Rattle.mt_memory.specs.declared.kind.MemoryRange.{MemoryRange}
-use Rattle.mt_memory.specs.Laying.{goes_on, joined, laid}
+use Rattle.mt_memory.specs.declared.format.WhichMap.TheVariants.{Sole, Last, Number}
+use Rattle.mt_memory_kinds.specs.declared.kind.MemoryKind.{MemoryKind}
+use Rattle.mt_memory_kinds.specs.declared.kind.MemoryRange.{MemoryRange}
+use Rattle.mt_memory.specs.Laying.{goes_on, joined, laid, ranges_of}
+use Rattle.mt_memory_kinds.specs.Ranges.{AreAscending, has, kind_at}
 use Rattle.mt_memory.specs.Log.{State, log_map, taken}
 use Rattle.mt_memory.specs.Showing.{begins_map, chosen, shown_in}
-
-abbrev pub has : MemoryRange → ℕ → Bool
-has range byte = nat_le range.first byte && nat_le byte range.last
-
-abbrev pub kind_at : List MemoryRange → ℕ → Option MemoryKind
-kind_at [] byte = None
-kind_at (range ∷ ranges) byte = if has range byte then Some range.kind else kind_at ranges byte
-
-abbrev pub AreAscending : ℕ → List MemoryRange → Type 0
-AreAscending low [] = ⊤
-AreAscending low (range ∷ ranges) = (low ≤ range.first) × (range.first ≤ range.last) × AreAscending (range.last + 1) ranges
 
 abbrev pub AreLongest : List MemoryRange → Type 0
 AreLongest [] = ⊤
 AreLongest (range ∷ []) = ⊤
 AreLongest (range ∷ next ∷ ranges) = (goes_on range next ≡ false) × AreLongest (next ∷ ranges)
 
-abbrev pub ranges_of : List Claim → List MemoryRange
-ranges_of pieces = map (λ piece. piece.range) pieces
+-- ---- the maps of a log
+
+-- the format that is known behind lines, of which the first has this number
+abbrev pub log_format : Option Format → ℕ → List (List ℕ) → Option Format
+log_format known number [] = known
+log_format known number (line ∷ lines) = log_format (chosen known number line) (number + 1) lines
+
+-- What lines show, cut at the headings: that of each map before the last heading, and that since. Nothing between two headings is no map.
+pub record Cut : Type 0 where
+  pub done : List (List Shown)
+  pub now : List Shown
+
+abbrev pub added : List (List Shown) → List Shown → List (List Shown)
+added done [] = done
+added done (shown ∷ more) = done ++ (shown ∷ more) ∷ []
+
+abbrev pub cut_at : Bool → Cut → Cut
+cut_at begins cut = if begins then record { done = added cut.done cut.now; now = [] } else cut
+
+abbrev pub cut_with : Cut → Shown → Cut
+cut_with cut Nothing = cut
+cut_with cut (Range claim) = record cut { now = cut.now ++ Range claim ∷ [] }
+cut_with cut (Fault fault) = record cut { now = cut.now ++ Fault fault ∷ [] }
+
+abbrev pub cut_line : Format → Cut → ℕ → List ℕ → Cut
+cut_line format cut number line = cut_with (cut_at (begins_map format line) cut) (shown_in format number line)
+
+abbrev pub cut_lines : Format → Cut → ℕ → List (List ℕ) → Cut
+cut_lines format cut number [] = cut
+cut_lines format cut number (line ∷ lines) = cut_lines format (cut_line format cut number line) (number + 1) lines
+
+abbrev pub maps_in : Cut → List (List Shown)
+maps_in cut = added cut.done cut.now
+
+abbrev pub nothing_cut : Cut
+nothing_cut = record { done = []; now = [] }
+
+abbrev pub maps_of : Format → List (List ℕ) → List (List Shown)
+maps_of format lines = maps_in (cut_lines format nothing_cut 1 lines)
+
+-- the map of a number, counted from 1
+abbrev pub map_at : ℕ → List (List Shown) → List Shown
+map_at number [] = []
+map_at number (map ∷ maps) = if number == 1 then map else map_at (number - 1) maps
+
+abbrev pub last_of : List (List Shown) → List Shown
+last_of [] = []
+last_of (map ∷ []) = map
+last_of (map ∷ next ∷ maps) = last_of (next ∷ maps)
+
+abbrev pub picked : WhichMap → List (List Shown) → List Shown
+picked Sole maps = map_at 1 maps
+picked Last maps = last_of maps
+picked (Number number) maps = map_at number maps
+
+-- the kind of a byte behind lines that show this: each one that has the byte gives it its kind
+abbrev pub kind_shown : Option MemoryKind → List Shown → ℕ → Option MemoryKind
+kind_shown known [] byte = known
+kind_shown known (Nothing ∷ shown) byte = kind_shown known shown byte
+kind_shown known (Range claim ∷ shown) byte = kind_shown (if has claim.range byte then Some claim.range.kind else known) shown byte
+kind_shown known (Fault fault ∷ shown) byte = kind_shown known shown byte
 
 -- ---- laws
 
@@ -43,29 +94,19 @@ LaterCounts = (claim : Claim) (pieces : List Claim) (byte : ℕ) → claim.range
 
 -- Joined ranges give each byte the kind that it had.
 abbrev pub JoinedIsSame : Type 0
-JoinedIsSame = (pieces : List Claim) (byte : ℕ) → AreAscending 0 (ranges_of pieces) → kind_at (joined pieces) byte ≡ kind_at (ranges_of pieces) byte
+JoinedIsSame = (ranges : List MemoryRange) (byte : ℕ) → AreAscending 0 ranges → kind_at (joined ranges) byte ≡ kind_at ranges byte
 
--- A line of a text shows in a format that a byte is of a kind.
-pub record IsShown (format : Format) (text : List ℕ) (byte : ℕ) (kind : MemoryKind) : Type 0 where
-  pub before : List (List ℕ)
-  pub line : List ℕ
-  pub after : List (List ℕ)
-  pub is_line : lines_of text ≡ before ++ line ∷ after
-  pub claim : Claim
-  pub shows : shown_in format (length before + 1) line ≡ Range claim
-  pub has_byte : has claim.range byte ≡ true
-  pub is_of_kind : claim.range.kind ≡ kind
-
--- The map of a log in a format, where this one may be named: its ranges ascend, they are the longest, and lines of the log show each of their bytes.
-pub record IsMapOf (named : Option Format) (text : List ℕ) (ranges : List MemoryRange) : Type 0 where
-  pub ascending : AreAscending 0 ranges
-  pub longest : AreLongest ranges
-  pub format : Format
-  pub is_named : (f : Format) → named ≡ Some f → f ≡ format
-  pub origins : (byte : ℕ) (kind : MemoryKind) → kind_at ranges byte ≡ Some kind → IsShown format text byte kind
+-- The map of a log: its ranges ascend and are the longest, and a byte has the kind that the last line shows that has it, of the lines of the map
+-- that is wanted. Other bytes have none.
+pub record IsMapOf (named : Option Format) (which : WhichMap) (lines : List (List ℕ)) (found : MemoryMap) : Type 0 where
+  pub ascending : AreAscending 0 found.ranges.items
+  pub longest : AreLongest found.ranges.items
+  pub format : log_format named 1 lines ≡ Some found.format
+  pub sole : which ≡ Sole → length (maps_of found.format lines) ≤ 1
+  pub kinds : (byte : ℕ) → kind_at found.ranges.items byte ≡ kind_shown None (picked which (maps_of found.format lines)) byte
 
 abbrev pub MapsAreShown : Type 0
-MapsAreShown = (named : Option Format) (which : WhichMap) (text : List ℕ) (found : MemoryMap) → log_map named which text ≡ Ok found → IsMapOf named text found.ranges.items
+MapsAreShown = (named : Option Format) (which : WhichMap) (text : List ℕ) (found : MemoryMap) → log_map named which text ≡ Ok found → IsMapOf named which (lines_of text) found
 
 -- A line that begins no map and shows nothing changes nothing.
 abbrev pub SpareLines : Type 0

@@ -17,7 +17,7 @@ use Rattle.mt_memory.specs.declared.format.Format.TheVariants as format
 use Rattle.mt_memory.specs.declared.format.MapFault.TheVariants.{Backward, Hidden, UnknownKind}
 use Rattle.mt_memory.specs.declared.format.Shown.{Shown}
 use Rattle.mt_memory.specs.declared.format.Shown.TheVariants.{Nothing, Range, Fault}
-use Rattle.mt_memory.specs.declared.kind.MemoryKind.{MemoryKind}
+use Rattle.mt_memory_kinds.specs.declared.kind.MemoryKind.{MemoryKind}
 use Rattle.mt_memory.specs.declared.table.Ends.{Ends}
 use Rattle.mt_memory.specs.declared.table.Ends.TheVariants.{Last, LastBeforeSize, LastOrHidden, Behind}
 use Rattle.mt_memory.specs.declared.table.Front.{Front}

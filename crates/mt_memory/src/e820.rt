@@ -1,6 +1,6 @@
 use crate::MemoryKind;
 use crate::table::{Ends, Front, Table};
-use mt_rows::{BLANKS, DECIMAL, HEX, HEX_16, Run};
+use mt_rows::{BLANKS, DECIMAL, HEX, HEX_16, Run, SPACE, WORD};
 
 /// The lines of Linux behind `BIOS-e820:`, and those of Xen's console.
 #[rattlefmt::skip]
@@ -11,9 +11,13 @@ pub const E820: Table<'static> = (
         // `BIOS-e820: 0000000000000000 - 000000000009fc00 (usable)`
         (&[(b"BIOS-e820:", Run::Nothing)], Front::Word, &[(b"", HEX_16), (b"", BLANKS), (b"-", BLANKS), (b"", HEX_16)], Ends::Behind),
         // `(XEN)  [0000000000000000, 000000000009fbff] (usable)`
-        (&[(b"(XEN)", Run::Nothing)], Front::Word, &[(b"[", HEX_16), (b",", BLANKS), (b"", HEX_16), (b"]", Run::Nothing)], Ends::Last),
+        (&[(b"(XEN)", BLANKS), (b"[", HEX_16), (b",", BLANKS), (b"", HEX_16), (b"]", Run::Nothing)], Front::Word, &[(b"[", HEX_16), (b",", BLANKS), (b"", HEX_16), (b"]", Run::Nothing)], Ends::Last),
+        // `(XEN) [    0.000000]  [0000000000000000, 000000000009fbff] (usable)`
+        (&[(b"(XEN)", BLANKS), (b"[", SPACE), (b"", DECIMAL), (b".", DECIMAL), (b"]", BLANKS), (b"[", HEX_16), (b",", BLANKS), (b"", HEX_16), (b"]", Run::Nothing)], Front::Word, &[(b"[", HEX_16), (b",", BLANKS), (b"", HEX_16), (b"]", Run::Nothing)], Ends::Last),
+        // `(XEN) [2026-12-01 08:00:01]  [0000000000000000, 000000000009fbff] (usable)`
+        (&[(b"(XEN)", BLANKS), (b"[", DECIMAL), (b"-", WORD), (b"", BLANKS), (b"", WORD), (b"", BLANKS), (b"[", HEX_16), (b",", BLANKS), (b"", HEX_16), (b"]", Run::Nothing)], Front::Word, &[(b"[", HEX_16), (b",", BLANKS), (b"", HEX_16), (b"]", Run::Nothing)], Ends::Last),
         // `(XEN)  0000000000000000 - 000000000009fc00 (usable)`
-        (&[(b"(XEN)", Run::Nothing)], Front::Word, &[(b"", HEX_16), (b"", BLANKS), (b"-", BLANKS), (b"", HEX_16)], Ends::Behind),
+        (&[(b"(XEN)", BLANKS), (b"", HEX_16), (b"", BLANKS), (b"-", BLANKS), (b"", HEX_16)], Front::Word, &[(b"", HEX_16), (b"", BLANKS), (b"-", BLANKS), (b"", HEX_16)], Ends::Behind),
     ],
     &[
         (&[(b"usable", Run::Nothing)], MemoryKind::Ram),
@@ -33,6 +37,8 @@ pub const E820: Table<'static> = (
     ],
     &[
         // `BIOS-provided physical RAM map:`, or `Xen-e820 RAM map:` of Xen
-        &[(b"RAM", BLANKS), (b"map:", Run::End)],
+        &[(b"RAM", BLANKS), (b"map:", SPACE), (b"", Run::End)],
+        // `Dom0 memory map:` of Xen, whose map is that of the first guest
+        &[(b"Dom", DECIMAL), (b"", BLANKS), (b"memory", BLANKS), (b"map:", SPACE), (b"", Run::End)],
     ],
 );

@@ -17,11 +17,30 @@ pub enum Format {
 /// Which of a log's maps is read.
 #[derive(Clone, Copy)]
 pub enum WhichMap {
-    /// The only one. That there are several is a fault.
+    /// The only one. Several are a fault.
     Sole,
     Last,
     /// That of this number, counted from 1.
     Number(u64),
+}
+
+/// The maps of a log that have begun. One begins with the first range of all, and with the first behind each heading.
+#[derive(Clone, Copy)]
+pub struct MapsBegun {
+    pub count: u64,
+    /// The line of the first one's first range, or 0 if none has begun.
+    pub first: u64,
+    /// That of the last one's.
+    pub last: u64,
+}
+
+/// Whether a map is under way, and whether it is the wanted one.
+#[derive(Clone, Copy)]
+pub enum UnderWay {
+    /// None is: no range was shown since the last heading.
+    Between,
+    Other,
+    Wanted,
 }
 
 /// Why a log shows no map, and where.
@@ -35,12 +54,12 @@ pub enum MapFault {
     UnknownKind(Place),
     /// `/proc/iomem` hides its numbers from all but root.
     Hidden(Place),
-    /// A second map begins here. The first begins in the line of this number.
-    SecondMap(Place, u64),
     /// The map has more than 512 ranges.
     TooManyRanges(Place),
-    /// The log ends here without the map. It has so many maps.
-    NoMap(Place, u64),
+    /// The log has several maps, and none is named.
+    SeveralMaps(MapsBegun),
+    /// The log has no map, or not the one that is named.
+    NoMap(MapsBegun),
 }
 
 /// A range that a line shows, and where.
@@ -68,6 +87,7 @@ pub struct Overlap {
 /// The map that a log shows.
 #[derive(Drop)]
 pub struct MemoryMap {
+    pub format: Format,
     /// Neighbours of one kind don't touch.
     pub ranges: Ranges,
     /// The first line that shows bytes of a line before it.

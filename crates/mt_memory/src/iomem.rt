@@ -1,13 +1,16 @@
 use crate::MemoryKind;
 use crate::table::{Ends, Front, Table};
-use mt_rows::{BLANKS, HEX, Run, WORD};
+use mt_rows::{BLANKS, Kind, Run, WORD};
+
+// Linux writes eight digits at least.
+const LONG_HEX: Run = Run::Of(Kind::Hexadecimal, 8, 16);
 
 /// The lines of `/proc/iomem` that begin without a blank. Behind blanks stand parts of what is above them.
 #[rattlefmt::skip]
 pub const IOMEM: Table<'static> = (
     &[
         // `00001000-0009fbff : System RAM`
-        (&[(b"", HEX), (b"-", HEX), (b"", BLANKS), (b":", Run::Nothing)], Front::Start, &[(b"", HEX), (b"-", HEX)], Ends::LastOrHidden),
+        (&[(b"", LONG_HEX), (b"-", LONG_HEX), (b"", BLANKS), (b":", Run::Nothing)], Front::Start, &[(b"", LONG_HEX), (b"-", LONG_HEX)], Ends::LastOrHidden),
     ],
     &[
         (&[(b":", BLANKS), (b"System", BLANKS), (b"RAM", Run::Nothing)], MemoryKind::Ram),
@@ -25,6 +28,6 @@ pub const IOMEM: Table<'static> = (
     ],
     &[
         // Linux reserves the first page, so each map begins there.
-        &[(b"00000000-", HEX), (b"", BLANKS), (b":", Run::Nothing)],
+        &[(b"00000000-", LONG_HEX), (b"", BLANKS), (b":", Run::Nothing)],
     ],
 );

@@ -1,7 +1,9 @@
 ghost use Rattle.mt_memory.specs.MapText.{WrittenReadsBack};
 ghost use Rattle.mt_memory.specs.Maps.{JoinedIsSame, LaterCounts, MapsAreShown, ReturnsChangeNothing, SpareHeads, SpareLines};
+ghost use Rattle.mt_memory.specs.Pages.{PagesAreOfKinds};
 
-/// Each byte of a log's map is of the kind that some line shows. The ranges ascend, and are the longest.
+/// A byte of a log's map has the kind that the last line shows that has it, of the lines of the map that is wanted. The ranges
+/// ascend, and are the longest.
 pub fn maps_are_shown_by_lines()
     ensures { MapsAreShown }
 {}
@@ -14,6 +16,11 @@ pub fn the_later_line_counts()
 /// Joined ranges give each byte the kind that it had.
 pub fn joined_ranges_give_the_same_kinds()
     ensures { JoinedIsSame }
+{}
+
+/// The pages of ranges in ascending order are longest runs, in which each page has the kind that it is of.
+pub fn pages_are_of_kinds()
+    ensures { PagesAreOfKinds }
 {}
 
 /// A line that begins no map and shows nothing changes nothing.

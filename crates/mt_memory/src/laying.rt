@@ -1,6 +1,6 @@
 ghost use Rattle.std.specs.Prelude.{◌≡◌, ◌≤◌, ◌+◌, ◌++◌, length};
 ghost use Rattle.std.specs.List.{filter_map};
-ghost use Rattle.mt_memory.specs.Laying.{above, below, cut, goes_on, joined, laid, meets, overlapped, part_of};
+ghost use Rattle.mt_memory.specs.Laying.{above, below, cut, goes_on, joined, laid, meets, overlapped, part_of, ranges_of};
 
 use crate::format::{Claim, Overlap};
 use crate::{MemoryRange, Ranges};
@@ -115,22 +115,36 @@ fn goes_on(range: &MemoryRange, next: &MemoryRange) -> bool
     range.kind.is(next.kind) && range.last < next.first && next.first - range.last == 1
 }
 
-/// The ranges of pieces, where those of one kind that touch are one.
-pub(crate) fn joined(pieces: &[Claim]) -> Ranges
+/// The ranges of pieces.
+pub(crate) fn ranges_of(pieces: &[Claim]) -> Ranges
     requires { length pieces.now ≤ 512 }
-    ensures { result.items ≡ joined pieces.now }
+    ensures ranges { result.items ≡ ranges_of pieces.now }
+    ensures few { length result.items ≤ 512 }
 {
     let mut list = ArrayVec::new();
-    let Some((first, rest)) = pieces.split_first() else {
+    'pieces: for piece in pieces {
+        list.push(piece.range);
+    }
+    list
+}
+
+/// Ranges, where those of one kind that touch are one.
+pub(crate) fn joined(ranges: &[MemoryRange]) -> Ranges
+    requires { length ranges.now ≤ 512 }
+    ensures ranges { result.items ≡ joined ranges.now }
+    ensures few { length result.items ≤ 512 }
+{
+    let mut list = ArrayVec::new();
+    let Some((first, rest)) = ranges.split_first() else {
         return list;
     };
-    let mut range = first.range;
-    'pieces: for piece in rest {
-        if goes_on(&range, &piece.range) {
-            range.last = piece.range.last;
+    let mut range = *first;
+    'nexts: for next in rest {
+        if goes_on(&range, next) {
+            range.last = next.last;
         } else {
             list.push(range);
-            range = piece.range;
+            range = *next;
         }
     }
     list.push(range);

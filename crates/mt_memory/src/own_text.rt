@@ -31,41 +31,39 @@ fn is_word(name: &[u8], word: &[u8]) -> bool
     word == name
 }
 
-impl MemoryKind {
-    /// The kind's name in a map's text.
-    pub fn name(self) -> &'static [u8]
-        ensures name { result.now ≡ kind_name self }
-        ensures few { length result.now ≤ 8 }
-    {
-        match self {
-            MemoryKind::Ram => b"ram",
-            MemoryKind::Reserved => b"reserved",
-            MemoryKind::Device => b"device",
-            MemoryKind::Acpi => b"acpi",
-            MemoryKind::Nvs => b"nvs",
-            MemoryKind::Unusable => b"unusable",
-        }
+/// The name of a kind in a map's text.
+pub fn kind_name(kind: MemoryKind) -> &'static [u8]
+    ensures name { result.now ≡ kind_name kind }
+    ensures few { length result.now ≤ 8 }
+{
+    match kind {
+        MemoryKind::Ram => b"ram",
+        MemoryKind::Reserved => b"reserved",
+        MemoryKind::Device => b"device",
+        MemoryKind::Acpi => b"acpi",
+        MemoryKind::Nvs => b"nvs",
+        MemoryKind::Unusable => b"unusable",
     }
+}
 
-    /// The kind of this name.
-    pub fn of(word: &[u8]) -> Option<MemoryKind>
-        ensures { result ≡ kind_of word.now }
-    {
-        if is_word(b"ram", word) {
-            Some(MemoryKind::Ram)
-        } else if is_word(b"reserved", word) {
-            Some(MemoryKind::Reserved)
-        } else if is_word(b"device", word) {
-            Some(MemoryKind::Device)
-        } else if is_word(b"acpi", word) {
-            Some(MemoryKind::Acpi)
-        } else if is_word(b"nvs", word) {
-            Some(MemoryKind::Nvs)
-        } else if is_word(b"unusable", word) {
-            Some(MemoryKind::Unusable)
-        } else {
-            None
-        }
+/// The kind of this name.
+pub fn kind_of(word: &[u8]) -> Option<MemoryKind>
+    ensures { result ≡ kind_of word.now }
+{
+    if is_word(b"ram", word) {
+        Some(MemoryKind::Ram)
+    } else if is_word(b"reserved", word) {
+        Some(MemoryKind::Reserved)
+    } else if is_word(b"device", word) {
+        Some(MemoryKind::Device)
+    } else if is_word(b"acpi", word) {
+        Some(MemoryKind::Acpi)
+    } else if is_word(b"nvs", word) {
+        Some(MemoryKind::Nvs)
+    } else if is_word(b"unusable", word) {
+        Some(MemoryKind::Unusable)
+    } else {
+        None
     }
 }
 
@@ -91,7 +89,7 @@ fn range_line(range: &MemoryRange) -> LineText
     text.push(b'-');
     put(&mut text, &value_text(range.last));
     text.push(b' ');
-    put(&mut text, range.kind.name());
+    put(&mut text, kind_name(range.kind));
     text.push(b'\n');
     text
 }
@@ -148,7 +146,7 @@ fn by_fields(words: &Words<'_>, fields: Option<Fields>) -> Result<MemoryRange, M
     if words.count() == 1 {
         return Err(fault_at(MapTextReason::NoKind, words.place(0)));
     }
-    let Some(kind) = MemoryKind::of(words.text(1)) else {
+    let Some(kind) = kind_of(words.text(1)) else {
         return Err(fault_at(MapTextReason::BadKind, words.place(1)));
     };
     if words.count() > 2 {

@@ -1,17 +1,15 @@
-ghost use Rattle.std.specs.Prelude.{◌≡◌, ◌<◌, ◌↔◌, ℕ, List, [], length, Some, IfOk, IsErrOf};
+ghost use Rattle.std.specs.Prelude.{◌≡◌, ◌<◌, ◌↔◌, ◌-◌, ℕ, List, [], length, Some, IfOk, IsErrOf};
 ghost use Rattle.mt_ports.specs.Causes.{Rose, one_more};
 ghost use Rattle.mt_text.specs.Feed.{GaveTooMuch};
 ghost use Rattle.mt_text.specs.Text.{longest_input};
 ghost use Rattle.mt_text.specs.declared.fault.FeedFault.{FeedFault};
 ghost use Rattle.mt_memory.specs.Showing.{chosen};
 ghost use Rattle.mt_memory.specs.Steps.{Becomes};
-ghost use Rattle.mt_memory.specs.Log.{begun, finished, headed, is_last, is_sole, is_wanted, laid_in, log_map, opened, starts, taken, taken_shown};
+ghost use Rattle.mt_memory.specs.Log.{begun_with, finished, headed, is_between, is_last, is_sole, is_wanted, log_map, none_begun, number_of, opened, starts, taken, taken_shown};
 
-use crate::format::{Claim, Format, MapFault, MemoryMap, Overlap, Shown, WhichMap};
-use crate::kind::MOST_RANGES;
-use crate::laying::{Pieces, joined, laid, overlapped};
+use crate::format::{Format, MapFault, MapsBegun, MemoryMap, Shown, UnderWay, WhichMap};
+use crate::settled::Settled;
 use crate::showing::{begins_map, chosen, shown_in};
-use arrayvec::ArrayVec;
 use mt_ports::Source;
 use mt_text::{FeedFault, Line, LineReader, Place, read_lines};
 use std::marker::Model;
@@ -22,24 +20,19 @@ pub struct LogReader {
     which: WhichMap,
     // the format, if it is known
     format: Option<Format>,
-    // whether a map is under way, how many have begun, and the line in which the last begins
-    is_open: bool,
-    maps: u64,
-    from: u64,
-    // what the wanted map has so far
-    pieces: Pieces,
-    overlap: Option<Overlap>,
+    begun: MapsBegun,
+    under_way: UnderWay,
+    // how many maps begin up to the wanted one, unless that is the last
+    ahead: u64,
+    wanted: Settled,
 }
 
 impl Model for LogReader {
-    ghost use Rattle.std.specs.Prelude.{◌≤◌, length};
     ghost use Rattle.mt_memory.specs.Log.{State};
 
     ghost Value = { State };
 
-    ghost view = { λ r. record { which = r.which; format = r.format; is_open = r.is_open; maps = r.maps; from = r.from; pieces = r.pieces.items; overlap = r.overlap } };
-
-    ghost invariant = { λ r. length r.pieces.items ≤ 512 };
+    ghost view = { λ r. record { which = r.which; format = r.format; begun = r.begun; under_way = r.under_way; ahead = r.ahead; wanted = r.wanted } };
 }
 
 impl WhichMap {
@@ -55,13 +48,37 @@ impl WhichMap {
         matches!(self, WhichMap::Last)
     }
 
-    // Whether the map of this number is wanted.
-    fn is_wanted(self, map: u64) -> bool
-        ensures { result ≡ is_wanted self map }
+    // How many maps begin up to it.
+    fn number(self) -> u64
+        ensures { result ≡ number_of self }
     {
         match self {
-            WhichMap::Number(number) => number == map,
-            _ => true,
+            WhichMap::Sole => 1,
+            WhichMap::Last => 0,
+            WhichMap::Number(number) => number,
+        }
+    }
+}
+
+impl MapsBegun {
+    fn none() -> MapsBegun
+        ensures { result ≡ none_begun }
+    {
+        MapsBegun {
+            count: 0,
+            first: 0,
+            last: 0,
+        }
+    }
+
+    // Those behind one more that begins in a line.
+    fn with(self, line: u64) -> MapsBegun
+        ensures { result ≡ begun_with self line }
+    {
+        MapsBegun {
+            count: one_more(self.count),
+            first: if self.count == 0 { line } else { self.first },
+            last: line,
         }
     }
 }
@@ -72,6 +89,26 @@ fn one_more(count: u64) -> u64
     if count < u64::MAX { count + 1 } else { count }
 }
 
+fn one_less(count: u64) -> u64
+    ensures { result ≡ count - 1 }
+{
+    if count > 0 { count - 1 } else { 0 }
+}
+
+impl UnderWay {
+    fn is_between(self) -> bool
+        ensures { result ≡ is_between self }
+    {
+        matches!(self, UnderWay::Between)
+    }
+
+    fn is_wanted(self) -> bool
+        ensures { result ≡ is_wanted self }
+    {
+        matches!(self, UnderWay::Wanted)
+    }
+}
+
 impl LogReader {
     /// A reader that has read nothing. Without a format, the first line that tells one does.
     pub fn new(format: Option<Format>, which: WhichMap) -> LogReader
@@ -80,70 +117,43 @@ impl LogReader {
         LogReader {
             which,
             format,
-            is_open: false,
-            maps: 0,
-            from: 0,
-            pieces: ArrayVec::new(),
-            overlap: None,
+            begun: MapsBegun::none(),
+            under_way: UnderWay::Between,
+            ahead: which.number(),
+            wanted: Settled::new(),
         }
     }
 
-    // Begins a map at this place.
-    fn open(&mut self, place: Place)
-        ensures { self.new ≡ opened self.old place }
+    // Begins a map at a line. The last map takes the place of those before it.
+    fn open(&mut self, line: u64)
+        ensures { self.new ≡ opened self.old line }
     {
-        self.is_open = true;
-        self.maps = one_more(self.maps);
-        self.from = place.line;
+        self.begun = self.begun.with(line);
         if self.which.is_last() {
-            self.pieces = ArrayVec::new();
-            self.overlap = None;
+            self.wanted = Settled::new();
+            self.under_way = UnderWay::Wanted;
+            return;
         }
+        self.under_way = if self.ahead == 1 {
+            UnderWay::Wanted
+        } else {
+            UnderWay::Other
+        };
+        self.ahead = one_less(self.ahead);
     }
 
-    // Begins a map at this place, unless one is under way.
-    fn begin(&mut self, place: Place) -> Result<(), MapFault>
-        ensures { Becomes (begun self.old place) self.new result }
+    // Takes what a line shows, if that isn't nothing.
+    fn take_shown(&mut self, shown: &Shown, line: u64)
+        ensures { self.new ≡ taken_shown self.old shown.now line }
     {
-        if self.is_open {
-            return Ok(());
+        if matches!(shown, Shown::Nothing) {
+            return;
         }
-        if self.which.is_sole() && self.maps > 0 {
-            return Err(MapFault::SecondMap(place, self.from));
+        if self.under_way.is_between() {
+            self.open(line);
         }
-        self.open(place);
-        Ok(())
-    }
-
-    // Takes a range into the map that is under way.
-    fn lay(&mut self, claim: &Claim) -> Result<(), MapFault>
-        ensures { Becomes (laid_in self.old claim.now) self.new result }
-    {
-        if !self.which.is_wanted(self.maps) {
-            return Ok(());
-        }
-        let pieces = laid(claim, self.pieces.as_slice());
-        if pieces.len() > MOST_RANGES {
-            return Err(MapFault::TooManyRanges(claim.place));
-        }
-        if self.overlap.is_none() {
-            self.overlap = overlapped(claim, self.pieces.as_slice());
-        }
-        self.pieces = pieces;
-        Ok(())
-    }
-
-    // Takes what a line shows.
-    fn take_shown(&mut self, shown: &Shown) -> Result<(), MapFault>
-        ensures { Becomes (taken_shown self.old shown.now) self.new result }
-    {
-        match shown {
-            Shown::Nothing => Ok(()),
-            Shown::Range(claim) => match self.begin(claim.place) {
-                Ok(()) => self.lay(claim),
-                Err(fault) => Err(fault),
-            },
-            Shown::Fault(fault) => Err(*fault),
+        if self.under_way.is_wanted() {
+            self.wanted.take(shown);
         }
     }
 
@@ -152,7 +162,9 @@ impl LogReader {
         ensures { self.new ≡ headed self.old format begins }
     {
         self.format = Some(format);
-        self.is_open = self.is_open && !begins;
+        if begins {
+            self.under_way = UnderWay::Between;
+        }
     }
 
     fn format_of(&self, line: &Line<'_>) -> Option<Format>
@@ -168,24 +180,31 @@ impl LogReader {
         if line.too_long() {
             return Err(MapFault::LongLine(line.past_limit()));
         }
-        let Some(format) = self.format_of(line) else {
-            return Ok(());
-        };
-        self.head(format, begins_map(format, line));
-        self.take_shown(&shown_in(format, line))
+        if let Some(format) = self.format_of(line) {
+            self.head(format, begins_map(format, line));
+            self.take_shown(&shown_in(format, line), line.number);
+        }
+        Ok(())
     }
 
-    /// The map that the lines show, where the log ends at this place.
-    pub fn finish(&self, end: Place) -> Result<MemoryMap, MapFault>
-        ensures { result ≡ finished self.now end }
+    /// The map that the lines show.
+    pub fn finish(&self) -> Result<MemoryMap, MapFault>
+        ensures { result ≡ finished self.now }
     {
-        if self.pieces.is_empty() {
-            return Err(MapFault::NoMap(end, self.maps));
+        if let Some(fault) = self.wanted.fault() {
+            return Err(fault);
         }
-        Ok(MemoryMap {
-            ranges: joined(self.pieces.as_slice()),
-            overlap: self.overlap,
-        })
+        if self.which.is_sole() && self.begun.count > 1 {
+            return Err(MapFault::SeveralMaps(self.begun));
+        }
+        match self.format {
+            Some(format) if !self.wanted.is_empty() => Ok(MemoryMap {
+                format,
+                ranges: self.wanted.ranges(),
+                overlap: self.wanted.overlap(),
+            }),
+            _ => Err(MapFault::NoMap(self.begun)),
+        }
     }
 }
 
@@ -195,10 +214,10 @@ impl LineReader for LogReader {
     type Fault = MapFault;
 
     ghost use Rattle.std.specs.Prelude.{⊤};
-    ghost use Rattle.mt_memory.specs.Log.{finished, taken};
+    ghost use Rattle.mt_memory.specs.Log.{ended, taken};
     ghost use Rattle.mt_memory.specs.Steps.{Leads};
 
-    ghost at = { Leads taken finished };
+    ghost at = { Leads taken ended };
 
     ghost fits = { λ _. ⊤ };
 
@@ -206,8 +225,8 @@ impl LineReader for LogReader {
         self.take(line)
     }
 
-    fn finish_at(self, end: Place) -> Result<MemoryMap, MapFault> {
-        self.finish(end)
+    fn finish_at(self, _end: Place) -> Result<MemoryMap, MapFault> {
+        self.finish()
     }
 }
 

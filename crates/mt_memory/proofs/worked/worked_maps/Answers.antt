@@ -6,6 +6,14 @@ pub returns-clause-last : goal.returns-clause-last
 unfolding e820 told_in
 returns-clause-last c = refl
 
+pub returns-clause-first : goal.returns-clause-first
+unfolding e820 told_in
+returns-clause-first c = refl
+
 pub returns-clause-sole : goal.returns-clause-sole
 unfolding e820 told_in
 returns-clause-sole c = refl
+
+pub returns-clause-third : goal.returns-clause-third
+unfolding e820 told_in
+returns-clause-third c = refl
