@@ -44,7 +44,14 @@ _mtrr_import() {
     local word=${COMP_WORDS[COMP_CWORD]}
     COMPREPLY=()
     if [ "$COMP_CWORD" -eq 1 ]; then
-        COMPREPLY=($(compgen -W 'auto chipsec coreboot edk2 inteltool linux plain rdmsr windbg x86info xen -h --help --version' -- "$word"))
+        COMPREPLY=($(compgen -W 'auto chipsec coreboot edk2 inteltool linux memory plain rdmsr windbg x86info xen -h --help --version' -- "$word"))
+    elif [[ ${COMP_WORDS[1]} == memory ]]; then
+        if [ "$COMP_CWORD" -eq 2 ]; then
+            COMPREPLY=($(compgen -W 'auto coreboot e820 efi iomem -h --help --version' -- "$word"))
+        else
+            _mtrr_supply "$word" table
+            _mtrr_files "$word"
+        fi
     else
         _mtrr_supply "$word" maxphyaddr assume table 0fe 268 277 2ff
         _mtrr_files "$word"
@@ -83,10 +90,10 @@ _mtrr_explain() {
     COMPREPLY=()
     [[ ${COMP_WORDS[1]} != --json ]] || command=2
     if [ "$COMP_CWORD" -le "$command" ]; then
-        COMPREPLY=($(compgen -W 'faults page diff fit --json --help --version' -- "$word"))
+        COMPREPLY=($(compgen -W 'faults page diff fit ram --json --help --version' -- "$word"))
     elif [[ $word == -* ]]; then
         case ${COMP_WORDS[command]} in
-        diff) COMPREPLY=($(compgen -W '--cpus --json --help' -- "$word")) ;;
+        diff) COMPREPLY=($(compgen -W '--cpus --all-cpus --types --json --help' -- "$word")) ;;
         fit) COMPREPLY=($(compgen -W '--spare --json --help' -- "$word")) ;;
         *) COMPREPLY=($(compgen -W '--json --help' -- "$word")) ;;
         esac

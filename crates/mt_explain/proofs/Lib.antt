@@ -3,6 +3,7 @@ pub mod Types
 pub mod Walked
 pub mod Marks
 pub mod Equal
+pub mod Grouped
 pub mod EqualRegisters
 pub mod Ruled
 pub mod Noted

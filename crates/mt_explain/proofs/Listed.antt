@@ -85,7 +85,7 @@ candidate_in f FixedOff is holds = (1, omega arith, refl)
 candidate_in f LocalApic is holds = (2, omega arith, refl)
 candidate_in f IoApic is holds = (3, omega arith, refl)
 candidate_in f (IdlePair n) is holds =
-    let valid = (and_parts _ _ (and_parts _ _ holds).0).0 in
+    let valid = (and_parts _ _ (and_parts _ _ (and_parts _ _ holds).1).0).0 in
     let within = valid_within f.pairs n valid in
     Contains-append_left (registers ++ pairs f) (map OtherWidth widths) (IdlePair n) (Contains-append_right registers (pairs f) (IdlePair n) (in_range IdlePair 0 (pair_count f) n (omega arith) (omega (arith, within, is.all_pairs))))
 candidate_in f (OtherWidth width) is holds =

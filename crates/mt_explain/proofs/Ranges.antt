@@ -5,8 +5,9 @@ use Rattle.std.specs.List.{AllWithin, find, slice_index_or}
 use Rattle.std.specs.Option.{option_map}
 use Rattle.std.proofs.lemmas.Bool.{cases_Bool, cases_lt}
 use Rattle.std.proofs.lemmas.Bool.Decides.{nat_tests}
-use Rattle.mt_explain.specs.declared.memory.MemoryRange.{MemoryRange}
-use Rattle.mt_explain.specs.Memory.{AreInOrderFrom, is_in, memory_at}
+use Rattle.mt_memory_kinds.specs.declared.kind.MemoryRange.{MemoryRange}
+use Rattle.mt_memory_kinds.specs.Ranges.{AreAscending}
+use Rattle.mt_explain.specs.Memory.{is_in, memory_at}
 
 pub less : (a b : ℕ) → a < b → nat_lt a b ≡ true
 less a b below = grind (arith, nat_tests, below)
@@ -33,7 +34,7 @@ found_in : (page : ℕ) (r : MemoryRange) (rs : List MemoryRange) → is_in page
 found_in page r rs is = ap (λ b. option_map (λ (s : MemoryRange). s.kind) (cond b (Some r) (find (is_in page) rs))) is
 
 -- a page before all ranges
-before_all : (from page : ℕ) (ranges : List MemoryRange) → AreInOrderFrom from ranges → page < from → memory_at ranges page ≡ None
+before_all : (from page : ℕ) (ranges : List MemoryRange) → AreAscending from ranges → page < from → memory_at ranges page ≡ None
 before_all from page [] order below = refl
 before_all from page (r ∷ rs) order below =
     passed_by page r rs (in_below page r (omega (arith, order.0, below))) ∙ before_all (r.last + 1) page rs order.2 (omega (arith, order.0, order.1, below))
@@ -47,7 +48,7 @@ ends : (page : ℕ) (r : MemoryRange) (rs : List MemoryRange) → page ≤ r.las
 ends page r rs within = ap (λ b. cond (not b) (Some r) (find (λ (s : MemoryRange). not (nat_lt s.last page)) rs)) (not_less r.last page within)
 
 -- no range ends at a page or behind it
-pub past_all : (from page other : ℕ) (ranges : List MemoryRange) → AreInOrderFrom from ranges → page ≤ other → find (λ (s : MemoryRange). not (nat_lt s.last page)) ranges ≡ None
+pub past_all : (from page other : ℕ) (ranges : List MemoryRange) → AreAscending from ranges → page ≤ other → find (λ (s : MemoryRange). not (nat_lt s.last page)) ranges ≡ None
     → memory_at ranges other ≡ None
 past_all from page other [] order above none = refl
 past_all from page other (r ∷ rs) order above none = elim (cases_lt r.last page) [
@@ -62,7 +63,7 @@ pub record IsNext (ranges : List MemoryRange) (page : ℕ) (r : MemoryRange) : T
   pub before : (other : ℕ) → page ≤ other → other < r.first → memory_at ranges other ≡ None
   pub inside : (other : ℕ) → page ≤ other → r.first ≤ other → other ≤ r.last → memory_at ranges other ≡ Some r.kind
 
-pub is_next : (from page : ℕ) (ranges : List MemoryRange) (r : MemoryRange) → AreInOrderFrom from ranges → find (λ (s : MemoryRange). not (nat_lt s.last page)) ranges ≡ Some r → IsNext ranges page r
+pub is_next : (from page : ℕ) (ranges : List MemoryRange) (r : MemoryRange) → AreAscending from ranges → find (λ (s : MemoryRange). not (nat_lt s.last page)) ranges ≡ Some r → IsNext ranges page r
 is_next from page [] r order is = absurd (cc is)
 is_next from page (s ∷ ss) r order is = elim (cases_lt s.last page) [
   | inl past ↦
@@ -87,14 +88,14 @@ is_next from page (s ∷ ss) r order is = elim (cases_lt s.last page) [
 ]
 
 -- later ranges end later
-ends_above : (from k : ℕ) (d : MemoryRange) (ranges : List MemoryRange) → AreInOrderFrom from ranges → k < length ranges → from ≤ (slice_index_or ranges k d).last
+ends_above : (from k : ℕ) (d : MemoryRange) (ranges : List MemoryRange) → AreAscending from ranges → k < length ranges → from ≤ (slice_index_or ranges k d).last
 ends_above from k d [] order within = absurd (omega (arith, within))
 ends_above from zero d (r ∷ rs) order within = omega (arith, order.0, order.1)
 ends_above from (suc k) d (r ∷ rs) order within =
     let later = ends_above (r.last + 1) k d rs order.2 (omega (arith, within)) in
     omega (arith, order.0, order.1, later)
 
-pub rise : (from i j : ℕ) (d : MemoryRange) (ranges : List MemoryRange) → AreInOrderFrom from ranges → i ≤ j → j < length ranges
+pub rise : (from i j : ℕ) (d : MemoryRange) (ranges : List MemoryRange) → AreAscending from ranges → i ≤ j → j < length ranges
     → (slice_index_or ranges i d).last ≤ (slice_index_or ranges j d).last
 rise from i j d [] order up within = absurd (omega (arith, within))
 rise from zero zero d (r ∷ rs) order up within = omega arith

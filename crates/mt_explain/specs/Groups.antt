@@ -1,10 +1,14 @@
 -- Groups of equal files (own).
+--     AreGroups files groups          the numbers of equal files, in a list for each group
 --     IsFirstEqual files k first      the least number of a file that is equal to file k
 --     switches file                   E and FE
-use Rattle.std.specs.Prelude.{◌≡◌, ℕ, ◌<◌, ◌≤◌, Bool, List, slice_get}
+use Rattle.std.specs.Prelude.{◌≡◌, ℕ, ◌<◌, ◌≤◌, ◌==◌, Bool, List, length, map, slice_get, slice_index}
+use Rattle.arrayvec.specs.ArrayVec.{ArrayVec}
 use Rattle.mt_regs.specs.declared.registers.Register.{Register}
 use Rattle.mt_regs.specs.Registers.{IsWithin, value_of}
 use Rattle.mt_regs.specs.RegisterFile.{RegisterFile, is_enabled, is_fixed_enabled}
+use Rattle.mt_explain.specs.Clashes.{numbers}
+use Rattle.mt_explain.specs.Pairs.{numbers_below}
 
 -- files i and j have the same width, capabilities and writable registers
 abbrev pub AreEqualAt : List RegisterFile → ℕ → ℕ → Type 0
@@ -14,6 +18,25 @@ pub record IsFirstEqual (files : List RegisterFile) (k first : ℕ) : Type 0 whe
   pub order : first ≤ k
   pub equal : AreEqualAt files first k
   pub before : (j : ℕ) → j < first → AreEqualAt files j k → ⊥
+
+-- the first equal one of each file
+pub record AreFirstEqual (files : List RegisterFile) (firsts : List ℕ) : Type 0 where
+  pub count : length firsts ≡ length files
+  pub each : (k : ℕ) → k < length files → IsFirstEqual files k (slice_index firsts k)
+
+-- the files whose first equal one is file k, in ascending order
+abbrev pub members : List ℕ → ℕ → List ℕ
+members firsts k = numbers_below (λ j. slice_index firsts j == k) (length firsts)
+
+-- the files that no earlier one is equal to
+abbrev pub leaders : List ℕ → List ℕ
+leaders firsts = numbers_below (λ k. slice_index firsts k == k) (length firsts)
+
+-- in the order of the least numbers
+pub record AreGroups (files : List RegisterFile) (groups : List (ArrayVec ℕ)) : Type 0 where
+  pub firsts : List ℕ
+  pub equal : AreFirstEqual files firsts
+  pub are : groups ≡ map (λ k. numbers (members firsts k)) (leaders firsts)
 
 -- each writable register of one file has the same value in the other
 abbrev pub HaveEqualRegisters : RegisterFile → RegisterFile → Type 0

@@ -1,3 +1,4 @@
+pub mod Causes
 pub mod Clashes
 pub mod Deciders
 pub mod Differences
@@ -9,5 +10,6 @@ pub mod Memory
 pub mod Notes
 pub mod Pairs
 pub mod Rules
+pub mod Sizes
 pub mod Spans
 pub mod TypeChanges

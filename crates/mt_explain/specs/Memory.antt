@@ -1,28 +1,29 @@
 -- A memory map beside the types of pages (own).
 --     AreInOrder ranges                  a list of ranges of a map
---     AreMisfits file ranges misfits     all longest runs of pages of RAM that aren't WB, and of devices or reserved that are WB or WC
-use Rattle.std.specs.Prelude.{ℕ, ◌+◌, ◌≤◌, nat_lt, Bool, false, not, ◌&&◌, ◌||◌, List, [], ◌∷◌, Option, None, Some, if◌then◌else◌}
+--     AreMisfits file ranges misfits     all longest runs of pages of RAM that aren't WB, of devices that aren't UC, and reserved ones that are WC
+use Rattle.std.specs.Prelude.{ℕ, ◌+◌, nat_lt, Bool, false, not, ◌&&◌, List, Option, None, Some, if◌then◌else◌}
 use Rattle.std.specs.List.{find}
 use Rattle.std.specs.Option.{option_map}
-use Rattle.mt_kinds.specs.declared.mem_type.MemType.TheVariants.{WB, WC}
+use Rattle.mt_kinds.specs.declared.mem_type.MemType.TheVariants.{UC, WB, WC}
 use Rattle.mt_regs.specs.declared.page_type.PageType.{PageType}
 use Rattle.mt_regs.specs.declared.page_type.PageType.TheVariants.{Kind}
 use Rattle.mt_regs.specs.RegisterFile.{RegisterFile, page_count}
 use Rattle.mt_regs.specs.PageTypes.{page_type, same_page_type}
-use Rattle.mt_explain.specs.declared.memory.MemoryKind.{MemoryKind}
-use Rattle.mt_explain.specs.declared.memory.MemoryKind.TheVariants.{Ram, Reserved, Device, Acpi, Nvs, Unusable}
-use Rattle.mt_explain.specs.declared.memory.MemoryRange.{MemoryRange}
+use Rattle.mt_memory_kinds.specs.declared.kind.MemoryKind.{MemoryKind}
+use Rattle.mt_memory_kinds.specs.declared.kind.MemoryKind.TheVariants.{Ram, Reserved, Device, Acpi, Nvs, Unusable}
+use Rattle.mt_memory_kinds.specs.declared.kind.MemoryRange.{MemoryRange}
+use Rattle.mt_memory_kinds.specs.Ranges.{AreAscending}
 use Rattle.mt_explain.specs.declared.memory.Misfit.{Misfit}
 use Rattle.mt_explain.specs.declared.span.Span.{Span}
 use Rattle.mt_explain.specs.Spans.{AreSpans}
 
--- ranges from a page on, none of which is empty, and each of which begins behind the one before it
-abbrev pub AreInOrderFrom : ℕ → List MemoryRange → Type 0
-AreInOrderFrom from [] = Unit {0}
-AreInOrderFrom from (r ∷ rs) = (from ≤ r.first) × (r.first ≤ r.last) × AreInOrderFrom (r.last + 1) rs
-
 abbrev pub AreInOrder : List MemoryRange → Type 0
-AreInOrder ranges = AreInOrderFrom 0 ranges
+AreInOrder ranges = AreAscending 0 ranges
+
+-- the page behind the last one
+abbrev pub next_of : Option ℕ → ℕ
+next_of None = 0
+next_of (Some last) = last + 1
 
 abbrev pub is_in : ℕ → MemoryRange → Bool
 is_in page r = not (nat_lt page r.first) && not (nat_lt r.last page)
@@ -31,14 +32,11 @@ is_in page r = not (nat_lt page r.first) && not (nat_lt r.last page)
 abbrev pub memory_at : List MemoryRange → ℕ → Option MemoryKind
 memory_at ranges page = option_map (λ r. r.kind) (find (is_in page) ranges)
 
-abbrev pub is_back_or_combining : PageType → Bool
-is_back_or_combining t = same_page_type t (Kind WB) || same_page_type t (Kind WC)
-
--- memory of the kind shouldn't have the type
+-- Memory of the kind shouldn't have the type. Reserved pages may be the firmware's RAM, which is WB.
 abbrev pub is_misfit : MemoryKind → PageType → Bool
 is_misfit Ram t = not (same_page_type t (Kind WB))
-is_misfit Reserved t = is_back_or_combining t
-is_misfit Device t = is_back_or_combining t
+is_misfit Reserved t = same_page_type t (Kind WC)
+is_misfit Device t = not (same_page_type t (Kind UC))
 is_misfit Acpi t = false
 is_misfit Nvs t = false
 is_misfit Unusable t = false

@@ -30,8 +30,12 @@ abbrev pub without : RegisterFile → ℕ → RegisterFile
 without f n = with_value f (PhysMask n) ((pair_at f.pairs n).1 - 2 ^ 11)
 
 -- a valid pair of an accepted file changes no page's type
+abbrev pub is_spare : RegisterFile → ℕ → Bool
+is_spare f n = is_valid (pair_at f.pairs n) && is_accepted f && changed_pages f (without f n) == 0
+
+-- though E is set
 abbrev pub is_idle : RegisterFile → ℕ → Bool
-is_idle f n = is_valid (pair_at f.pairs n) && is_accepted f && changed_pages f (without f n) == 0
+is_idle f n = is_enabled f && is_spare f n
 
 -- The mask's highest bit is that of a width of 32 to 52 bits, and each bit from its lowest one on is set.
 abbrev pub is_mask_of : ℕ → ℕ → Bool

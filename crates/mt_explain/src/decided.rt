@@ -1,19 +1,54 @@
-ghost use Rattle.std.specs.Prelude.{◌≡◌, ◌↔◌, ◌≤◌, ◌<◌, min, None, IfOk, IsTrue};
+ghost use Rattle.std.specs.Prelude.{◌≡◌, ◌↔◌, ◌≤◌, ◌<◌, ℕ, length, min, None, IfOk, IsTrue};
 ghost use Rattle.mt_regs.specs.Alike.{HasFixedPart};
 ghost use Rattle.mt_regs.specs.RegisterFile.{page_count};
 ghost use Rattle.mt_regs.specs.Faults.{register_fault};
-ghost use Rattle.mt_explain.specs.Deciders.{AreDeciders, decider_from, decider_of};
+ghost use Rattle.mt_explain.specs.Deciders.{AreDeciders, decider_from, decider_of, deciding_pairs, is_uncached_pair, uncached_of};
 
 use crate::marked::Marked;
-use crate::pairs::pairs_at;
+use crate::pairs::{pair_at, pairs_at};
 use crate::walk::spans;
 use crate::{Decider, Span};
+use arrayvec::ArrayVec;
+use mt_kinds::MemType;
 use mt_ranges::{fixed_end, fixed_place};
-use mt_regs::RegFile;
+use mt_regs::{RegFile, are_one, has_uncached, pair_type, same_type};
 use std::alloc::{AllocError, Global};
 
-// The registers that give a page its type.
-fn decider_of(f: &RegFile, page: u64) -> Decider
+fn is_uncached_pair(f: &RegFile, n: u8) -> bool
+    ensures { result ≡ is_uncached_pair f.now n }
+{
+    same_type(MemType::UC, pair_type(pair_at(f, n)))
+}
+
+// Those of UC.
+fn uncached_of(f: &RegFile, pairs: &[u8]) -> ArrayVec<u8, 32>
+    requires { length pairs.now ≤ 32 }
+    ensures { result.items ≡ uncached_of f.now pairs.now }
+{
+    let mut numbers = ArrayVec::new();
+    for n in pairs {
+        if is_uncached_pair(f, *n) {
+            numbers.push(*n);
+        }
+    }
+    numbers
+}
+
+// The pairs that match a page, of which those of UC decide alone if it wins over other types.
+fn deciding_pairs(f: &RegFile, page: u64) -> ArrayVec<u8, 32>
+    ensures { result.items ≡ deciding_pairs f.now page }
+{
+    let pairs = pairs_at(f, page);
+    let types = f.matching_types(page);
+    if has_uncached(types.as_slice()) && !are_one(types.as_slice()) {
+        uncached_of(f, pairs.as_slice())
+    } else {
+        pairs
+    }
+}
+
+/// The registers that give a page its type.
+pub(crate) fn decider_of(f: &RegFile, page: u64) -> Decider
     ensures { result ≡ decider_of f.now page }
 {
     if !f.is_enabled() {
@@ -24,10 +59,10 @@ fn decider_of(f: &RegFile, page: u64) -> Decider
             return Decider::Fixed(place);
         }
     }
-    Decider::Pairs(pairs_at(f, page))
+    Decider::Pairs(deciding_pairs(f, page))
 }
 
-fn same_decider(a: &Decider, b: &Decider) -> bool
+pub(crate) fn same_decider(a: &Decider, b: &Decider) -> bool
     ensures { IsTrue result ↔ (a.now ≡ b.now) }
 {
     match a {
@@ -61,6 +96,18 @@ fn part_edge(page: u64, end: u64) -> u64
     } else {
         end
     }
+}
+
+/// The next page at which other registers may decide, or `end`.
+pub(crate) fn decider_edge(f: &RegFile, page: u64, end: u64) -> u64
+    requires checked { register_fault f.now ≡ None }
+    requires page { page < end }
+    requires end { end ≤ page_count f.now }
+    ensures above { page < result }
+    ensures bound { result ≤ end }
+    ensures same { (other : ℕ) → page ≤ other → other < result → decider_of f.now other ≡ decider_of f.now page }
+{
+    part_edge(page, end).min(f.next_edge(page))
 }
 
 // A file: the pages from `first` up to `end` have as their marks what gives them their types.
@@ -104,7 +151,7 @@ impl<'a> Marked for Decided<'a> {
         if page < self.first {
             self.first.min(end)
         } else {
-            part_edge(page, end).min(self.file.next_edge(page))
+            decider_edge(self.file, page, end)
         }
     }
 }

@@ -7,6 +7,6 @@ pub enum Decider {
     Switch,
     /// A fixed-range register, by its place in the list.
     Fixed(u8),
-    /// These valid pairs, or IA32_MTRR_DEF_TYPE if there are none.
+    /// These valid pairs, or IA32_MTRR_DEF_TYPE if there are none. If UC wins over other types, they are those of UC.
     Pairs(ArrayVec<u8, 32>),
 }

@@ -1,7 +1,12 @@
-ghost use Rattle.std.specs.Prelude.{◌≡◌, ◌↔◌, ◌<◌, length, IsTrue};
-ghost use Rattle.mt_explain.specs.Groups.{IsFirstEqual, numbers_of, switches};
+ghost use Rattle.std.specs.Prelude.{◌≡◌, ◌↔◌, ◌≤◌, ◌<◌, length, IfOk, IsTrue};
+ghost use Rattle.mt_explain.specs.Groups.{AreFirstEqual, AreGroups, IsFirstEqual, members, numbers_of, switches};
 
+use arrayvec::ArrayVec;
 use mt_regs::RegFile;
+use std::alloc::{AllocError, Global};
+
+/// Numbers of processors, in ascending order.
+pub type Cpus = ArrayVec<u32, 16>;
 
 // The numbers of a file beside its pairs and fixed-range registers.
 fn numbers_of(f: &RegFile) -> (u8, u64, u64, u64)
@@ -58,6 +63,49 @@ pub fn first_equal(files: &[RegFile], k: usize) -> usize
         }
     }
     k
+}
+
+// The first equal one of each file.
+fn first_equals(files: &[RegFile]) -> Cpus
+    requires { length files.now ≤ 16 }
+    ensures { AreFirstEqual files.now result.items }
+{
+    let mut firsts = ArrayVec::new();
+    for k in 0..files.len() {
+        firsts.push(first_equal(files, k) as u32);
+    }
+    firsts
+}
+
+// The files whose first equal one is this.
+fn members(firsts: &[u32], first: u32) -> Cpus
+    requires { length firsts.now ≤ 16 }
+    ensures { result.items ≡ members firsts.now first }
+{
+    let mut numbers = ArrayVec::new();
+    for k in 0..firsts.len() {
+        if firsts[k] == first {
+            numbers.push(k as u32);
+        }
+    }
+    numbers
+}
+
+/// The numbers of equal files, in a list for each group. Groups are in the order of their least numbers. Fails only if an
+/// allocation fails.
+pub fn groups_of(alloc: Global, files: &[RegFile]) -> Result<Vec<Cpus>, AllocError>
+    requires { length files.now ≤ 16 }
+    ensures { IfOk result (λ groups. AreGroups files.now groups.items) }
+{
+    let found = first_equals(files);
+    let firsts = found.as_slice();
+    let mut groups = Vec::new(alloc);
+    for k in 0..firsts.len() {
+        if firsts[k] as usize == k {
+            groups.push(members(firsts, k as u32))?;
+        }
+    }
+    Ok(groups)
 }
 
 /// Whether E and FE are as in the other file.

@@ -34,7 +34,7 @@ pub fn files_of_equal_registers_are_equal()
 
 /// The registers that give a page its type are those that its rule names.
 pub fn deciders_are_those_of_the_rule()
-    ensures named { (f : RegisterFile) (page : ℕ) (rule : Rule) → Decides f page rule → decider_of f page ≡ named_by rule (matching_pairs f page) }
+    ensures named { (f : RegisterFile) (page : ℕ) (rule : Rule) → Decides f page rule → decider_of f page ≡ named_by f rule (matching_pairs f page) }
 {}
 
 /// The number of pages whose types differ is 0 if and only if each page has one type in both files, or in neither.

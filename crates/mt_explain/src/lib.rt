@@ -1,8 +1,10 @@
-//! Facts about register files: every fault, where pairs meet with no defined type, the rule that gives a page its type, what
-//! differs between two files, which files are equal, what is worth knowing of a file, which memory has a type that doesn't fit,
-//! and how many pairs the types need.
+//! Facts about register files. Of one file: every fault, where pairs meet with no defined type, and what else is worth knowing.
+//! Of its pages: the rule and the registers that give a page its type, how many have a type, and which memory has a type that doesn't
+//! fit. Of files: which are equal, and what differs. Of a file's types: how many pairs they need.
 #![tactic(auto)]
 
+mod cause;
+mod caused;
 mod changes;
 mod clash;
 mod decided;
@@ -25,11 +27,14 @@ mod remarks;
 mod rounding;
 mod rule;
 mod rules;
+mod sizes;
 mod span;
 mod type_change;
 mod unfit;
 mod walk;
 
+pub use cause::Cause;
+pub use caused::causes;
 pub use changes::{changed_pages, type_changes};
 pub use clash::{Clash, clashes};
 pub use decided::deciders;
@@ -40,20 +45,21 @@ pub use effects::effective_types;
 pub use faults::field_faults;
 pub use field_fault::{Defect, FieldFault};
 pub use fit::{least_by_chunk, rounding_of, steps};
-pub use groups::{are_equal, first_equal, have_equal_switches};
+pub use groups::{Cpus, are_equal, first_equal, groups_of, have_equal_switches};
 pub use laws::{
     deciders_are_those_of_the_rule, equal_types_are_not_counted,
     field_faults_are_those_of_the_definitions, files_of_equal_registers_are_equal,
     groups_are_of_equal_files, notes_are_those_that_hold,
 };
-pub use mapped::misfits;
-pub use memory::{MemoryKind, MemoryRange, Misfit};
+pub use mapped::{are_in_order, misfits};
+pub use memory::Misfit;
 pub use note::Note;
 pub use pairs::pairs_at;
 pub use registers::differences;
 pub use remarks::{IO_APIC, LOCAL_APIC, is_note, notes};
 pub use rounding::Rounding;
 pub use rule::Rule;
+pub use sizes::type_pages;
 pub use span::Span;
 pub use type_change::TypeChange;
 pub use unfit::Unfit;

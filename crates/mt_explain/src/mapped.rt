@@ -2,34 +2,52 @@ ghost use Rattle.std.specs.Prelude.{◌≡◌, ◌↔◌, ◌≤◌, ◌<◌, �
 ghost use Rattle.std.specs.List.{find};
 ghost use Rattle.mt_regs.specs.RegisterFile.{page_count};
 ghost use Rattle.mt_regs.specs.Faults.{register_fault};
-ghost use Rattle.mt_explain.specs.Memory.{AreInOrder, AreMisfits, is_back_or_combining, is_misfit, memory_at, misfit_at};
+ghost use Rattle.mt_explain.specs.Memory.{AreInOrder, AreMisfits, is_misfit, memory_at, misfit_at, next_of};
 
 use crate::marked::Marked;
 use crate::walk::spans;
-use crate::{MemoryKind, MemoryRange, Misfit, Span};
+use crate::{Misfit, Span};
 use mt_kinds::MemType;
+use mt_memory_kinds::{MemoryKind, MemoryRange};
 use mt_regs::{PageType, RegFile, same_page_type};
 use std::alloc::{AllocError, Global};
 
-fn is_back_or_combining(kind: PageType) -> bool
-    ensures { result ≡ is_back_or_combining kind }
-{
-    same_page_type(kind, PageType::Kind(MemType::WB))
-        || same_page_type(kind, PageType::Kind(MemType::WC))
-}
-
-// Whether memory of a kind shouldn't have a type.
+// Whether memory of a kind shouldn't have a type. Reserved pages may be the firmware's RAM, which is WB.
 fn is_misfit(memory: MemoryKind, kind: PageType) -> bool
     ensures { result ≡ is_misfit memory kind }
 {
     match memory {
         MemoryKind::Ram => !same_page_type(kind, PageType::Kind(MemType::WB)),
-        MemoryKind::Reserved => is_back_or_combining(kind),
-        MemoryKind::Device => is_back_or_combining(kind),
+        MemoryKind::Reserved => same_page_type(kind, PageType::Kind(MemType::WC)),
+        MemoryKind::Device => !same_page_type(kind, PageType::Kind(MemType::UC)),
         MemoryKind::Acpi => false,
         MemoryKind::Nvs => false,
         MemoryKind::Unusable => false,
     }
+}
+
+// Whether a page is behind the last one.
+fn is_past(last: Option<u64>, page: u64) -> bool
+    ensures { IsTrue result ↔ (next_of last ≤ page) }
+{
+    match last {
+        Some(last) => last < page,
+        None => true,
+    }
+}
+
+/// Whether ranges are in ascending order, share no page, and have some.
+pub fn are_in_order(ranges: &[MemoryRange]) -> bool
+    ensures { IsTrue result ↔ AreInOrder ranges.now }
+{
+    let mut last = None;
+    for range in ranges {
+        if range.last < range.first || !is_past(last, range.first) {
+            return false;
+        }
+        last = Some(range.last);
+    }
+    true
 }
 
 // The place of the first range that ends at a page or behind it, or the number of ranges.
@@ -90,10 +108,36 @@ fn same_kind(a: MemoryKind, b: MemoryKind) -> bool
     a == b
 }
 
-fn same_misfit(a: Misfit, b: Misfit) -> bool
+pub(crate) fn same_misfit(a: Misfit, b: Misfit) -> bool
     ensures { IsTrue result ↔ (a ≡ b) }
 {
     same_kind(a.memory, b.memory) && a.kind.is(b.kind)
+}
+
+/// What a map and the registers make of a page, if the two don't fit.
+pub(crate) fn misfit_at(f: &RegFile, ranges: &[MemoryRange], page: u64) -> Option<Misfit>
+    requires { AreInOrder ranges.now }
+    ensures { result ≡ misfit_at f.now ranges.now page }
+{
+    let memory = memory_at(ranges, page)?;
+    let kind = f.page_type(page);
+    if is_misfit(memory, kind) {
+        Some(Misfit { memory, kind })
+    } else {
+        None
+    }
+}
+
+/// The next page at which that may change, or the number of pages.
+pub(crate) fn misfit_edge(f: &RegFile, ranges: &[MemoryRange], page: u64) -> u64
+    requires checked { register_fault f.now ≡ None }
+    requires order { AreInOrder ranges.now }
+    requires page { page < page_count f.now }
+    ensures above { page < result }
+    ensures bound { result ≤ page_count f.now }
+    ensures same { (other : ℕ) → page ≤ other → other < result → misfit_at f.now ranges.now other ≡ misfit_at f.now ranges.now page }
+{
+    memory_edge(ranges, page, f.pages()).min(f.next_edge(page))
 }
 
 // A map and a file: a page of memory whose type doesn't fit has both as its mark.
@@ -117,13 +161,7 @@ impl<'a> Marked for Mapped<'a> {
     }
 
     fn mark_at(&self, page: u64) -> Option<Misfit> {
-        let memory = memory_at(self.ranges, page)?;
-        let kind = self.file.page_type(page);
-        if is_misfit(memory, kind) {
-            Some(Misfit { memory, kind })
-        } else {
-            None
-        }
+        misfit_at(self.file, self.ranges, page)
     }
 
     fn has(&self, page: u64, mark: &Misfit) -> bool {
@@ -134,12 +172,12 @@ impl<'a> Marked for Mapped<'a> {
     }
 
     fn next_edge(&self, page: u64) -> u64 {
-        memory_edge(self.ranges, page, self.pages()).min(self.file.next_edge(page))
+        misfit_edge(self.file, self.ranges, page)
     }
 }
 
 /// The longest runs of pages whose type doesn't fit their memory, each with the kind of memory and the type, in ascending order: RAM
-/// that isn't WB, and reserved pages and those of devices that are WB or WC. No register of the file is at fault by itself. The ranges
+/// that isn't WB, devices that aren't UC, and reserved pages that are WC. No register of the file is at fault by itself. The ranges
 /// are in ascending order and share no page. Pages beyond the file's address width aren't looked at. Fails only if an allocation fails.
 pub fn misfits(
     alloc: Global,

@@ -9,7 +9,7 @@ pub enum Note {
     LocalApic,
     /// The page of the I/O APIC isn't UC.
     IoApic,
-    /// This valid pair changes no page's type, and the file is accepted.
+    /// This valid pair changes no page's type, the file is accepted and E is set.
     IdlePair(u8),
     /// The valid masks are those of another address width, of so many bits.
     OtherWidth(u8),

@@ -1,8 +1,20 @@
 ghost use Rattle.std.specs.Prelude.{◌≡◌, ◌≤◌, ◌<◌, length};
+ghost use Rattle.mt_regs.specs.RegisterFile.{pair_at};
 ghost use Rattle.mt_explain.specs.Pairs.{matching_pairs, pairs_in};
 
 use arrayvec::ArrayVec;
 use mt_regs::{RegFile, matches_pair};
+
+/// A pair that the file doesn't have is zeros.
+pub(crate) fn pair_at(f: &RegFile, n: u8) -> (u64, u64)
+    ensures { result ≡ pair_at f.now.pairs n }
+{
+    f.pairs
+        .as_slice()
+        .get(n as usize)
+        .copied()
+        .unwrap_or((0, 0))
+}
 
 fn pairs_in(width: u8, pairs: &[(u64, u64)], page: u64) -> ArrayVec<u8, 32>
     requires low { 12 ≤ width }

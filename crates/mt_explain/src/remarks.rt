@@ -4,10 +4,11 @@ ghost use Rattle.mt_ranges.specs.Match.{is_valid};
 ghost use Rattle.mt_regs.specs.Faults.{register_fault};
 ghost use Rattle.mt_regs.specs.RegisterFile.{pair_at, pair_count};
 ghost use Rattle.mt_explain.specs.declared.note.Note.TheVariants.{IdlePair, OtherWidth};
-ghost use Rattle.mt_explain.specs.Notes.{has_fixed_value, has_width, is_accepted, is_idle, is_mask_of, is_note, is_uncached, may_be_of, notes, widths, without};
+ghost use Rattle.mt_explain.specs.Notes.{has_fixed_value, has_width, is_accepted, is_idle, is_mask_of, is_note, is_spare, is_uncached, may_be_of, notes, widths, without};
 
 use crate::Note;
 use crate::changes::changed_pages;
+use crate::pairs::pair_at;
 use mt_kinds::{MemType, is_bit_set};
 use mt_ranges::{block_of, is_valid};
 use mt_regs::{PageType, RegFile, Register, same_page_type};
@@ -38,17 +39,6 @@ fn is_accepted(f: &RegFile) -> bool
     f.first_fault().is_none()
 }
 
-// A pair that the file doesn't have is zeros.
-fn pair_at(f: &RegFile, n: u8) -> (u64, u64)
-    ensures { result ≡ pair_at f.now.pairs n }
-{
-    f.pairs
-        .as_slice()
-        .get(n as usize)
-        .copied()
-        .unwrap_or((0, 0))
-}
-
 // The file with V of a valid pair clear.
 fn without(f: &RegFile, n: u8) -> RegFile
     requires { is_valid (pair_at f.now.pairs n) ≡ true }
@@ -61,10 +51,17 @@ fn without(f: &RegFile, n: u8) -> RegFile
 }
 
 // Whether a valid pair of an accepted file changes no page's type.
+fn is_spare(f: &RegFile, n: u8) -> bool
+    ensures { result ≡ is_spare f.now n }
+{
+    is_valid(pair_at(f, n)) && is_accepted(f) && changed_pages(f, &without(f, n)) == 0
+}
+
+// Whether this is so though E is set.
 fn is_idle(f: &RegFile, n: u8) -> bool
     ensures { result ≡ is_idle f.now n }
 {
-    is_valid(pair_at(f, n)) && is_accepted(f) && changed_pages(f, &without(f, n)) == 0
+    f.is_enabled() && is_spare(f, n)
 }
 
 // Whether a mask is one of an address width of 32 to 52 bits.

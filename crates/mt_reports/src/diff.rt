@@ -3,18 +3,36 @@ use crate::fields::{add_fields, write_fields};
 use crate::object::Json;
 use crate::page::kind_name;
 use crate::registers::{add_register, add_value, write_register, write_value};
-use crate::report::{Answer, Form, Named, Report, answered};
+use crate::report::{Answer, Form, MOST_CPUS, Named, Report, answered};
 use crate::text::Text;
-use mt_explain::{Difference, Span, TypeChange, differences, type_changes};
+use mt_explain::{Difference, Span, TypeChange, are_equal, differences, type_changes};
 use mt_regs::{Fault, PageType, Reason, RegFile};
 use std::alloc::{AllocError, Global};
 
-const MOST_CPUS: u32 = 16;
+/// Which processors are compared.
+#[derive(Clone, Copy, Debug, PartialEq, Eq)]
+pub enum Sides {
+    /// Those of two dumps that have the same number.
+    Dumps,
+    /// Two of one dump.
+    Cpus(u32, u32),
+    /// Processor 0 of one dump and each of the others.
+    Others,
+}
 
-// What differs between the files of two processors.
+/// What is printed of what differs.
+#[derive(Clone, Copy, Debug, PartialEq, Eq)]
+pub enum View {
+    All,
+    /// The types of pages. Registers count for nothing.
+    Types,
+}
+
+// What differs between the files of two processors, and of others that have the same two files.
 #[derive(Drop)]
 struct CpuDiff<'a> {
-    numbers: (u32, u32),
+    olds: Vec<u32>,
+    news: Vec<u32>,
     old: &'a RegFile,
     new: &'a RegFile,
     registers: Vec<Difference>,
@@ -22,14 +40,13 @@ struct CpuDiff<'a> {
     types: Option<Vec<Span<TypeChange>>>,
 }
 
-// What differs between two dumps, or between two processors of one.
+// What differs between two dumps, or between processors of one.
 #[derive(Drop)]
 struct Diff<'a> {
     old: Named<'a>,
     new: Named<'a>,
-    // the two processors of one dump
-    numbers: Option<(u32, u32)>,
-    differ: bool,
+    sides: Sides,
+    view: View,
     cpus: Vec<CpuDiff<'a>>,
 }
 
@@ -47,7 +64,6 @@ fn types_of(
 // Files of one width whose registers are equal give equal types, whatever faults they have.
 fn cpu_diff<'a>(
     alloc: Global,
-    numbers: (u32, u32),
     old: &'a RegFile,
     new: &'a RegFile,
 ) -> Result<CpuDiff<'a>, AllocError> {
@@ -58,7 +74,8 @@ fn cpu_diff<'a>(
         types_of(alloc, old, new)?
     };
     Ok(CpuDiff {
-        numbers,
+        olds: Vec::new(alloc),
+        news: Vec::new(alloc),
         old,
         new,
         registers,
@@ -66,66 +83,146 @@ fn cpu_diff<'a>(
     })
 }
 
-impl CpuDiff<'_> {
+impl<'a> CpuDiff<'a> {
     fn is_same(&self) -> bool {
+        self.registers.is_empty() && self.types_differ() == Some(false)
+    }
+
+    // `None` if the types weren't compared.
+    fn types_differ(&self) -> Option<bool> {
         match &self.types {
-            Some(runs) => self.registers.is_empty() && runs.is_empty(),
-            None => false,
+            Some(runs) => Some(!runs.is_empty()),
+            None => None,
         }
+    }
+
+    fn is_of(&self, old: &RegFile, new: &RegFile) -> bool {
+        are_equal(self.old, old) && are_equal(self.new, new)
+    }
+
+    fn add_numbers(&mut self, old: u32, new: u32) -> Result<(), AllocError> {
+        self.olds.push(old)?;
+        self.news.push(new)?;
+        Ok(())
+    }
+}
+
+fn place_of(list: &[CpuDiff<'_>], old: &RegFile, new: &RegFile) -> usize {
+    for (place, cpu) in list.iter().enumerate() {
+        if cpu.is_of(old, new) {
+            return place;
+        }
+    }
+    list.len()
+}
+
+// Adds what differs between two processors, if both are there.
+fn compare<'a>(
+    alloc: Global,
+    list: &mut Vec<CpuDiff<'a>>,
+    old: (&Named<'a>, u32),
+    new: (&Named<'a>, u32),
+) -> Result<(), AllocError> {
+    let (Some(f), Some(g)) = (old.0.file_at(old.1), new.0.file_at(new.1)) else {
+        return Ok(());
+    };
+    let place = place_of(list.as_slice(), f, g);
+    if place == list.len() {
+        list.push(cpu_diff(alloc, f, g)?)?;
+    }
+    match list.get_mut(place) {
+        Some(cpu) => cpu.add_numbers(old.1, new.1),
+        None => Ok(()),
     }
 }
 
 impl Diff<'_> {
-    fn new<'a>(
-        old: Named<'a>,
-        new: Named<'a>,
-        numbers: Option<(u32, u32)>,
-        cpus: Vec<CpuDiff<'a>>,
-    ) -> Diff<'a> {
-        let mut differ = old.width() != new.width() || old.files().len() != new.files().len();
-        for cpu in &cpus {
+    fn has_equal_counts(&self) -> bool {
+        self.old.files().len() == self.new.files().len()
+    }
+
+    // Whether the text names the processors: two that are compared stand above it.
+    fn has_headings(&self) -> bool {
+        match self.sides {
+            Sides::Dumps => self.old.files().len().min(self.new.files().len()) > 1,
+            Sides::Cpus(_, _) => false,
+            Sides::Others => true,
+        }
+    }
+
+    fn differ(&self) -> bool {
+        let mut differ = self.old.width() != self.new.width() || !self.has_equal_counts();
+        for cpu in &self.cpus {
             differ = differ || !cpu.registers.is_empty();
         }
-        Diff {
-            old,
-            new,
-            numbers,
-            differ,
-            cpus,
+        differ
+    }
+
+    // `None` if no types differ among those that were compared, and some weren't.
+    fn types_differ(&self) -> Option<bool> {
+        let mut differ = Some(!self.has_equal_counts());
+        for cpu in &self.cpus {
+            differ = match (differ, cpu.types_differ()) {
+                (Some(true), _) | (_, Some(true)) => Some(true),
+                (None, _) | (_, None) => None,
+                (Some(false), Some(false)) => Some(false),
+            };
         }
+        differ
     }
 }
 
-/// What differs between two dumps, processor by processor. Something is found if they differ.
+/// What differs between two dumps, processor by processor. Something is found if they differ, or if types do in that view.
 pub fn diff_answer<'a>(
     alloc: Global,
     old: Named<'a>,
     new: Named<'a>,
+    view: View,
     form: Form,
 ) -> Result<Answer, NoReport> {
     let mut cpus = Vec::new(alloc);
     for k in 0..MOST_CPUS {
-        if let (Some(f), Some(g)) = (old.given.dump.file_at(k), new.given.dump.file_at(k)) {
-            cpus.push(cpu_diff(alloc, (k, k), f, g)?)?;
-        }
+        compare(alloc, &mut cpus, (&old, k), (&new, k))?;
     }
-    answered(alloc, &Diff::new(old, new, None, cpus), form)
+    let sides = Sides::Dumps;
+    let diff = Diff {
+        old,
+        new,
+        sides,
+        view,
+        cpus,
+    };
+    answered(alloc, &diff, form)
 }
 
-/// What differs between two processors of a dump. Something is found if they differ. Fails with `NoProcessor` if it hasn't both.
+/// What differs between processors of a dump. Something is found if they differ, or if types do in that view. Fails with
+/// `NoProcessor` if the dump hasn't both.
 pub fn diff_of_cpus_answer(
     alloc: Global,
     dump: Named<'_>,
-    numbers: (u32, u32),
+    sides: Sides,
+    view: View,
     form: Form,
 ) -> Result<Answer, NoReport> {
-    let files = &dump.given.dump;
-    let (Some(old), Some(new)) = (files.file_at(numbers.0), files.file_at(numbers.1)) else {
-        return Err(NoReport::NoProcessor(dump.files().len().saturating_sub(1)));
-    };
     let mut cpus = Vec::new(alloc);
-    cpus.push(cpu_diff(alloc, numbers, old, new)?)?;
-    answered(alloc, &Diff::new(dump, dump, Some(numbers), cpus), form)
+    if let Sides::Cpus(old, new) = sides {
+        if dump.file_at(old).is_none() || dump.file_at(new).is_none() {
+            return Err(NoReport::NoProcessor(dump.files().len().saturating_sub(1)));
+        }
+        compare(alloc, &mut cpus, (&dump, old), (&dump, new))?;
+    } else {
+        for k in 1..MOST_CPUS {
+            compare(alloc, &mut cpus, (&dump, 0), (&dump, k))?;
+        }
+    }
+    let diff = Diff {
+        old: dump,
+        new: dump,
+        sides,
+        view,
+        cpus,
+    };
+    answered(alloc, &diff, form)
 }
 
 fn problem(reason: Reason) -> &'static str {
@@ -192,20 +289,23 @@ fn add_types(text: &mut Text, types: &Option<Vec<Span<TypeChange>>>) {
     }
 }
 
-fn add_cpu(text: &mut Text, cpu: &CpuDiff<'_>, many: bool) {
+fn add_cpu(text: &mut Text, cpu: &CpuDiff<'_>, many: bool, view: View) {
     if cpu.is_same() {
         return;
     }
     if many {
-        text.add_decimal("  cpu ", cpu.numbers.0 as u64);
+        text.add("  ");
+        text.add_cpus(cpu.news.as_slice());
         text.add("\n");
     }
     add_fault(text, "  - ", cpu.old);
     add_fault(text, "  + ", cpu.new);
-    for d in &cpu.registers {
-        add_difference(text, cpu, d);
-    }
     add_types(text, &cpu.types);
+    if view == View::All {
+        for d in &cpu.registers {
+            add_difference(text, cpu, d);
+        }
+    }
 }
 
 fn add_width(text: &mut Text, sign: &str, dump: &Named<'_>) {
@@ -284,10 +384,10 @@ fn write_fault(json: &mut Json, name: &str, f: &RegFile) {
     }
 }
 
-fn write_cpu(json: &mut Json, cpu: &CpuDiff<'_>) {
+fn write_cpu(json: &mut Json, cpu: &CpuDiff<'_>, numbers: (u32, u32)) {
     json.begin_object();
-    json.number("old_cpu", cpu.numbers.0 as u64);
-    json.number("new_cpu", cpu.numbers.1 as u64);
+    json.number("old_cpu", numbers.0 as u64);
+    json.number("new_cpu", numbers.1 as u64);
     write_fault(json, "old_fault", cpu.old);
     write_fault(json, "new_fault", cpu.new);
     json.begin_list("registers");
@@ -297,6 +397,15 @@ fn write_cpu(json: &mut Json, cpu: &CpuDiff<'_>) {
     json.end_list();
     write_types(json, &cpu.types);
     json.end_object();
+}
+
+// Writes what differs from the old processors to the new one of this number.
+fn write_cpu_of(json: &mut Json, cpu: &CpuDiff<'_>, number: u32) {
+    for (old, new) in cpu.olds.iter().zip(cpu.news.iter()) {
+        if *new == number {
+            write_cpu(json, cpu, (*old, *new));
+        }
+    }
 }
 
 fn write_dump(json: &mut Json, name: &str, dump: &Named<'_>) {
@@ -310,12 +419,13 @@ fn write_dump(json: &mut Json, name: &str, dump: &Named<'_>) {
 
 fn add_names(text: &mut Text, diff: &Diff<'_>) {
     text.add(diff.old.file);
-    match diff.numbers {
-        Some((old, new)) => {
+    match diff.sides {
+        Sides::Cpus(old, new) => {
             text.add_decimal(": cpu ", old as u64);
             text.add_decimal(" and cpu ", new as u64);
         }
-        None => text.add_all(&[" and ", diff.new.file]),
+        Sides::Others => text.add(": cpu 0 and the others"),
+        Sides::Dumps => text.add_all(&[" and ", diff.new.file]),
     }
 }
 
@@ -332,29 +442,38 @@ fn add_dumps(text: &mut Text, old: &Named<'_>, new: &Named<'_>) {
 
 impl Report for Diff<'_> {
     fn is_found(&self) -> bool {
-        self.differ
+        match self.view {
+            View::All => self.differ(),
+            View::Types => self.types_differ() != Some(false),
+        }
     }
 
     fn add(&self, text: &mut Text) {
         add_names(text, self);
-        if !self.differ {
-            text.add(": no difference\n");
+        if !self.is_found() {
+            text.add(match self.view {
+                View::All => ": no difference\n",
+                View::Types => ": no page's type differs\n",
+            });
             return;
         }
         text.add(" differ\n");
         add_dumps(text, &self.old, &self.new);
         for cpu in &self.cpus {
-            add_cpu(text, cpu, self.cpus.len() > 1);
+            add_cpu(text, cpu, self.has_headings(), self.view);
         }
     }
 
     fn write(&self, json: &mut Json) {
         write_dump(json, "old", &self.old);
         write_dump(json, "new", &self.new);
-        json.flag("differ", self.differ);
+        json.flag("differ", self.differ());
+        json.optional_flag("types_differ", self.types_differ());
         json.begin_list("cpus");
-        for cpu in &self.cpus {
-            write_cpu(json, cpu);
+        for number in 0..MOST_CPUS {
+            for cpu in &self.cpus {
+                write_cpu_of(json, cpu, number);
+            }
         }
         json.end_list();
     }

@@ -23,6 +23,12 @@ pub enum NoReport {
     Refused(String),
     #[error("E of IA32_MTRR_DEF_TYPE is clear: the MTRRs are off")]
     Disabled,
+    #[error("the map's ranges aren't in ascending order")]
+    NotInOrder,
+    #[error("it has {0} maps; mtrr-import memory auto table=N takes one")]
+    SeveralMaps(u64),
+    #[error("more than 512 runs of pages")]
+    ManyRuns,
     #[error("it has processors 0 to {0}")]
     NoProcessor(usize),
 }

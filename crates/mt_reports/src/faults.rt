@@ -1,24 +1,67 @@
+ghost use Rattle.std.specs.Prelude.{◌≡◌, None};
+ghost use Rattle.mt_regs.specs.Faults.{register_fault};
+
 use crate::NoReport;
+use crate::fit::valid_pairs;
+use crate::notes::{Remark, remarks};
 use crate::object::Json;
+use crate::page::kind_name;
 use crate::registers::{add_pairs, add_value, write_pairs, write_value};
-use crate::report::{Answer, Form, Named, Report, answered};
+use crate::report::{Answer, Form, MOST_CPUS, Named, Report, answered};
 use crate::text::Text;
-use mt_explain::{Clash, Defect, FieldFault, clashes, field_faults};
-use mt_kinds::DEF_TYPE_FE;
-use mt_regs::{PAT, RegFile};
+use crate::unlike::{Unlike, unlike_of};
+use mt_explain::{Clash, Cpus, Defect, FieldFault, clashes, field_faults, type_pages};
+use mt_kinds::{DEF_TYPE_FE, MemType};
+use mt_regs::{PAT, PageType, RegFile};
 use std::alloc::{AllocError, Global};
 
-// What is wrong with the registers of a processor. Pages with no defined type are looked for if there is no fault.
-#[derive(Drop)]
-struct CpuFaults<'a> {
-    file: &'a RegFile,
-    faults: Vec<FieldFault>,
-    undefined: Vec<Clash>,
+// The types that pages may have.
+const KINDS: [PageType; 6] = [
+    PageType::Kind(MemType::UC),
+    PageType::Kind(MemType::WC),
+    PageType::Kind(MemType::WT),
+    PageType::Kind(MemType::WP),
+    PageType::Kind(MemType::WB),
+    PageType::Undefined,
+];
+
+// How many pages have a type.
+#[derive(Clone, Copy)]
+struct Share {
+    kind: PageType,
+    pages: u64,
 }
 
-impl CpuFaults<'_> {
-    fn is_found(&self) -> bool {
-        !self.faults.is_empty() || !self.undefined.is_empty()
+// What the pages of a file show, none of whose registers is at fault by itself.
+#[derive(Drop)]
+struct Pages {
+    undefined: Vec<Clash>,
+    shares: Vec<Share>,
+}
+
+// What there is to say of equal processors.
+#[derive(Drop)]
+struct GroupFaults<'a> {
+    cpus: Cpus,
+    file: &'a RegFile,
+    faults: Vec<FieldFault>,
+    // `None` if there are faults: what a register at fault does to pages isn't defined.
+    pages: Option<Pages>,
+    // what differs from processor 0, if something does
+    unlike: Option<Unlike>,
+    notes: Vec<Remark>,
+}
+
+impl GroupFaults<'_> {
+    fn undefined(&self) -> &[Clash] {
+        match &self.pages {
+            Some(pages) => pages.undefined.as_slice(),
+            None => &[],
+        }
+    }
+
+    fn is_at_fault(&self) -> bool {
+        !self.faults.is_empty() || !self.undefined().is_empty()
     }
 }
 
@@ -26,36 +69,71 @@ impl CpuFaults<'_> {
 #[derive(Drop)]
 struct Faults<'a> {
     dump: Named<'a>,
-    cpus: Vec<CpuFaults<'a>>,
-    found: bool,
+    groups: Vec<GroupFaults<'a>>,
+    at_fault: bool,
 }
 
-fn cpu_faults<'a>(alloc: Global, file: &'a RegFile) -> Result<CpuFaults<'a>, AllocError> {
+fn shares_of(alloc: Global, f: &RegFile) -> Result<Vec<Share>, AllocError>
+    requires { register_fault f.now ≡ None }
+{
+    let mut shares = Vec::new(alloc);
+    for kind in KINDS {
+        let pages = type_pages(f, kind);
+        if pages > 0 {
+            shares.push(Share { kind, pages })?;
+        }
+    }
+    Ok(shares)
+}
+
+fn pages_of(alloc: Global, f: &RegFile) -> Result<Pages, AllocError>
+    requires { register_fault f.now ≡ None }
+{
+    Ok(Pages {
+        undefined: clashes(alloc, f)?,
+        shares: shares_of(alloc, f)?,
+    })
+}
+
+fn group_faults<'a>(
+    alloc: Global,
+    dump: &Named<'a>,
+    cpus: Cpus,
+) -> Result<GroupFaults<'a>, AllocError> {
+    let file = dump.file_of(cpus.as_slice());
     let faults = field_faults(alloc, file)?;
-    let undefined = if faults.is_empty() {
-        clashes(alloc, file)?
+    let pages = if faults.is_empty() {
+        Some(pages_of(alloc, file)?)
     } else {
-        Vec::new(alloc)
+        None
     };
-    Ok(CpuFaults {
+    Ok(GroupFaults {
+        unlike: unlike_of(alloc, dump.given.dump.first_file(), file)?,
+        notes: remarks(alloc, dump, cpus.as_slice(), file)?,
+        cpus,
         file,
         faults,
-        undefined,
+        pages,
     })
 }
 
 fn faults_of<'a>(alloc: Global, dump: Named<'a>) -> Result<Faults<'a>, AllocError> {
-    let mut cpus = Vec::new(alloc);
-    let mut found = false;
-    for file in dump.files() {
-        let cpu = cpu_faults(alloc, file)?;
-        found = found || cpu.is_found();
-        cpus.push(cpu)?;
+    let mut groups = Vec::new(alloc);
+    let mut at_fault = false;
+    for cpus in dump.groups(alloc)? {
+        let group = group_faults(alloc, &dump, cpus)?;
+        at_fault = at_fault || group.is_at_fault();
+        groups.push(group)?;
     }
-    Ok(Faults { dump, cpus, found })
+    Ok(Faults {
+        dump,
+        groups,
+        at_fault,
+    })
 }
 
-/// Every fault of a dump. Something is found if there is a fault or a page with no defined type.
+/// Every fault of a dump, its unlike processors and notes. Something is found if there is a fault, a page with no defined type, or
+/// a processor unlike another.
 pub fn faults_answer(alloc: Global, dump: Named<'_>, form: Form) -> Result<Answer, NoReport> {
     answered(alloc, &faults_of(alloc, dump)?, form)
 }
@@ -114,18 +192,36 @@ fn add_undefined(text: &mut Text, f: &RegFile, run: &Clash) {
     add_pairs(text, f, run.mark.as_slice());
 }
 
-fn add_cpu(text: &mut Text, cpu: &CpuFaults<'_>) {
-    for fault in &cpu.faults {
-        add_fault(text, cpu.file, fault);
+fn add_faults(text: &mut Text, group: &GroupFaults<'_>) {
+    for fault in &group.faults {
+        add_fault(text, group.file, fault);
     }
-    for run in &cpu.undefined {
-        add_undefined(text, cpu.file, run);
+    for run in group.undefined() {
+        add_undefined(text, group.file, run);
     }
-    if !cpu.faults.is_empty() {
+    if !group.faults.is_empty() {
         text.add(
             "  pages with no defined type aren't looked for: what a register at fault does to pages isn't defined\n",
         );
     }
+}
+
+// Adds the line about the pairs in use and the sizes by type.
+fn add_summary(text: &mut Text, group: &GroupFaults<'_>) {
+    let f = group.file;
+    text.add_decimal("  pairs: ", valid_pairs(f));
+    text.add_decimal(" of ", f.pairs.len() as u64);
+    if let Some(pages) = &group.pages {
+        for share in &pages.shares {
+            text.add_all(&[", ", kind_name(share.kind), " "]);
+            text.add_size(share.pages);
+        }
+    }
+    for (i, note) in group.notes.iter().enumerate() {
+        text.add(if i == 0 { ", notes: " } else { ", " });
+        text.add(note.word());
+    }
+    text.add("\n");
 }
 
 fn write_fault(json: &mut Json, f: &RegFile, fault: &FieldFault) {
@@ -147,56 +243,125 @@ fn write_undefined(json: &mut Json, f: &RegFile, run: &Clash) {
     json.end_object();
 }
 
-fn write_cpu(json: &mut Json, k: u64, cpu: &CpuFaults<'_>) {
+fn write_cpu(json: &mut Json, cpu: u32, group: &GroupFaults<'_>) {
     json.begin_object();
-    json.number("cpu", k);
+    json.number("cpu", cpu as u64);
     json.begin_list("faults");
-    for fault in &cpu.faults {
-        write_fault(json, cpu.file, fault);
+    for fault in &group.faults {
+        write_fault(json, group.file, fault);
     }
     json.end_list();
-    json.flag("looked", cpu.faults.is_empty());
+    json.flag("looked", group.faults.is_empty());
     json.begin_list("undefined");
-    for run in &cpu.undefined {
-        write_undefined(json, cpu.file, run);
+    for run in group.undefined() {
+        write_undefined(json, group.file, run);
     }
     json.end_list();
     json.end_object();
 }
 
+fn write_shares(json: &mut Json, pages: &Option<Pages>) {
+    let Some(pages) = pages else {
+        json.null("types");
+        return;
+    };
+    json.begin_list("types");
+    for share in &pages.shares {
+        json.begin_object();
+        json.string("type", kind_name(share.kind));
+        json.pages(Some(share.pages));
+        json.end_object();
+    }
+    json.end_list();
+}
+
+fn write_group(json: &mut Json, dump: &Named<'_>, group: &GroupFaults<'_>) {
+    let f = group.file;
+    json.begin_object();
+    json.cpus(group.cpus.as_slice());
+    json.number("pairs", f.pairs.len() as u64);
+    json.number("valid", valid_pairs(f));
+    write_shares(json, &group.pages);
+    match &group.unlike {
+        Some(unlike) => unlike.write(json),
+        None => json.null("differs"),
+    }
+    json.begin_list("notes");
+    for note in &group.notes {
+        note.write(json, dump, group.file);
+    }
+    json.end_list();
+    json.end_object();
+}
+
+impl Faults<'_> {
+    fn agree(&self) -> bool {
+        self.groups.len() <= 1
+    }
+
+    // Adds the heading of equal processors, if the dump has several, and what differs from processor 0.
+    fn add_heading(&self, text: &mut Text, group: &GroupFaults<'_>) {
+        if self.dump.files().len() <= 1 {
+            return;
+        }
+        text.add("  ");
+        text.add_cpus(group.cpus.as_slice());
+        if let Some(unlike) = &group.unlike {
+            text.add(": ");
+            unlike.add(text);
+        }
+        text.add("\n");
+    }
+}
+
 impl Report for Faults<'_> {
     fn is_found(&self) -> bool {
-        self.found
+        self.at_fault || !self.agree()
     }
 
     fn add(&self, text: &mut Text) {
         text.add(self.dump.file);
-        if !self.found {
-            text.add(": no fault\n");
-            return;
-        }
-        text.add(": faults\n");
-        if !self.dump.given.has_width {
+        text.add(if self.at_fault {
+            ": faults\n"
+        } else if self.agree() {
+            ": no fault\n"
+        } else {
+            ": unlike processors\n"
+        });
+        if self.is_found() && !self.dump.given.has_width {
             let width = self.dump.width() as u64;
             text.add_decimal("  the dump has no line maxphyaddr, so ", width);
             text.add(" address bits were assumed\n");
         }
-        for (k, cpu) in self.cpus.iter().enumerate() {
-            if self.cpus.len() > 1 && cpu.is_found() {
-                text.add_decimal("  cpu ", k as u64);
-                text.add("\n");
+        for group in &self.groups {
+            self.add_heading(text, group);
+            add_faults(text, group);
+            if !self.is_found() {
+                add_summary(text, group);
             }
-            add_cpu(text, cpu);
+            for note in &group.notes {
+                note.add(text, &self.dump, group.file);
+            }
         }
     }
 
     fn write(&self, json: &mut Json) {
         json.string("file", self.dump.file);
         self.dump.write_width(json);
-        json.flag("found", self.found);
+        json.flag("found", self.is_found());
         json.begin_list("cpus");
-        for (k, cpu) in self.cpus.iter().enumerate() {
-            write_cpu(json, k as u64, cpu);
+        for cpu in 0..MOST_CPUS {
+            for group in &self.groups {
+                if group.cpus.as_slice().contains(&cpu) {
+                    write_cpu(json, cpu, group);
+                }
+            }
+        }
+        json.end_list();
+        json.flag("agree", self.agree());
+        json.begin_list("groups");
+        for group in &self.groups {
+            write_group(json, &self.dump, group);
         }
         json.end_list();
     }

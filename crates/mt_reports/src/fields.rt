@@ -1,6 +1,5 @@
 ghost use Rattle.std.specs.Prelude.{◌<◌};
 
-use crate::fit::PAGE_LOG;
 use crate::object::Json;
 use crate::text::Text;
 use mt_kinds::{
@@ -13,6 +12,9 @@ use mt_regs::{CAPABILITIES, DEFAULT_TYPE, FIRST_PAIR, MAX_PAIRS, PAT, RegFile};
 // The numbers of the pairs' registers are below.
 const PAST_PAIRS: u32 = FIRST_PAIR + 2 * MAX_PAIRS as u32;
 
+// SMRR of IA32_MTRRCAP: there are registers for a range of SMM.
+const MTRRCAP_SMRR: u8 = 11;
+
 // What a field of a register holds.
 #[derive(Clone, Copy)]
 enum Held {
@@ -20,8 +22,8 @@ enum Held {
     Number(u64),
     // The number of a page.
     Page(u64),
-    // The log of a range's bytes. A pair whose mask has a gap has no range.
-    Size(Option<u8>),
+    // The pages of a range. A pair whose mask has a gap has no range.
+    Size(Option<u64>),
     Type(u8),
     // Eight types, that of the lowest byte first.
     Types(u64),
@@ -54,38 +56,41 @@ fn low_type(value: u64) -> Option<Field> {
 fn size_in(f: &RegFile, mask: u64) -> Held {
     f.is_register_file(); // a fact for the proof
     match block_of(0, mask, f.maxphy) {
-        Some(block) => Held::Size(Some(block.log + PAGE_LOG)),
+        Some(block) => Held::Size(Some(block.end())),
         None => Held::Size(None),
     }
 }
 
-fn mask_fields(f: &RegFile, value: u64) -> [Option<Field>; 3] {
+fn mask_fields(f: &RegFile, value: u64) -> [Option<Field>; 4] {
     let valid = flag("valid", value, PHYSMASK_V);
     if is_bit_set(value, PHYSMASK_V) {
-        [valid, named("size", size_in(f, value)), None]
+        [valid, named("size", size_in(f, value)), None, None]
     } else {
-        [valid, None, None]
+        [valid, None, None, None]
     }
 }
 
-// The fields of a register's value, of which there are at most three.
-fn fields_of(f: &RegFile, msr: u32, value: u64) -> [Option<Field>; 3] {
+// The fields of a register's value, of which there are at most four.
+fn fields_of(f: &RegFile, msr: u32, value: u64) -> [Option<Field>; 4] {
     match msr {
         CAPABILITIES => [
             named("VCNT", Held::Number(byte_at(value, 0) as u64)),
             flag("FIX", value, MTRRCAP_FIX),
             flag("WC", value, MTRRCAP_WC),
+            flag("SMRR", value, MTRRCAP_SMRR),
         ],
-        PAT => [named("entries", Held::Entries(value)), None, None],
+        PAT => [named("entries", Held::Entries(value)), None, None, None],
         DEFAULT_TYPE => [
             low_type(value),
             flag("E", value, DEF_TYPE_E),
             flag("FE", value, DEF_TYPE_FE),
+            None,
         ],
-        _ if msr >= PAST_PAIRS => [named("types", Held::Types(value)), None, None],
+        _ if msr >= PAST_PAIRS => [named("types", Held::Types(value)), None, None, None],
         _ if msr % 2 == 0 => [
             named("base", Held::Page(value / PAGE_BYTES)),
             low_type(value),
+            None,
             None,
         ],
         _ => mask_fields(f, value),
@@ -126,7 +131,7 @@ fn add_held(text: &mut Text, held: Held) {
         Held::Flag(is_set) => text.add(if is_set { "1" } else { "0" }),
         Held::Number(n) => text.add_decimal("", n),
         Held::Page(page) => text.add_first(page),
-        Held::Size(Some(log)) => text.add_size(log),
+        Held::Size(Some(pages)) => text.add_size(pages),
         Held::Size(None) => text.add("none, since the mask has a gap"),
         Held::Type(byte) => text.add(type_name(byte)),
         Held::Types(value) => add_names(text, value, false),
@@ -151,6 +156,9 @@ fn write_field(json: &mut Json, field: &Field) {
     json.string("name", field.name);
     add_held(&mut json.part, field.held);
     json.text("value");
+    if let Held::Size(pages) = field.held {
+        json.bytes("bytes", pages);
+    }
     json.end_object();
 }
 

@@ -4,12 +4,13 @@ use crate::registers::add_register;
 use crate::report::{Answer, Form, Named, Report, answered};
 use crate::text::Text;
 use mt_explain::{Unfit, least_by_chunk, rounding_of, steps};
+use mt_kinds::PAGE_BYTES;
 use mt_ranges::is_valid;
 use mt_regs::RegFile;
 use std::alloc::{AllocError, Global};
 
 // The log of the bytes of a page, which is the least chunk too.
-pub const PAGE_LOG: u8 = 12;
+const PAGE_LOG: u8 = 12;
 
 // The largest granule has 2^28 pages.
 const PAST_GRANULES: u8 = 29;
@@ -52,17 +53,22 @@ struct Fit<'a> {
     granules: Vec<Row>,
 }
 
+/// How many pairs of a file are valid.
+pub fn valid_pairs(f: &RegFile) -> u64 {
+    let mut valid = 0u64;
+    for pair in f.pairs.as_slice() {
+        if is_valid(*pair) {
+            valid = valid.saturating_add(1);
+        }
+    }
+    valid
+}
+
 impl Budget {
     fn of(f: &RegFile, spare: u64) -> Budget {
-        let mut valid = 0u64;
-        for pair in f.pairs.as_slice() {
-            if is_valid(*pair) {
-                valid = valid.saturating_add(1);
-            }
-        }
         Budget {
             pairs: f.pairs.len() as u64,
-            valid,
+            valid: valid_pairs(f),
             spare,
         }
     }
@@ -179,6 +185,10 @@ impl Row {
         1 << (self.log % 64)
     }
 
+    fn pages(&self) -> u64 {
+        self.bytes() / PAGE_BYTES
+    }
+
     // Adds the command of `mtrr` that finds the registers.
     fn add_command(&self, text: &mut Text, spare: u64) {
         match self.way {
@@ -201,7 +211,7 @@ impl Row {
             Way::Tidy => "  chunk ",
             Way::Gran => "  granules of ",
         });
-        text.add_size(self.log);
+        text.add_size(self.pages());
         text.add_decimal(": ", self.needs);
         match has.free_after(self.needs) {
             Some(free) => {
@@ -214,8 +224,9 @@ impl Row {
             }
         }
         if let Some(lost) = self.lost {
-            text.add_decimal(", ", lost);
-            text.add(" pages lose WB");
+            text.add(", ");
+            text.add_pages(lost);
+            text.add(" lose WB");
         }
         if has.free_after(self.needs).is_some() {
             text.add(": ");
@@ -235,12 +246,14 @@ impl Row {
             self.bytes(),
             1,
         );
-        json.part.add_size(self.log);
+        json.part.add_size(self.pages());
         json.text("size");
+        json.number("bytes", self.bytes());
         json.number("needs", self.needs);
         json.optional_number("free", free);
         if self.way == Way::Gran {
             json.optional_number("lost", self.lost);
+            json.bytes("lost_bytes", self.lost);
         }
         if free.is_some() {
             self.add_command(&mut json.part, has.spare);

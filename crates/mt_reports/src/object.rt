@@ -1,5 +1,6 @@
 use crate::text::Text;
 use json::Writer;
+use mt_kinds::PAGE_BYTES;
 use std::alloc::{AllocError, Global};
 
 /// A line of JSON that is written member by member. If an allocation fails, `finish` says so.
@@ -58,6 +59,13 @@ impl Json {
         note(&mut self.failed, self.out.boolean(value));
     }
 
+    pub fn optional_flag(&mut self, name: &str, value: Option<bool>) {
+        match value {
+            Some(value) => self.flag(name, value),
+            None => self.null(name),
+        }
+    }
+
     pub fn number(&mut self, name: &str, value: u64) {
         self.key(name);
         note(&mut self.failed, self.out.u64(value));
@@ -66,6 +74,13 @@ impl Json {
     pub fn string(&mut self, name: &str, value: &str) {
         self.key(name);
         note(&mut self.failed, self.out.string(value));
+    }
+
+    pub fn optional_string(&mut self, name: &str, value: Option<&str>) {
+        match value {
+            Some(value) => self.string(name, value),
+            None => self.null(name),
+        }
     }
 
     /// Writes what was added to `part`, which is empty then.
@@ -89,10 +104,44 @@ impl Json {
         self.text("last");
     }
 
-    /// Writes the addresses of so many pages from one on, and their number.
+    /// Writes the addresses of so many pages from one on, their number and their bytes.
     pub fn run(&mut self, first: u64, count: u64) {
         self.range(first, first.saturating_add(count));
-        self.number("pages", count);
+        self.pages(Some(count));
+    }
+
+    /// Writes a number of pages and their bytes.
+    pub fn pages(&mut self, count: Option<u64>) {
+        self.optional_number("pages", count);
+        self.bytes("bytes", count);
+    }
+
+    /// Writes the bytes of so many pages.
+    pub fn bytes(&mut self, name: &str, pages: Option<u64>) {
+        match pages {
+            Some(pages) => self.number(name, pages.saturating_mul(PAGE_BYTES)),
+            None => self.null(name),
+        }
+    }
+
+    /// Writes the list of the numbers of processors.
+    pub fn cpus(&mut self, cpus: &[u32]) {
+        self.begin_list("cpus");
+        for cpu in cpus {
+            note(&mut self.failed, self.out.u64(*cpu as u64));
+        }
+        self.end_list();
+    }
+
+    /// Writes the list of the numbers of registers.
+    pub fn numbers(&mut self, registers: &[u32]) {
+        self.begin_list("registers");
+        for msr in registers {
+            self.part.add_hex(*msr as u64, 3);
+            note(&mut self.failed, self.out.string(self.part.as_str()));
+            self.part.clear();
+        }
+        self.end_list();
     }
 
     /// Writes the numbers of so many bits from one on.

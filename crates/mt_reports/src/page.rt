@@ -3,13 +3,13 @@ use crate::object::Json;
 use crate::registers::{add_pairs, add_value, write_pairs, write_value};
 use crate::report::{Answer, Form, Named, Report, answered};
 use crate::text::Text;
-use mt_explain::{Decision, Rule, decide, effective_types};
+use mt_explain::{Cpus, Decision, Rule, decide, effective_types};
 use mt_kinds::{PAGE_BYTES, Pat};
 use mt_regs::{DEFAULT_TYPE, PageType, RegFile, Register};
-use std::alloc::Global;
+use std::alloc::{AllocError, Global};
 
-// How many fixed-range registers there are.
-const FIXED: u8 = 11;
+/// How many fixed-range registers there are.
+pub const FIXED: u8 = 11;
 
 /// The name of a page's type.
 pub fn kind_name(kind: PageType) -> &'static str {
@@ -95,9 +95,10 @@ fn add_decider(text: &mut Text, f: &RegFile, rule: Rule) {
     }
 }
 
-fn add_cpu(text: &mut Text, cpu: u64, f: &RegFile, page: u64) {
+fn add_cpus(text: &mut Text, cpus: &[u32], f: &RegFile, page: u64) {
     let decision = decide(f, page);
-    text.add_decimal("  cpu ", cpu);
+    text.add("  ");
+    text.add_cpus(cpus);
     text.add_all(&[": ", kind_name(decision.kind), ", since "]);
     text.add_all(&[because(decision.rule), "\n"]);
     if f.register_fault().is_some() {
@@ -154,6 +155,7 @@ fn write_cpu(json: &mut Json, cpu: u64, f: &RegFile, page: u64) {
 #[derive(Drop)]
 struct Page<'a> {
     dump: Named<'a>,
+    groups: Vec<Cpus>,
     address: u64,
     // whether a processor gives the page no defined type
     undefined: bool,
@@ -162,19 +164,20 @@ struct Page<'a> {
 }
 
 impl Page<'_> {
-    fn new<'a>(dump: Named<'a>, address: u64) -> Page<'a> {
+    fn new<'a>(alloc: Global, dump: Named<'a>, address: u64) -> Result<Page<'a>, AllocError> {
         let mut undefined = false;
         let mut at_fault = false;
         for f in dump.files() {
             undefined = undefined || f.page_type(address / PAGE_BYTES).is_undefined();
             at_fault = at_fault || f.register_fault().is_some();
         }
-        Page {
+        Ok(Page {
+            groups: dump.groups(alloc)?,
             dump,
             address,
             undefined,
             at_fault,
-        }
+        })
     }
 }
 
@@ -187,8 +190,9 @@ impl Report for Page<'_> {
         text.add_all(&[self.dump.file, ": page of "]);
         text.add_hex(self.address, 1);
         text.add("\n");
-        for (k, f) in self.dump.files().iter().enumerate() {
-            add_cpu(text, k as u64, f, self.address / PAGE_BYTES);
+        for cpus in &self.groups {
+            let f = self.dump.file_of(cpus.as_slice());
+            add_cpus(text, cpus.as_slice(), f, self.address / PAGE_BYTES);
         }
     }
 
@@ -218,5 +222,5 @@ pub fn page_answer(
     if address / PAGE_BYTES >= f.pages() {
         return Err(NoReport::NoPage(f.maxphy));
     }
-    answered(alloc, &Page::new(dump, address), form)
+    answered(alloc, &Page::new(alloc, dump, address)?, form)
 }

@@ -107,10 +107,14 @@ fn write_pair(json: &mut Json, f: &RegFile, number: u8, pair: (u64, u64)) {
     json.number("pair", number as u64);
     json.string("type", pair_type(pair).name());
     match range_of(f, pair) {
-        Some((first, end)) => json.range(first, end),
+        Some((first, end)) => {
+            json.range(first, end);
+            json.bytes("bytes", Some(end.saturating_sub(first)));
+        }
         None => {
             json.null("first");
             json.null("last");
+            json.null("bytes");
         }
     }
     json.key("base");

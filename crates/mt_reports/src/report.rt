@@ -2,8 +2,15 @@ use crate::NoReport;
 use crate::object::Json;
 use crate::text::Text;
 use mt_dump::GivenDump;
+use mt_explain::{Cpus, groups_of};
 use mt_regs::RegFile;
-use std::alloc::Global;
+use std::alloc::{AllocError, Global};
+
+// What the members of an object mean. It rises if one goes or means something else.
+const FORMAT: u64 = 1;
+
+/// No dump has more processors.
+pub const MOST_CPUS: u32 = 16;
 
 /// What a report is for.
 #[derive(Clone, Copy, Debug, PartialEq, Eq)]
@@ -35,6 +42,28 @@ impl<'a> Named<'a> {
         dump.files.as_slice()
     }
 
+    /// The file of the processor of this number, if there is one.
+    pub fn file_at(&self, cpu: u32) -> Option<&'a RegFile> {
+        let dump = &self.given.dump;
+        dump.file_at(cpu)
+    }
+
+    /// The numbers of equal processors, in a list for each group.
+    pub fn groups(&self, alloc: Global) -> Result<Vec<Cpus>, AllocError> {
+        let dump = &self.given.dump;
+        dump.is_dump(); // a fact for the proof
+        groups_of(alloc, dump.files.as_slice())
+    }
+
+    /// The file of a group of processors.
+    pub fn file_of(&self, cpus: &[u32]) -> &'a RegFile {
+        let dump = &self.given.dump;
+        match cpus {
+            [first, ..] => dump.file_at(*first).unwrap_or(dump.first_file()),
+            [] => dump.first_file(),
+        }
+    }
+
     pub fn width(&self) -> u8 {
         self.given.dump.first_file().maxphy
     }
@@ -57,11 +86,27 @@ pub trait Report {
     fn write(&self, json: &mut Json);
 }
 
+// The beginning of an object.
+fn begun(alloc: Global) -> Json {
+    let mut json = Json::new(alloc);
+    json.begin_object();
+    json.number("format", FORMAT);
+    json
+}
+
+/// The line of JSON for a file without an answer.
+pub fn error_line(alloc: Global, file: &str, error: &str) -> Result<Vec<u8>, AllocError> {
+    let mut json = begun(alloc);
+    json.string("file", file);
+    json.string("error", error);
+    json.end_object();
+    json.finish()
+}
+
 pub fn answered<R: Report>(alloc: Global, report: &R, form: Form) -> Result<Answer, NoReport> {
     let text = match form {
         Form::Json => {
-            let mut json = Json::new(alloc);
-            json.begin_object();
+            let mut json = begun(alloc);
             report.write(&mut json);
             json.end_object();
             json.finish()?

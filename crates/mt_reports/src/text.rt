@@ -1,6 +1,59 @@
 use mt_kinds::PAGE_BYTES;
 use std::alloc::{AllocError, Global};
 
+// The units behind KB, each of 1,024 of the one before.
+const UNITS: [&str; 4] = [" MB", " GB", " TB", " PB"];
+
+// So many KB in the largest unit of which they are a multiple.
+fn exact_size(kilobytes: u64) -> (u64, &'static str) {
+    let mut count = kilobytes;
+    let mut unit = " KB";
+    for larger in UNITS {
+        if count > 0 && count % 1024 == 0 {
+            count /= 1024;
+            unit = larger;
+        }
+    }
+    (count, unit)
+}
+
+// So many KB in tenths of the largest unit of which they have one.
+fn rounded_size(kilobytes: u64) -> (u64, &'static str) {
+    let mut scale = 1u64;
+    let mut unit = " KB";
+    for larger in UNITS {
+        if kilobytes / 1024 >= scale {
+            scale = scale.saturating_mul(1024);
+            unit = larger;
+        }
+    }
+    let tenths = kilobytes.saturating_mul(10).saturating_add(scale / 2);
+    (tenths / scale.max(1), unit)
+}
+
+/// How the numbers of a list are written.
+#[derive(Clone, Copy)]
+pub enum Digits {
+    /// Those of processors.
+    Decimal,
+    /// Those of registers, in three digits.
+    Hex,
+}
+
+// Whether the number `by` places behind a place is greater by as much.
+fn rises(numbers: &[u32], place: Option<usize>, by: u32) -> bool {
+    let Some(place) = place else {
+        return false;
+    };
+    match (
+        numbers.get(place),
+        numbers.get(place.saturating_add(by as usize)),
+    ) {
+        (Some(low), Some(high)) => high.saturating_sub(*low) == by,
+        _ => false,
+    }
+}
+
 /// A text that is put together part by part. If an allocation fails, `finish` says so.
 #[derive(Drop)]
 pub struct Text {
@@ -59,11 +112,21 @@ impl Text {
         self.add_last(end);
     }
 
-    /// Adds the addresses of so many pages from one on, and their number.
+    /// Adds a number of pages and their size.
+    pub fn add_pages(&mut self, count: u64) {
+        self.add_decimal("", count);
+        self.add(" pages (");
+        self.add_size(count);
+        self.add(")");
+    }
+
+    /// Adds the addresses of so many pages from one on, their number and their size.
     pub fn add_run(&mut self, first: u64, count: u64) {
         self.add_range(first, first.saturating_add(count));
         self.add_decimal(" (", count);
-        self.add(" pages)");
+        self.add(" pages, ");
+        self.add_size(count);
+        self.add(")");
     }
 
     /// Adds the numbers of so many bits from one on.
@@ -72,17 +135,45 @@ impl Text {
         self.add_decimal(":", low as u64);
     }
 
-    /// Adds a power of two of bytes in the largest unit of which it is a multiple.
-    pub fn add_size(&mut self, log: u8) {
-        self.add_decimal("", 1 << (log % 10));
-        self.add(match log / 10 {
-            0 => " B",
-            1 => " KB",
-            2 => " MB",
-            3 => " GB",
-            4 => " TB",
-            _ => " PB",
-        });
+    /// Adds the size of so many pages: exact, in the largest unit of which it is a multiple, if that has at most four digits, and else
+    /// rounded to a tenth of a unit.
+    pub fn add_size(&mut self, pages: u64) {
+        let kilobytes = pages.saturating_mul(PAGE_BYTES / 1024);
+        let (count, unit) = exact_size(kilobytes);
+        if count < 10_000 {
+            self.add_decimal("", count);
+            self.add(unit);
+        } else {
+            let (tenths, unit) = rounded_size(kilobytes);
+            self.add_decimal("", tenths / 10);
+            self.add_decimal(".", tenths % 10);
+            self.add(unit);
+        }
+    }
+
+    /// Adds numbers in ascending order. Of three or more neighbours there are the first and the last.
+    pub fn add_numbers(&mut self, numbers: &[u32], digits: Digits) {
+        for i in 0..numbers.len() {
+            let goes_on = rises(numbers, i.checked_sub(1), 1);
+            if goes_on && rises(numbers, Some(i), 1) {
+                continue;
+            }
+            if goes_on && rises(numbers, i.checked_sub(2), 2) {
+                self.add("-");
+            } else if i > 0 {
+                self.add(", ");
+            }
+            match digits {
+                Digits::Decimal => self.add_decimal("", numbers[i] as u64),
+                Digits::Hex => self.add_hex(numbers[i] as u64, 3),
+            }
+        }
+    }
+
+    /// Adds the numbers of processors.
+    pub fn add_cpus(&mut self, cpus: &[u32]) {
+        self.add("cpu ");
+        self.add_numbers(cpus, Digits::Decimal);
     }
 
     pub fn as_str(&self) -> &str {

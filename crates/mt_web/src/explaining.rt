@@ -2,8 +2,8 @@ use crate::told::{PageText, no_memory};
 use crate::words::words_in;
 use mt_dump::GivenDump;
 use mt_reports::{
-    Answer, Form, Named, NoReport, diff_answer, diff_of_cpus_answer, faults_answer, fit_answer,
-    given_by, page_answer,
+    Answer, Form, Named, NoReport, Sides, View, diff_answer, diff_of_cpus_answer, faults_answer,
+    fit_answer, given_by, page_answer,
 };
 use mt_text::{decimal, hex64};
 use std::alloc::Global;
@@ -114,7 +114,13 @@ fn diff<'a>(
 ) -> Result<Answer, Trouble<'a>> {
     let first = given_named(old, first)?;
     let second = given_named(new, second)?;
-    let answer = diff_answer(alloc, dump(old, &first), dump(new, &second), Form::Json);
+    let answer = diff_answer(
+        alloc,
+        dump(old, &first),
+        dump(new, &second),
+        View::All,
+        Form::Json,
+    );
     named(old, answer)
 }
 
@@ -148,7 +154,7 @@ fn answer<'a>(
             let dump = dump(file, &given);
             named(
                 file,
-                diff_of_cpus_answer(alloc, dump, (old, new), Form::Json),
+                diff_of_cpus_answer(alloc, dump, Sides::Cpus(old, new), View::All, Form::Json),
             )
         }
     }

@@ -1,6 +1,6 @@
 use anyhow::{Result, bail};
 use clap::{Arg, ArgAction, ArgMatches, Command};
-use mt_reports::Form;
+use mt_reports::{Form, NamedMap, Sides, View};
 use mt_text::{decimal, hex64};
 use std::alloc::{AllocError, Global};
 
@@ -14,13 +14,14 @@ const MOST_PAIRS: u64 = 32;
 const VERSION: &str = "1.0.0\nproved by rattle-kit-13f logic dac8208d650f15bf";
 
 const STATUSES: &str = "Exit status:
-  0  no fault, no difference, and enough pairs
-  1  a fault, a difference, a page with no defined type, or too few pairs
+  0  no fault, no difference, types that fit the memory, and enough pairs
+  1  a fault, a difference, a page with no defined type or an unfit one, or too few pairs
   2  wrong usage, or a file without an answer: standard error says why";
 
 const DUMPS: &str = "Dumps, as mtrr reads them; - is standard input";
 
-const OLD_AND_NEW: &str = "The old and the new dump, or one with --cpus; - is standard input";
+const OLD_AND_NEW: &str =
+    "The old and the new dump, or one with --cpus or --all-cpus; - is standard input";
 
 /// What is asked.
 #[derive(Clone, Copy)]
@@ -31,8 +32,10 @@ pub enum Question {
     Page { address: u64 },
     /// How many pairs the types of each file need, where so many are to stay free.
     Fit { spare: u64 },
-    /// What differs between two files, or between these processors of one.
-    Diff { cpus: Option<(u32, u32)> },
+    /// Which memory of a map has a type that doesn't fit.
+    Ram,
+    /// What differs between two files, or between processors of one.
+    Diff { sides: Sides, view: View },
 }
 
 /// What the words of a command line ask for, but for the files.
@@ -40,6 +43,8 @@ pub enum Question {
 pub struct Asked<'a> {
     pub question: Question,
     pub form: Form,
+    /// The memory map that the words name; without one it is empty.
+    pub map: NamedMap<'a>,
     /// The words that aren't UTF-8, with U+FFFD for what isn't.
     pub garbled: &'a [String],
 }
@@ -64,6 +69,10 @@ fn option<'a>(alloc: Global, name: &'static str, help: &'static str) -> Arg<'a> 
     Arg::new(alloc, name).long(name).help(help)
 }
 
+fn flag<'a>(alloc: Global, name: &'static str, help: &'static str) -> Arg<'a> {
+    option(alloc, name, help).action(ArgAction::SetTrue)
+}
+
 fn files<'a>(alloc: Global, help: &'static str) -> Arg<'a> {
     positional(alloc, "FILE", help)
         .num_args(1..)
@@ -75,7 +84,7 @@ fn subcommand<'a>(alloc: Global, name: &'static str, about: &'static str) -> Mad
 }
 
 fn faults<'a>(alloc: Global) -> Made<'a> {
-    let about = "Print every fault of the registers, and the pages with no defined type";
+    let about = "Print every fault, unlike processors, and what else is worth knowing";
     with_arg(subcommand(alloc, "faults", about), files(alloc, DUMPS))
 }
 
@@ -87,12 +96,19 @@ fn page<'a>(alloc: Global) -> Made<'a> {
 }
 
 fn diff<'a>(alloc: Global) -> Made<'a> {
-    let about = "Print what differs between two dumps, or between two processors of one";
+    let about = "Print what differs between two dumps, or between processors of one";
     let cpus = option(alloc, "cpus", "Compare two processors of one dump")
         .num_args(2)
         .value_name("CPU")
         .action(ArgAction::Append);
+    let all = flag(
+        alloc,
+        "all-cpus",
+        "Compare each processor of one dump with processor 0",
+    );
+    let types = flag(alloc, "types", "Compare the types of pages alone");
     let command = with_arg(subcommand(alloc, "diff", about), cpus);
+    let command = with_arg(with_arg(command, all), types);
     with_arg(command, files(alloc, OLD_AND_NEW))
 }
 
@@ -101,6 +117,17 @@ fn fit<'a>(alloc: Global) -> Made<'a> {
         "Print how many pairs processor 0's types need, and the mtrr command that finds them";
     let spare = option(alloc, "spare", "Leave N pairs free, 0 to 32; by default 0").value_name("N");
     let command = with_arg(subcommand(alloc, "fit", about), spare);
+    with_arg(command, files(alloc, DUMPS))
+}
+
+fn ram<'a>(alloc: Global) -> Made<'a> {
+    let about = "Print which memory has a type that doesn't fit, and the registers that give it";
+    let map = positional(
+        alloc,
+        "MAP",
+        "A memory map: ranges of bytes and kinds, or a log that shows one",
+    );
+    let command = with_arg(subcommand(alloc, "ram", about), map);
     with_arg(command, files(alloc, DUMPS))
 }
 
@@ -116,14 +143,13 @@ fn root<'a>(alloc: Global) -> Made<'a> {
 
 /// The command line.
 pub fn command<'a>(alloc: Global) -> Result<Command<'a>, AllocError> {
-    let json = option(alloc, "json", "Print one JSON object for each answer")
-        .action(ArgAction::SetTrue)
-        .global(true);
+    let json = flag(alloc, "json", "Print one JSON object for each answer").global(true);
     let command = with_arg(root(alloc), json);
     let command = with_command(command, faults(alloc));
     let command = with_command(command, page(alloc));
     let command = with_command(command, diff(alloc));
-    with_command(command, fit(alloc))
+    let command = with_command(command, fit(alloc));
+    with_command(command, ram(alloc))
 }
 
 fn page_question(matches: &ArgMatches<'_>) -> Result<Question> {
@@ -141,13 +167,25 @@ fn cpu_number(word: &str) -> Result<u32> {
     }
 }
 
+fn sides_of(matches: &ArgMatches<'_>) -> Result<Sides> {
+    match (matches.get_strs("cpus"), matches.get_flag("all-cpus")) {
+        (None, false) => Ok(Sides::Dumps),
+        (None, true) => Ok(Sides::Others),
+        (Some([old, new]), false) => Ok(Sides::Cpus(cpu_number(*old)?, cpu_number(*new)?)),
+        (Some(_), true) => bail!("--cpus and --all-cpus are both given"),
+        (Some(_), false) => bail!("--cpus is given twice"),
+    }
+}
+
 fn diff_question(matches: &ArgMatches<'_>) -> Result<Question> {
-    let cpus = match matches.get_strs("cpus") {
-        None => None,
-        Some([old, new]) => Some((cpu_number(*old)?, cpu_number(*new)?)),
-        Some(_) => bail!("--cpus is given twice"),
-    };
-    Ok(Question::Diff { cpus })
+    Ok(Question::Diff {
+        sides: sides_of(matches)?,
+        view: if matches.get_flag("types") {
+            View::Types
+        } else {
+            View::All
+        },
+    })
 }
 
 fn fit_question(matches: &ArgMatches<'_>) -> Result<Question> {
@@ -163,7 +201,17 @@ fn question_of(name: &str, matches: &ArgMatches<'_>) -> Result<Question> {
         "faults" => Ok(Question::Faults),
         "diff" => diff_question(matches),
         "fit" => fit_question(matches),
+        "ram" => Ok(Question::Ram),
         _ => page_question(matches),
+    }
+}
+
+/// How the answers are printed.
+pub fn form_of(matches: &ArgMatches<'_>) -> Form {
+    if matches.get_flag("json") {
+        Form::Json
+    } else {
+        Form::Text
     }
 }
 
@@ -171,16 +219,14 @@ fn question_of(name: &str, matches: &ArgMatches<'_>) -> Result<Question> {
 pub fn asked_of<'a>(
     name: &str,
     matches: &ArgMatches<'_>,
+    map: NamedMap<'a>,
     garbled: &'a [String],
 ) -> Result<Asked<'a>> {
-    let form = if matches.get_flag("json") {
-        Form::Json
-    } else {
-        Form::Text
-    };
+    let form = form_of(matches);
     Ok(Asked {
         question: question_of(name, matches)?,
         form,
+        map,
         garbled,
     })
 }

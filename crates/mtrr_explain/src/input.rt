@@ -1,6 +1,7 @@
 use anyhow::{Result, bail};
 use mt_dump::GivenDump;
-use mt_reports::given_by;
+use mt_memory::Ranges;
+use mt_reports::{given_by, pages_by};
 use mt_text::LONGEST_INPUT;
 use std::alloc::Global;
 use std::env::{Env, FillError};
@@ -41,7 +42,7 @@ pub fn words_of<R: Env + AllocGlobal>(rt: &R) -> Result<Words> {
     Ok(Words { words, garbled })
 }
 
-// The bytes of a dump. Of a text that is too long for one, the first bytes that are too many.
+// The bytes of a text. Of one that is too long, the first bytes that are too many.
 fn bytes_of<S: Read + Drop>(alloc: Global, source: S) -> Result<Vec<u8>> {
     let mut bytes = Vec::new(alloc);
     source
@@ -50,19 +51,38 @@ fn bytes_of<S: Read + Drop>(alloc: Global, source: S) -> Result<Vec<u8>> {
     Ok(bytes)
 }
 
-/// Reads a dump from a file, or from standard input for `-`. A garbled word isn't the name of its file.
+// The bytes of a file, or of standard input for `-`. A garbled word isn't the name of its file.
+fn bytes_at<R: Files + Input + AllocGlobal>(
+    rt: &R,
+    file: &str,
+    garbled: &[String],
+) -> Result<Vec<u8>> {
+    if garbled.iter().any(|word| word.as_str() == file) {
+        bail!("its name isn't UTF-8");
+    }
+    if file == "-" {
+        bytes_of(rt.alloc(), rt.reader())
+    } else {
+        bytes_of(rt.alloc(), File::open(rt, file)?)
+    }
+}
+
+/// Reads a dump.
 pub fn read<R: Files + Input + AllocGlobal>(
     rt: &R,
     file: &str,
     garbled: &[String],
 ) -> Result<GivenDump> {
-    if garbled.iter().any(|word| word.as_str() == file) {
-        bail!("its name isn't UTF-8");
-    }
-    let bytes = if file == "-" {
-        bytes_of(rt.alloc(), rt.reader())?
-    } else {
-        bytes_of(rt.alloc(), File::open(rt, file)?)?
-    };
+    let bytes = bytes_at(rt, file, garbled)?;
     Ok(given_by(bytes.as_slice())?)
+}
+
+/// Reads a memory map.
+pub fn read_map<R: Files + Input + AllocGlobal>(
+    rt: &R,
+    file: &str,
+    garbled: &[String],
+) -> Result<Ranges> {
+    let bytes = bytes_at(rt, file, garbled)?;
+    Ok(pages_by(rt.alloc(), bytes)?)
 }

@@ -1,10 +1,12 @@
-use crate::command::{Asked, Question, asked_of, command};
-use crate::input::{read, words_of};
-use anyhow::{Result, bail};
+use crate::command::{Asked, Question, asked_of, command, form_of};
+use crate::input::{read, read_map, words_of};
+use anyhow::{Error, Result, bail};
 use clap::ArgMatches;
 use mt_dump::GivenDump;
+use mt_memory::Ranges;
 use mt_reports::{
-    Answer, Named, diff_answer, diff_of_cpus_answer, faults_answer, fit_answer, page_answer,
+    Answer, Form, Named, NamedMap, NoReport, Sides, View, diff_answer, diff_of_cpus_answer,
+    error_line, faults_answer, fit_answer, page_answer, ram_answer,
 };
 use std::env::Env;
 use std::fs::Files;
@@ -37,6 +39,16 @@ fn is_written<R: Eprint>(rt: &R, done: io::Result<()>) -> bool {
     }
 }
 
+/// A file without an answer, and why.
+#[derive(Drop)]
+struct Trouble<'a> {
+    file: &'a str,
+    error: Error,
+}
+
+/// An answer, or the file without one.
+type Told<'a> = Result<Answer, Trouble<'a>>;
+
 // Prints an answer. Returns `None` if no more can be printed.
 fn print_answer<R: Print + Eprint>(rt: &R, answer: &Answer) -> Option<Verdict> {
     if !is_written(rt, rt.write_all(answer.text.as_slice())) {
@@ -48,80 +60,93 @@ fn print_answer<R: Print + Eprint>(rt: &R, answer: &Answer) -> Option<Verdict> {
     }
 }
 
-// Reads a dump, and names the file if there is trouble.
-fn read_named<R: Files + Input + AllocGlobal>(
+// Prints on standard error why a file has no answer, and for scripts a line of JSON. Returns `None` if no more can be printed.
+fn print_trouble<R: Print + Eprint + AllocGlobal>(
     rt: &R,
-    asked: &Asked<'_>,
-    file: &str,
-) -> Result<GivenDump> {
-    match read(rt, file, asked.garbled) {
-        Ok(given) => Ok(given),
-        Err(error) => bail!("{file}: {error:#}"),
+    form: Form,
+    trouble: &Trouble<'_>,
+) -> Option<Verdict> {
+    let Trouble { file, error } = trouble;
+    let _ = eprintln!(rt; "mtrr-explain: {file}: {error:#}");
+    if form == Form::Json {
+        let alloc = rt.alloc();
+        let reason = format!(in alloc; "{error:#}").ok()?;
+        let line = error_line(alloc, *file, reason.as_str()).ok()?;
+        if !is_written(rt, rt.write_all(line.as_slice())) {
+            return None;
+        }
+    }
+    Some(Verdict::Trouble)
+}
+
+fn print_told<R: Print + Eprint + AllocGlobal>(
+    rt: &R,
+    form: Form,
+    told: Told<'_>,
+) -> Option<Verdict> {
+    match told {
+        Ok(answer) => print_answer(rt, &answer),
+        Err(trouble) => print_trouble(rt, form, &trouble),
     }
 }
 
-fn diff_of_files<R: Files + Input + AllocGlobal>(
+fn told_of<'a>(file: &'a str, answer: Result<Answer, NoReport>) -> Told<'a> {
+    match answer {
+        Ok(answer) => Ok(answer),
+        Err(error) => Err(Trouble {
+            file,
+            error: Error::from(error),
+        }),
+    }
+}
+
+fn read_named<'a, R: Files + Input + AllocGlobal>(
     rt: &R,
     asked: &Asked<'_>,
-    old: &str,
-    new: &str,
-) -> Result<Answer> {
-    let old_given = read_named(rt, asked, old)?;
-    let new_given = read_named(rt, asked, new)?;
+    file: &'a str,
+) -> Result<GivenDump, Trouble<'a>> {
+    match read(rt, file, asked.garbled) {
+        Ok(given) => Ok(given),
+        Err(error) => Err(Trouble { file, error }),
+    }
+}
+
+fn diff_of_files<'a, R: Files + Input + AllocGlobal>(
+    rt: &R,
+    asked: &Asked<'_>,
+    view: View,
+    files: (&'a str, &'a str),
+) -> Told<'a> {
+    let old_given = read_named(rt, asked, files.0)?;
+    let new_given = read_named(rt, asked, files.1)?;
     let old = Named {
-        file: old,
+        file: files.0,
         given: &old_given,
     };
     let new = Named {
-        file: new,
+        file: files.1,
         given: &new_given,
     };
-    Ok(diff_answer(rt.alloc(), old, new, asked.form)?)
+    told_of(files.0, diff_answer(rt.alloc(), old, new, view, asked.form))
 }
 
-fn diff_of_cpus<R: Files + Input + AllocGlobal>(
-    rt: &R,
-    asked: &Asked<'_>,
-    file: &str,
-    cpus: (u32, u32),
-) -> Result<Answer> {
+// The answer about one of the files.
+fn about<'a, R: Files + Input + AllocGlobal>(rt: &R, asked: &Asked<'_>, file: &'a str) -> Told<'a> {
+    let alloc = rt.alloc();
+    let form = asked.form;
     let given = read_named(rt, asked, file)?;
     let dump = Named {
         file,
         given: &given,
     };
-    match diff_of_cpus_answer(rt.alloc(), dump, cpus, asked.form) {
-        Ok(answer) => Ok(answer),
-        Err(error) => bail!("{file}: {error}"),
-    }
-}
-
-fn diff<R: Files + Input + AllocGlobal>(
-    rt: &R,
-    asked: &Asked<'_>,
-    cpus: Option<(u32, u32)>,
-    files: &[&str],
-) -> Result<Answer> {
-    match (cpus, files) {
-        (None, [old, new]) => diff_of_files(rt, asked, *old, *new),
-        (Some(cpus), [file]) => diff_of_cpus(rt, asked, *file, cpus),
-        _ => bail!("diff compares two files, or with --cpus two processors of one"),
-    }
-}
-
-// The answer about one of the files.
-fn about<R: Files + Input + AllocGlobal>(rt: &R, asked: &Asked<'_>, file: &str) -> Result<Answer> {
-    let alloc = rt.alloc();
-    let given = read(rt, file, asked.garbled)?;
-    let dump = Named {
-        file,
-        given: &given,
+    let answer = match asked.question {
+        Question::Faults => faults_answer(alloc, dump, form),
+        Question::Page { address } => page_answer(alloc, dump, address, form),
+        Question::Fit { spare } => fit_answer(alloc, dump, spare, form),
+        Question::Diff { sides, view } => diff_of_cpus_answer(alloc, dump, sides, view, form),
+        Question::Ram => ram_answer(alloc, asked.map, dump, form),
     };
-    Ok(match asked.question {
-        Question::Page { address } => page_answer(alloc, dump, address, asked.form)?,
-        Question::Fit { spare } => fit_answer(alloc, dump, spare, asked.form)?,
-        _ => faults_answer(alloc, dump, asked.form)?,
-    })
+    told_of(file, answer)
 }
 
 // Answers for each file. One without an answer doesn't keep the others from theirs.
@@ -132,18 +157,37 @@ fn tell_each<R: Files + Input + Print + Eprint + AllocGlobal>(
 ) -> Verdict {
     let mut verdict = Verdict::Nothing;
     for file in files {
-        match about(rt, asked, *file) {
-            Ok(answer) => match print_answer(rt, &answer) {
-                Some(found) => verdict = worse(verdict, found),
-                None => return Verdict::Trouble,
-            },
-            Err(error) => {
-                let _ = eprintln!(rt; "mtrr-explain: {file}: {error:#}");
-                verdict = Verdict::Trouble;
-            }
+        match print_told(rt, asked.form, about(rt, asked, *file)) {
+            Some(found) => verdict = worse(verdict, found),
+            None => return Verdict::Trouble,
         }
     }
     verdict
+}
+
+fn tell_diff<R: Files + Input + Print + Eprint + AllocGlobal>(
+    rt: &R,
+    asked: &Asked<'_>,
+    (sides, view): (Sides, View),
+    files: &[&str],
+) -> Result<Verdict> {
+    let told = match (sides, files) {
+        (Sides::Dumps, [old, new]) => diff_of_files(rt, asked, view, (*old, *new)),
+        (Sides::Cpus(_, _) | Sides::Others, [file]) => about(rt, asked, *file),
+        _ => bail!("diff compares two files, or with --cpus or --all-cpus processors of one"),
+    };
+    Ok(print_told(rt, asked.form, told).unwrap_or(Verdict::Trouble))
+}
+
+fn tell_files<R: Files + Input + Print + Eprint + AllocGlobal>(
+    rt: &R,
+    asked: &Asked<'_>,
+    files: &[&str],
+) -> Result<Verdict> {
+    match asked.question {
+        Question::Diff { sides, view } => tell_diff(rt, asked, (sides, view), files),
+        _ => Ok(tell_each(rt, asked, files)),
+    }
 }
 
 fn tell<R: Files + Input + Print + Eprint + AllocGlobal>(
@@ -157,14 +201,27 @@ fn tell<R: Files + Input + Print + Eprint + AllocGlobal>(
     let Some(files) = matches.get_strs("FILE") else {
         return Ok(Verdict::Trouble);
     };
-    let asked = asked_of(name, matches, garbled)?;
-    match asked.question {
-        Question::Diff { cpus } => {
-            let answer = diff(rt, &asked, cpus, files)?;
-            Ok(print_answer(rt, &answer).unwrap_or(Verdict::Trouble))
+    let mut ranges = Ranges::new();
+    let file = if name == "ram" {
+        matches.get_str("MAP").unwrap_or("-")
+    } else {
+        ""
+    };
+    if name == "ram" {
+        match read_map(rt, file, garbled) {
+            Ok(found) => ranges = found,
+            Err(error) => {
+                let trouble = Trouble { file, error };
+                let told = print_trouble(rt, form_of(matches), &trouble);
+                return Ok(told.unwrap_or(Verdict::Trouble));
+            }
         }
-        _ => Ok(tell_each(rt, &asked, files)),
     }
+    let map = NamedMap {
+        file,
+        ranges: ranges.as_slice(),
+    };
+    tell_files(rt, &asked_of(name, matches, map, garbled)?, files)
 }
 
 fn answer<R: Env + Files + Input + Print + Eprint + AllocGlobal>(rt: &R) -> Result<Verdict> {

@@ -2,7 +2,7 @@ use Rattle.std.proofs.Common.{rules, of_calls, arith}
 use Rattle.std.specs.Prelude.{nat_lt}
 use Rattle.std.proofs.lemmas.Bool.{ltb-true}
 use Rattle.std.proofs.lemmas.Fn.{always_returns_same}
-use Rattle.mt_explain.specs.declared.memory.MemoryRange.{MemoryRange}
+use Rattle.mt_memory_kinds.specs.declared.kind.MemoryRange.{MemoryRange}
 use Rattle.mt_explain.proofs.Ranges.{found_behind, less, rise}
 use Rattle.mt_explain.proofs.mapped.place_from.Goals as goal
 

@@ -3,8 +3,8 @@ use Rattle.mt_ranges.specs.Match.{is_valid}
 use Rattle.mt_regs.specs.RegisterFile.{pair_at}
 use Rattle.mt_regs.specs.Faults.{register_fault}
 use Rattle.mt_explain.proofs.Without.{without_checked}
-use Rattle.mt_explain.proofs.remarks.is_idle.Goals as goal
-use Rattle.mt_explain.proofs.remarks.is_idle.Goals.{else-is_valid, then-is_valid}
+use Rattle.mt_explain.proofs.remarks.is_spare.Goals as goal
+use Rattle.mt_explain.proofs.remarks.is_spare.Goals.{else-is_valid, then-is_valid}
 
 pub changed_pages-requires-clause-new : goal.changed_pages-requires-clause-new
 changed_pages-requires-clause-new c = elim c.if-is_valid.branch [
