@@ -1,5 +1,5 @@
 // Runs the module beside the programs, and tells where a text or a status differs. `call(tool, words, ..inputs)` answers a status
-// and bytes, and `guess(bytes)` the format of a log, wherever the module runs.
+// and bytes, and `formatOf(bytes)` the format of a log, wherever the module runs.
 //     node compare.mjs          in Node. Its status is 77 if the engine has no 64-bit memory and tables
 import { mkdtempSync, readFileSync, rmSync, writeFileSync } from 'node:fs';
 import { tmpdir } from 'node:os';
@@ -22,7 +22,7 @@ export const hostile = {
     'too long': Buffer.concat([long, Buffer.from('\n')]),
 };
 
-export async function compare({ call, guess }, randoms) {
+export async function compare({ call, formatOf }, randoms) {
     const counts = {};
     let failures = 0;
 
@@ -53,7 +53,7 @@ export async function compare({ call, guess }, randoms) {
     for (const { bytes, name } of logs) {
         for (const format of FORMATS) for (let k = 0; k <= SUPPLIED.length; k++) await beside('logs', 'mtrr_import', [format, ...SUPPLIED.slice(0, k)], bytes);
         counts.formats = (counts.formats || 0) + 1;
-        const found = await guess(bytes);
+        const found = await formatOf(bytes);
         if (!name.includes(`.${found}.`)) fail(`${name}: read as ${found}`);
     }
     await beside('logs', 'mtrr_import', ['--help'], Buffer.alloc(0));
@@ -92,7 +92,7 @@ if (process.argv[1] === import.meta.filename || process.argv[1]?.endsWith('/comp
         console.log(`Node ${process.version} has no 64-bit memory and tables: the module was not run in it`);
         process.exit(77);
     } else {
-        const { call, guess } = await scriptInNode(wasm);
-        process.exit(await compare({ call, guess }, 2000) ? 1 : 0);
+        const { call, formatOf } = await scriptInNode(wasm);
+        process.exit(await compare({ call, formatOf }, 2000) ? 1 : 0);
     }
 }

@@ -5,6 +5,7 @@ import { fileURLToPath } from 'node:url';
 import vm from 'node:vm';
 
 export const top = fileURLToPath(new URL('..', import.meta.url));
+export const address = `file://${top}web/mtrr.html`;
 export const PROGRAMS = { mtrr_run: 'mtrr', mtrr_import: 'mtrr_import', mtrr_map: 'mtrr_map' };
 export const FORMATS = ['rdmsr', 'x86info', 'inteltool', 'coreboot', 'edk2', 'linux', 'xen', 'chipsec', 'windbg', 'plain'];
 
@@ -31,7 +32,7 @@ export const logs = folder('examples/logs', '.log');
 export async function scriptInNode(wasm) {
     const { instance } = await WebAssembly.instantiate(readFileSync(wasm), {});
     const context = vm.createContext({ TextEncoder, TextDecoder, Uint8Array, DataView, BigInt, wasmExports: instance.exports });
-    const script = readFileSync(`${top}web/page.js`, 'utf8').replace(/\nstart\(\);\n$/, '\nexports = wasmExports;\n({ call, guess })\n');
+    const script = readFileSync(`${top}web/out/page.js`, 'utf8').replace(/\nstart\(\);\n$/, '\nexports = wasmExports;\n({ call, formatOf })\n');
     return vm.runInContext(script, context);
 }
 
