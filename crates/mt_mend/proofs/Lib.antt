@@ -1,0 +1,5 @@
+mod Walking
+mod Past
+mod Bare
+mod Granted
+mod Writing

@@ -1,0 +1,4 @@
+pub mod Wishes
+pub mod Mended
+pub mod Writes
+pub mod Courses

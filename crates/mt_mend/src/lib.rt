@@ -1,0 +1,20 @@
+//! What to write: the registers that give pages the types that are wished for, and the writes that lead to them.
+#![tactic(auto)]
+
+mod edges;
+mod fault;
+mod faults;
+mod laws;
+mod mending;
+mod steps;
+mod wish;
+mod wished;
+mod write;
+
+pub use fault::{MendFault, WishFault};
+pub use laws::{range_registers_change_with_e_clear, the_last_wish_decides};
+pub use mending::mend;
+pub use steps::changes;
+pub use wish::{MAX_WISHES, Wish};
+pub use wished::wished_type;
+pub use write::Write;
