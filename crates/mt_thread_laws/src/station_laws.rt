@@ -8,7 +8,8 @@ pub fn station_is_led()
     ensures one { StandsForOne }
 {}
 
-/// Each step of a seat keeps the rule, and is one event of the station's machine, which was enabled, or none.
+/// Nine kinds of step, a clause for each. If words and views meet the rule before it, they meet it after it. It is the
+/// event that the clause names, which was enabled, or none.
 pub fn each_step_is_one_event()
     ensures split { SplitFollows }
     ensures join { JoinFollows }
