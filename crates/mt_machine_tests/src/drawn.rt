@@ -9,7 +9,9 @@ use mt_cache::{Cache, CacheLine};
 use mt_core::{Core, Stepped};
 use mt_list_machine::{Cpu, map};
 use mt_machine::{Control, Op, Ruled};
-use mt_procedure::{Case, ListPlace, Mode, Move, Outcome, Procedure, ProcedureStep, State, advance};
+use mt_procedure::{
+    Case, ListPlace, Mode, Move, Outcome, Procedure, ProcedureStep, State, advance,
+};
 use mt_ram::Ram;
 use mt_tlb::Mapping;
 use std::alloc::Global;
