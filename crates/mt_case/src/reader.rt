@@ -9,11 +9,13 @@ use mt_kinds::{LINE_BYTES, MOST_LINES, PAGE_BYTES};
 use mt_list_machine::{Cpu, copied, map};
 use mt_machine::Ruled;
 use mt_ports::NoMemory;
-use mt_procedure::{Case, ListPlace, Mode, Procedure, ProcedureStep, State, aside};
+use mt_procedure::{
+    Case, ListPlace, Mode, PAGE_LINES, Procedure, ProcedureStep, State, Turn, aside,
+};
 use mt_ram::{Ram, RamFault};
 use mt_regs::{RegFile, first_refusal};
 use mt_script::{ScriptReason, aligned_at, any, base_at, take_dump_line, value_at, virtual_at};
-use mt_text::{Line, Lines, Place, Words, end_place, hex64, without_ending};
+use mt_text::{Line, Lines, Place, Word, Words, end_place, hex64, without_ending};
 use mt_tlb::Mapping;
 use std::alloc::Global;
 
@@ -63,8 +65,10 @@ impl Reader {
                 mode: Mode {
                     speculates: false,
                     leaks: false,
+                    strict: false,
                 },
                 layout: Ram::new(alloc),
+                starts: Vec::new(alloc),
                 goal,
                 lists: Vec::new(alloc),
             },
@@ -91,6 +95,7 @@ impl Reader {
     // Adds a processor with these registers.
     fn add_cpu(&mut self, file: &RegFile) -> Result<(), Trouble> {
         push(&mut self.start.cpus, Cpu::new(self.alloc, file.same()))?;
+        push(&mut self.case.starts, file.same())?;
         push(&mut self.start.places, ListPlace { step: 0, part: 0 })?;
         let list = Procedure {
             steps: Vec::new(self.alloc),
@@ -224,6 +229,39 @@ impl Reader {
         Ok(())
     }
 
+    // The strict senses of wrong count too.
+    fn strict(&mut self, words: &Words<'_>) -> Result<(), Trouble> {
+        shape(words, 1)?;
+        if self.case.mode.strict {
+            return bad(words.place(0), ScriptReason::Repeated);
+        }
+        self.case.mode.strict = true;
+        Ok(())
+    }
+
+    // Whether a processor maps a page.
+    fn maps(&self, k: usize, page: u64) -> bool {
+        match self.start.cpus.get(k) {
+            Some(cpu) => cpu.mapping_of(page).is_some(),
+            None => false,
+        }
+    }
+
+    // The turn that a word names. A speculation is one of a page that is mapped, since mappings stay as they are.
+    fn turn(&self, word: &Word<'_>) -> Result<Turn, Trouble> {
+        let turn = turn_of(word, self.cpus(), self.case.mode.speculates)?;
+        let may_be = match turn {
+            Turn::Step(_) => true,
+            Turn::Translate(k, page) => self.maps(k, page),
+            Turn::Fetch(k, line) => self.maps(k, line / PAGE_LINES),
+        };
+        if may_be {
+            Ok(turn)
+        } else {
+            bad(word.place, ScriptReason::OutOfRange)
+        }
+    }
+
     fn run(&mut self, line: &Line<'_>) -> Result<(), Trouble> {
         let mut order = Vec::new(self.alloc);
         for i in 1..line.words() {
@@ -233,7 +271,7 @@ impl Reader {
             let next = if is(word.text, "turns") {
                 Part::Turns
             } else {
-                Part::Turn(turn_of(&word, self.cpus(), self.case.mode.speculates)?)
+                Part::Turn(self.turn(&word)?)
             };
             push(&mut order, next)?;
         }
@@ -262,6 +300,8 @@ impl Reader {
             self.speculate(words)
         } else if is(word, "leaking") {
             self.leaking(words)
+        } else if is(word, "strict") {
+            self.strict(words)
         } else if is(word, "goal") {
             self.begin_goal(words)
         } else if is(word, "procedure") {

@@ -13,14 +13,12 @@ use Rattle.mt_procedure.specs.declared.turn.Turn.TheVariants.{Step}
 use Rattle.mt_case.specs.declared.case.Part.{Part}
 use Rattle.mt_case.specs.declared.case.Part.TheVariants as part
 use Rattle.mt_search.specs.Searches.{has_wrong, is_bad}
-use Rattle.mt_judge.specs.Told.{AreTold, AreToldBehind, IsRightTold, IsSpeculationNoted, IsStepNoted, IsTold, IsToldOrder, IsToldPart, TellsMove, TellsNoMove, TellsSpeculation, TellsStep}
+use Rattle.mt_judge.specs.Told.{AreTold, AreToldBehind, IsSpeculationNoted, IsStepNoted, IsTold, IsToldOrder, IsToldPart, TellsMove, TellsNoMove, TellsSpeculation, TellsStep}
 use Rattle.mt_search.specs.Wrongs.{fault_of}
 use Rattle.mt_procedure.specs.declared.moves.Move.{Move}
 use Rattle.mt_judge.specs.declared.one_run.JudgedRun.{JudgedRun}
 use Rattle.mt_judge.specs.declared.transcript.Told.{Told}
 use Rattle.mt_judge.specs.declared.transcript.Told.TheVariants as line
-use Rattle.mt_judge.specs.declared.transcript.ToldSpeculation.{ToldSpeculation}
-use Rattle.mt_judge.specs.declared.transcript.ToldStep.{ToldStep}
 use Rattle.mt_search.specs.declared.wrong.Fault.{Fault}
 use Rattle.mt_search.specs.declared.wrong.Wrong.{Wrong}
 use Rattle.mt_procedure.proofs.RunLists.{run_behind, runs_behind}
@@ -85,7 +83,7 @@ module _ (c : Case) where
     told_on (taken c s t) rest ys first then_on h (subst (λ ts. AreTold c (run c s ts) ys then_on) is g),
   )
   told_on s xs ys (line.Pause cpu step ∷ first) then_on h g = (h.0, h.1, told_on s xs ys first then_on h.2 g)
-  told_on s xs ys (line.Idle t ∷ first) then_on h g = (h.0, told_on s xs ys first then_on h.1 g)
+  told_on s xs ys (line.Idle t why ∷ first) then_on h g = (h.0, h.1, told_on s xs ys first then_on h.2 g)
   told_on s xs ys (line.Unfinished cpu phase due arrived ∷ first) then_on h g = (h.0, h.1, h.2, h.3, told_on s xs ys first then_on h.4 g)
 
   pub nothing_told : (s : State) (old : List Told) → AreToldBehind c s [] old old
@@ -142,12 +140,12 @@ module _ (c : Case) where
   -- q is where the run stands once the turn is taken, and u what is noted of it then
   module _ (t : Turn) (r q u : JudgedRun) (may : may_take c r.state t ≡ true) (leads : q.state ≡ taken c r.state t) (same : q.told.items ≡ r.told.items) (flag : q.wrong ≡ r.wrong)
       (stays : u.state ≡ q.state) where
-    pub told_step : (m : Move) → Some m ≡ move_in c r.state t → IsStepNoted r.state m q u → IsTold c (turn_of c r.state t) r u
+    pub told_step : (m : Move) → Some m ≡ move_in c r.state t → IsStepNoted c r.state m q u → IsTold c (turn_of c r.state t) r u
     told_step m is noted =
-        let here : TellsStep r.state m (taken c r.state t) noted.step = subst (λ s. TellsStep r.state m s noted.step) leads noted.tells in
-        let move_told : TellsMove c r.state t noted.step = subst (λ (o : Option Move). IsSomeAnd o (λ n. TellsStep r.state n (taken c r.state t) noted.step)) is here in
-        let bad : (is_some (fault_of r.state.processors m) || has_wrong (taken c r.state t)) ≡ is_bad c r.state t =
-        ap (λ (o : Option Move). is_some (option_map_or (fault_of r.state.processors) o None) || has_wrong (taken c r.state t)) is in
+        let here : TellsStep c r.state m (taken c r.state t) noted.step = subst (λ s. TellsStep c r.state m s noted.step) leads noted.tells in
+        let move_told : TellsMove c r.state t noted.step = subst (λ (o : Option Move). IsSomeAnd o (λ n. TellsStep c r.state n (taken c r.state t) noted.step)) is here in
+        let bad : (is_some (fault_of r.state.processors m) || has_wrong c (taken c r.state t)) ≡ is_bad c r.state t =
+        ap (λ (o : Option Move). is_some (option_map_or (fault_of r.state.processors) o None) || has_wrong c (taken c r.state t)) is in
         subst (λ b. IsTold c (if b then t ∷ [] else []) r u) (sym may) (record {
           runs = (may, tt);
           leads = stays ∙ leads;
@@ -166,23 +164,23 @@ module _ (c : Case) where
                   ),
                 ),
             λ h.
-                let parts = both_false (is_some (fault_of r.state.processors m)) (has_wrong (taken c r.state t)) (bad ∙ h.1.0.fine) in
+                let parts = both_false (is_some (fault_of r.state.processors m)) (has_wrong c (taken c r.state t)) (bad ∙ h.1.0.fine) in
                 noted.right.1 (
                   flag ∙ h.0,
                   record {
                     due = subst IsDue (sym here.done) (subst (λ (o : Option Move). IfSome o IsDue) (sym is) h.1.0.due);
                     fault = here.fault ∙ none_is (fault_of r.state.processors m) parts.0;
-                    right = here.wrongs ∙ empty_is (wrongs_in (taken c r.state t).processors) parts.1;
+                    right = here.wrongs ∙ empty_is (wrongs_in c (taken c r.state t).processors) parts.1;
                   },
                 ),
           );
         })
 
-    pub told_speculation : None ≡ move_in c r.state t → IsSpeculationNoted r.state t q u → IsTold c (turn_of c r.state t) r u
+    pub told_speculation : None ≡ move_in c r.state t → IsSpeculationNoted c r.state t q u → IsTold c (turn_of c r.state t) r u
     told_speculation is noted =
-        let here : TellsSpeculation r.state t (taken c r.state t) noted.speculation = subst (λ s. TellsSpeculation r.state t s noted.speculation) leads noted.tells in
-        let bad : has_wrong (taken c r.state t) ≡ is_bad c r.state t =
-        ap (λ (o : Option Move). is_some (option_map_or (fault_of r.state.processors) o None) || has_wrong (taken c r.state t)) is in
+        let here : TellsSpeculation c r.state t (taken c r.state t) noted.speculation = subst (λ s. TellsSpeculation c r.state t s noted.speculation) leads noted.tells in
+        let bad : has_wrong c (taken c r.state t) ≡ is_bad c r.state t =
+        ap (λ (o : Option Move). is_some (option_map_or (fault_of r.state.processors) o None) || has_wrong c (taken c r.state t)) is in
         let told : TellsNoMove c r.state t noted.speculation = record { none = sym is; told = here } in
         subst (λ b. IsTold c (if b then t ∷ [] else []) r u) (sym may) (record {
           runs = (may, tt);
@@ -204,7 +202,7 @@ module _ (c : Case) where
                     tt,
                   ),
                 ),
-            λ h. noted.right.1 (flag ∙ h.0, here.wrongs ∙ empty_is (wrongs_in (taken c r.state t).processors) (bad ∙ h.1.0.fine)),
+            λ h. noted.right.1 (flag ∙ h.0, here.wrongs ∙ empty_is (wrongs_in c (taken c r.state t).processors) (bad ∙ h.1.0.fine)),
           );
         })
 
@@ -358,14 +356,14 @@ module _ (c : Case) where
 
   -- ---- the whole run
 
-  pub right_run : (s : State) (order : List Part) (r t : JudgedRun) (wrong : Bool) → r.state ≡ s → r.wrong ≡ has_wrong s → IsToldOrder c order r t
+  pub right_run : (s : State) (order : List Part) (r t : JudgedRun) (wrong : Bool) → r.state ≡ s → r.wrong ≡ has_wrong c s → IsToldOrder c order r t
       → (wrong ≡ false) ↔ ((t.wrong ≡ false) × AreListsFinished c t.state) → (wrong ≡ false) ↔ IsRightRun c s order
   right_run s order r t wrong same flag h ends = subst (λ u. (wrong ≡ false) ↔ IsRightRun c u order) same (
     λ e.
         let last = ends.0 e in
         let all = h.right.0 last.0 in
-        record { start = ap has_wrong same ∙ sym flag ∙ all.0; runs = h.runs; turns = all.1; whole = all.2; finished = subst (AreListsFinished c) h.leads last.1 },
-    λ x. ends.1 (h.right.1 (flag ∙ sym (ap has_wrong same) ∙ x.start, x.turns, x.whole), subst (AreListsFinished c) (sym h.leads) x.finished),
+        record { start = ap (has_wrong c) same ∙ sym flag ∙ all.0; runs = h.runs; turns = all.1; whole = all.2; finished = subst (AreListsFinished c) h.leads last.1 },
+    λ x. ends.1 (h.right.1 (flag ∙ sym (ap (has_wrong c) same) ∙ x.start, x.turns, x.whole), subst (AreListsFinished c) (sym h.leads) x.finished),
   )
 
   -- what is told of it, from nothing on

@@ -1,3 +1,4 @@
 pub mod Courses
 pub mod Keeping
+pub mod Rowing
 mod Counts

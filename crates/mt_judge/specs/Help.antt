@@ -6,11 +6,13 @@ use Rattle.mt_shell.specs.Own.{own_text as text_of_words}
 
 abbrev pub help_lines : List (List ℕ)
 help_lines =
-    codes "usage: mtrr-judge [CASE] > VERDICT"
+    codes "usage: mtrr-judge [picture|json] [CASE] > OUTPUT"
     ∷ codes ""
     ∷ codes "Judges a procedure that changes memory type registers. Runs the steps of"
     ∷ codes "each processor on the machine of mtrr, and writes what they leave wrong."
     ∷ codes ""
+    ∷ codes "  picture     draws the run, as SVG, in place of the verdict"
+    ∷ codes "  json        writes the verdict and the run as one JSON object"
     ∷ codes "  CASE        names the case; without it, or if it is -, standard input is read"
     ∷ codes "  -h, --help  this text"
     ∷ codes "  --version   the version"

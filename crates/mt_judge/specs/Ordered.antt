@@ -63,7 +63,7 @@ AreWhole c s (part ∷ parts) = IsWhole c s part × AreWhole c (run c s (part_of
 -- the run that is ordered: nothing is wrong in any of its states and with any of its turns, each step is due, and no list ends in the
 -- midst of an update
 pub record IsRightRun (c : Case) (s : State) (order : List Part) : Type 0 where
-  pub start : has_wrong s ≡ false
+  pub start : has_wrong c s ≡ false
   pub runs : IsRun c s (ordered c s order)
   pub turns : AreRightTurns c s (ordered c s order)
   pub whole : AreWhole c s order

@@ -57,21 +57,21 @@ impl JudgedRun {
     }
 
     // Tells of a step that was done from a state on, and notes whether it is right.
-    fn note_step(&mut self, before: &State, done: Move) -> Result<(), NoMemory>
+    fn note_step(&mut self, case: &Case, before: &State, done: Move) -> Result<(), NoMemory>
         ensures state { self.new.state ≡ self.old.state }
-        ensures told { OnOk result (IsStepNoted before.now done self.old self.new) }
+        ensures told { OnOk result (IsStepNoted case.now before.now done self.old self.new) }
     {
-        let step = told_step(self.alloc, before, done, &self.state)?;
+        let step = told_step(self.alloc, case, before, done, &self.state)?;
         self.note(!step.is_right());
         tell(&mut self.told, Told::Step(step))
     }
 
     // The same of a speculation.
-    fn note_speculation(&mut self, before: &State, turn: Turn) -> Result<(), NoMemory>
+    fn note_speculation(&mut self, case: &Case, before: &State, turn: Turn) -> Result<(), NoMemory>
         ensures state { self.new.state ≡ self.old.state }
-        ensures told { OnOk result (IsSpeculationNoted before.now turn self.old self.new) }
+        ensures told { OnOk result (IsSpeculationNoted case.now before.now turn self.old self.new) }
     {
-        let speculation = told_speculation(self.alloc, before, turn, &self.state)?;
+        let speculation = told_speculation(self.alloc, case, before, turn, &self.state)?;
         self.note(!speculation.is_right());
         tell(&mut self.told, Told::Speculation(speculation))
     }
@@ -87,11 +87,11 @@ impl JudgedRun {
         let before = self.state.copy(self.alloc)?;
         match take(case, &mut self.state, turn)? {
             Some(done) => {
-                self.note_step(&before, done)?;
+                self.note_step(case, &before, done)?;
                 Ok(true)
             }
             None => {
-                self.note_speculation(&before, turn)?;
+                self.note_speculation(case, &before, turn)?;
                 Ok(true)
             }
         }
@@ -213,7 +213,7 @@ pub(crate) fn told_run(
     requires { IsRun case.now start.now path.now }
     ensures { IfOk result (λ t. IsTranscript case.now start.now path.now t) }
 {
-    let wrongs = wrongs_of(alloc, start)?;
+    let wrongs = wrongs_of(alloc, case, start)?;
     let mut run = JudgedRun::new(alloc, start, false)?;
     run.path(case, path)?;
     run.tell_end(case, is_stuck)?;
@@ -232,10 +232,10 @@ pub fn judge_run(
     order: &[Part],
 ) -> Result<Verdict, NoMemory>
     ensures right { IfOk result (λ v. IsFalse v.wrong ↔ IsRightRun case.now start.now order.now) }
-    ensures alone { IfOk result (λ v. IsNone v.explored) }
+    ensures alone { IfOk result (λ v. IsNone v.explored × IsNone v.survival) }
     ensures told { IfOk result (λ v. IsTranscript case.now start.now (ordered case.now start.now order.now) v.transcript) }
 {
-    let wrongs = wrongs_of(alloc, start)?;
+    let wrongs = wrongs_of(alloc, case, start)?;
     let mut run = JudgedRun::new(alloc, start, 0 < wrongs.len())?;
     run.parts(case, order)?;
     run.note_ends(case)?;

@@ -1,4 +1,4 @@
-ghost use Rattle.std.specs.Prelude.{◌≡◌, ◌≢◌, ◌⊎◌, [], ◌∷◌, IfErr, None};
+ghost use Rattle.std.specs.Prelude.{◌≡◌, ◌≢◌, ◌⊎◌, ◌↔◌, [], ◌∷◌, IfErr, IsSome, None, map, string_bytes, true};
 ghost use Rattle.std.specs.IoError.{error_kind};
 ghost use Rattle.std.specs.Process.{exit_status};
 ghost use Rattle.mt_ports.specs.Causes.{StatusHasCause};
@@ -7,14 +7,17 @@ ghost use Rattle.mt_output.specs.Ports.{sink_run, source_run};
 ghost use Rattle.mt_output.specs.Program.{Exits, texts_of};
 ghost use Rattle.mt_shell.specs.Runs.{HasReadCause, IsProgramRun, IsToldRun, given_words};
 ghost use Rattle.mt_judge.specs.Help.{help_text, version_text};
-ghost use Rattle.mt_judge.specs.Verdicts.{IsJudgeRun, IsStatusOf, IsTaken, commands};
+ghost use Rattle.mt_judge.specs.Verdicts.{IsJudgeRun, IsJudged, IsStatusOf, IsTaken, commands, reads_case};
 
-use crate::judging::{Verdict, judge};
+use crate::json::json_text;
+use crate::judging::{Host, OnStderr, Verdict, judge};
+use crate::one_run::judge_run;
+use crate::picture::caption::caption_of;
+use crate::picture::{Drawn, picture_text};
 use crate::telling::verdict_text;
-use mt_case::{Trouble, read_input};
+use mt_case::{Ask, Input, Part, Trouble, read_input};
 use mt_output::{bad_text, written, wrong_usage};
-use mt_ports::{Sink, Source, Status};
-use mt_procedure::Case;
+use mt_ports::{NoMemory, Sink, Source, Status};
 use mt_shell::{CommandLines, FileSource, Program, Started, own_text, run_program};
 use mt_text::LONGEST_INPUT;
 use std::alloc::Global;
@@ -25,11 +28,13 @@ use std::process::ExitCode;
 fn help_text() -> &'static [u8]
     ensures { result.now ≡ help_text }
 {
-    b"usage: mtrr-judge [CASE] > VERDICT
+    b"usage: mtrr-judge [picture|json] [CASE] > OUTPUT
 
 Judges a procedure that changes memory type registers. Runs the steps of
 each processor on the machine of mtrr, and writes what they leave wrong.
 
+  picture     draws the run, as SVG, in place of the verdict
+  json        writes the verdict and the run as one JSON object
   CASE        names the case; without it, or if it is -, standard input is read
   -h, --help  this text
   --version   the version
@@ -53,6 +58,25 @@ fn version_text() -> &'static [u8]
     ensures { result.now ≡ version_text }
 {
     b"mtrr-judge 1.0.0\n"
+}
+
+// The form in which a verdict is written.
+#[derive(Clone, Copy, PartialEq, Eq)]
+enum Form {
+    Text,
+    Picture,
+    Json,
+}
+
+fn form_of(words: &[String]) -> Option<Form>
+    ensures { IsSome result ↔ (reads_case (map string_bytes words.now) ≡ true) }
+{
+    match words {
+        [] => Some(Form::Text),
+        [word] if word.as_bytes() == b"picture".as_slice() => Some(Form::Picture),
+        [word] if word.as_bytes() == b"json".as_slice() => Some(Form::Json),
+        _ => None,
+    }
 }
 
 // Adds the next bytes of a source. False if there are no more.
@@ -92,8 +116,46 @@ fn read_all<S: Source>(alloc: Global, source: &mut S) -> Result<Vec<u8>, Status>
     Ok(bytes)
 }
 
+// The text of a verdict in a form. A picture and JSON have the verdict's run, or if that has no turn, one in rounds.
+fn text_in(
+    alloc: Global,
+    form: Form,
+    input: &Input,
+    verdict: &Verdict,
+) -> Result<String, NoMemory> {
+    let text = verdict_text(alloc, &input.case, verdict)?;
+    if form == Form::Text {
+        return Ok(text);
+    }
+    let caption = caption_of(alloc, verdict)?;
+    let rounds = if verdict.transcript.told.is_empty() && matches!(input.ask, Ask::All(_)) {
+        Some(judge_run(alloc, &input.case, &input.start, &[Part::Turns])?)
+    } else {
+        None
+    };
+    let run = match &rounds {
+        Some(rounds) => &rounds.transcript,
+        None => &verdict.transcript,
+    };
+    let drawn = Drawn {
+        caption: caption.as_str(),
+        text: text.as_str(),
+        run,
+    };
+    match form {
+        Form::Picture => picture_text(alloc, &input.case, &input.start, &drawn),
+        _ => json_text(alloc, &input.case, &input.start, verdict, &drawn),
+    }
+}
+
 // Writes a verdict.
-fn print<K: Sink>(alloc: Global, case: &Case, verdict: &Verdict, sink: &mut K) -> Status
+fn print<K: Sink>(
+    alloc: Global,
+    form: Form,
+    input: &Input,
+    verdict: &Verdict,
+    sink: &mut K,
+) -> Status
     ensures status { IsStatusOf verdict.now result }
     ensures write_fault { StatusHasCause Status.WriteFault (K.faults sink.old) (K.faults sink.new) result }
 {
@@ -102,20 +164,20 @@ fn print<K: Sink>(alloc: Global, case: &Case, verdict: &Verdict, sink: &mut K) -
     } else {
         Status::Done
     };
-    match verdict_text(alloc, case, verdict) {
+    match text_in(alloc, form, input, verdict) {
         Ok(text) => written(sink, text.as_bytes(), status),
         Err(_) => Status::NoMemory,
     }
 }
 
 // Writes the verdict on a text.
-fn answer<R: Eprint + AllocGlobal, K: Sink>(rt: &R, text: &[u8], sink: &mut K) -> Status
+fn answer<H: Host, K: Sink>(host: &H, form: Form, text: &[u8], sink: &mut K) -> Status
     ensures answered { (result ≢ Status.Usage) × (result ≢ Status.ReadFault) }
     ensures write_fault { StatusHasCause Status.WriteFault (K.faults sink.old) (K.faults sink.new) result }
 {
-    match read_input(rt.alloc(), text) {
-        Ok(input) => match judge(rt, &input) {
-            Ok(verdict) => print(rt.alloc(), &input.case, &verdict, sink),
+    match read_input(host.room(), text) {
+        Ok(input) => match judge(host, &input) {
+            Ok(verdict) => print(host.room(), form, &input, &verdict, sink),
             Err(_) => Status::NoMemory,
         },
         Err(Trouble::NoMemory) => Status::NoMemory,
@@ -126,8 +188,9 @@ fn answer<R: Eprint + AllocGlobal, K: Sink>(rt: &R, text: &[u8], sink: &mut K) -
     }
 }
 
-fn judge_input<R: Eprint + AllocGlobal, S: Source, K: Sink>(
-    rt: &R,
+fn judge_input<H: Host, S: Source, K: Sink>(
+    host: &H,
+    form: Form,
     source: &mut S,
     sink: &mut K,
 ) -> Status
@@ -135,9 +198,27 @@ fn judge_input<R: Eprint + AllocGlobal, S: Source, K: Sink>(
     ensures read_fault { StatusHasCause Status.ReadFault (S.faults source.old) (S.faults source.new) result }
     ensures write_fault { StatusHasCause Status.WriteFault (K.faults sink.old) (K.faults sink.new) result }
 {
-    match read_all(rt.alloc(), source) {
-        Ok(bytes) => answer(rt, bytes.as_slice(), sink),
+    match read_all(host.room(), source) {
+        Ok(bytes) => answer(host, form, bytes.as_slice(), sink),
         Err(status) => status,
+    }
+}
+
+/// Does what words ask for: writes one of the program's own texts, or the verdict on the case that a source has.
+pub fn run_judge<H: Host, S: Source, K: Sink>(
+    host: &H,
+    words: &[String],
+    source: &mut S,
+    sink: &mut K,
+) -> Status
+    ensures { IsJudged (map string_bytes words.now) (source_run S.left S.faults S.given source.old source.new) (sink_run K.taken K.faults sink.old sink.new) result }
+{
+    if let Some(text) = own_text(words, help_text(), version_text()) {
+        return written(sink, text, Status::Done);
+    }
+    match form_of(words) {
+        Some(form) => judge_input(host, form, source, sink),
+        None => wrong_usage(sink),
     }
 }
 
@@ -152,7 +233,7 @@ impl CommandLines for Judging {
     }
 
     fn reads(&self, words: &[String]) -> bool {
-        words.is_empty()
+        form_of(words).is_some()
     }
 }
 
@@ -167,14 +248,7 @@ impl<R: Eprint + AllocGlobal, S: Source, K: Sink, E: Sink> Program<R, S, K, E> f
         sink: &mut K,
         _errors: &mut E,
     ) -> Status {
-        if let Some(text) = own_text(words, help_text(), version_text()) {
-            return written(sink, text, Status::Done);
-        }
-        if words.is_empty() {
-            judge_input(rt, source, sink)
-        } else {
-            wrong_usage(sink)
-        }
+        run_judge(&OnStderr { rt }, words, source, sink)
     }
 }
 

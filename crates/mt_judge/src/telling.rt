@@ -1,12 +1,13 @@
 use crate::judging::{Explored, ToldSurvival, Verdict};
 use crate::text::Text;
-use crate::transcript::{Arrivals, Told, ToldSpeculation, ToldStep, Transcript, end_at};
+use crate::transcript::{Arrivals, Hindrance, Told, ToldSpeculation, ToldStep, Transcript, end_at};
 use mt_kinds::{LINE_BYTES, MemType, PAGE_BYTES, WORD_BYTES};
 use mt_machine::{Done, Event, Op, Phase};
+use mt_ports::NoMemory;
 use mt_procedure::{Case, Move, Outcome, ProcedureStep, State, Turn};
 use mt_regs::RegFile;
 use mt_search::{Fault, Found, Wrong};
-use std::alloc::{AllocError, Global};
+use std::alloc::Global;
 
 fn tell_numbers(text: &mut Text, barrier: u32, count: u32) {
     text.add_decimal(" ", barrier as u64);
@@ -19,7 +20,7 @@ fn tell_values(text: &mut Text, va: u64, v: u64) {
 }
 
 /// Writes the words of a step, as a procedure has them.
-fn tell_step(text: &mut Text, step: ProcedureStep) {
+pub(crate) fn tell_step(text: &mut Text, step: ProcedureStep) {
     text.add(step.word());
     match step {
         ProcedureStep::Arrive(barrier) => text.add_decimal(" ", barrier as u64),
@@ -43,7 +44,8 @@ fn tell_step(text: &mut Text, step: ProcedureStep) {
     }
 }
 
-fn tell_type(text: &mut Text, front: &str, kind: MemType) {
+/// Writes a type, with words before it.
+pub(crate) fn tell_type(text: &mut Text, front: &str, kind: MemType) {
     text.add(front);
     text.add(kind.name());
 }
@@ -149,8 +151,8 @@ fn tell_due(text: &mut Text, due: Option<Event>, phase: Phase, arrived: Arrivals
     }
 }
 
-// Writes why the manual's procedure hasn't a step due.
-fn tell_undue(text: &mut Text, step: &ToldStep) {
+/// Writes why the manual's procedure hasn't a step due.
+pub(crate) fn tell_undue(text: &mut Text, step: &ToldStep) {
     text.add("  not due: ");
     tell_due(text, step.done.due, step.done.phase, step.arrived);
 }
@@ -174,8 +176,8 @@ fn tell_two_types(text: &mut Text, page: u64, cpu: usize, other: usize) {
     text.add_decimal(" and ", other as u64);
 }
 
-// Writes the line of a state's wrong, with words before it.
-fn tell_wrong(text: &mut Text, front: &str, wrong: &Wrong) {
+/// Writes the line of a state's wrong, with words before it.
+pub(crate) fn tell_wrong(text: &mut Text, front: &str, wrong: &Wrong) {
     text.add(front);
     match *wrong {
         Wrong::StaleLine { cpu, line } => tell_at(
@@ -196,6 +198,18 @@ fn tell_wrong(text: &mut Text, front: &str, wrong: &Wrong) {
             vpage.wrapping_mul(PAGE_BYTES),
             cpu,
         ),
+        Wrong::UnsnoopedLine { cpu, line } => tell_at(
+            text,
+            "unsnooped line ",
+            line.wrapping_mul(LINE_BYTES),
+            cpu,
+        ),
+        Wrong::MixedEntry { cpu, vpage } => tell_at(
+            text,
+            "mixed entry ",
+            vpage.wrapping_mul(PAGE_BYTES),
+            cpu,
+        ),
         Wrong::Disagree { cpu, other, page } => tell_two_types(text, page, cpu, other),
     }
     text.add("\n");
@@ -210,9 +224,9 @@ fn tell_new(text: &mut Text, wrongs: &[Wrong], known: &[Wrong]) {
     }
 }
 
-// Writes the line of a step's fault.
-fn tell_fault(text: &mut Text, fault: &Fault) {
-    text.add("  wrong: ");
+/// Writes the line of a step's fault, with words before it.
+pub(crate) fn tell_fault(text: &mut Text, front: &str, fault: &Fault) {
+    text.add(front);
     match *fault {
         Fault::OldType {
             cpu,
@@ -268,14 +282,27 @@ fn tell_whole_speculation(text: &mut Text, told: &ToldSpeculation, known: &[Wron
     tell_new(text, told.wrongs.as_slice(), known);
 }
 
-// Writes that a speculation may not be made.
-fn tell_idle(text: &mut Text, turn: Turn) {
+// Writes why a speculation may not be made.
+fn tell_hindrance(text: &mut Text, why: Hindrance) {
+    match why {
+        Hindrance::Unmapped => text.add(": the page isn't mapped"),
+        Hindrance::HasEntry => text.add(": the TLB has an entry of the page"),
+        Hindrance::NoFill => text.add(": CR0.CD is set"),
+        Hindrance::Uncached(kind) => tell_type(text, ": the type is ", kind),
+        Hindrance::NoLine => text.add(": memory has no such line"),
+        Hindrance::HasLine => text.add(": the cache has the line"),
+    }
+}
+
+// Writes that a speculation may not be made, and why.
+fn tell_idle(text: &mut Text, turn: Turn, why: Hindrance) {
     tell_speculation(
         text,
         turn,
         " translates nothing at ",
         " fetches nothing at ",
     );
+    tell_hindrance(text, why);
     text.add("\n");
 }
 
@@ -286,16 +313,17 @@ fn tell_whole_step(text: &mut Text, goal: &RegFile, step: &ToldStep, known: &[Wr
         tell_undue(text, step);
     }
     if let Some(fault) = &step.fault {
-        tell_fault(text, fault);
+        tell_fault(text, "  wrong: ", fault);
     }
     tell_new(text, step.wrongs.as_slice(), known);
 }
 
-fn tell_told(text: &mut Text, goal: &RegFile, told: &Told, known: &[Wrong]) {
+/// Writes a line of a transcript, and what is newly wrong behind it.
+pub(crate) fn tell_told(text: &mut Text, goal: &RegFile, told: &Told, known: &[Wrong]) {
     match told {
         Told::Step(step) => tell_whole_step(text, goal, step, known),
         Told::Speculation(told) => tell_whole_speculation(text, told, known),
-        Told::Idle(turn) => tell_idle(text, *turn),
+        Told::Idle { turn, why } => tell_idle(text, *turn, *why),
         Told::Pause { cpu, step } => tell_pause(text, *cpu, *step),
         Told::Unfinished {
             cpu,
@@ -306,12 +334,12 @@ fn tell_told(text: &mut Text, goal: &RegFile, told: &Told, known: &[Wrong]) {
     }
 }
 
-// What is wrong where something is told, and so is known behind it.
-fn known_behind<'a>(told: &'a Told, known: &'a [Wrong]) -> &'a [Wrong] {
+/// What is wrong where something is told, and so is known behind it.
+pub(crate) fn known_behind<'a>(told: &'a Told, known: &'a [Wrong]) -> &'a [Wrong] {
     match told {
         Told::Step(step) => step.wrongs.as_slice(),
         Told::Speculation(told) => told.wrongs.as_slice(),
-        Told::Pause { .. } | Told::Idle(_) | Told::Unfinished { .. } => known,
+        Told::Pause { .. } | Told::Idle { .. } | Told::Unfinished { .. } => known,
     }
 }
 
@@ -344,7 +372,8 @@ fn tell_survival(text: &mut Text, goal: &RegFile, survival: &ToldSurvival) {
             tell_run(text, goal, run);
         }
         ToldSurvival::Nothing => text.add("nothing survives\n"),
-        ToldSurvival::Stopped => text.add("stopped\n"),
+        ToldSurvival::NoEnd => text.add("nothing survives: no run ends\n"),
+        ToldSurvival::Stopped => text.add("survives: unknown, the search stopped\n"),
     }
 }
 
@@ -401,7 +430,7 @@ pub(crate) fn verdict_text(
     alloc: Global,
     case: &Case,
     verdict: &Verdict,
-) -> Result<String, AllocError> {
+) -> Result<String, NoMemory> {
     let mut text = Text::new(alloc);
     match &verdict.explored {
         Some(explored) => {

@@ -1,7 +1,8 @@
 ghost use Rattle.std.specs.Prelude.{◌<◌, ◌≤◌};
 
 use itoa::Buffer;
-use std::alloc::{AllocError, Global};
+use mt_ports::NoMemory;
+use std::alloc::Global;
 
 const DIGITS: [&str; 16] = [
     "0", "1", "2", "3", "4", "5", "6", "7", "8", "9", "a", "b", "c", "d", "e", "f",
@@ -59,9 +60,9 @@ impl Text {
     }
 
     /// The whole text. Fails if an allocation failed.
-    pub(crate) fn finish(self) -> Result<String, AllocError> {
+    pub(crate) fn finish(self) -> Result<String, NoMemory> {
         if self.failed {
-            Err(AllocError)
+            Err(NoMemory)
         } else {
             Ok(self.text)
         }

@@ -1,8 +1,10 @@
-ghost use Rattle.std.specs.Prelude.{◌≡◌, ◌↔◌, ◌∷◌, ◌++◌, [], cond, IfOk, IfSome, IsTrue, OnOk};
-ghost use Rattle.mt_judge.specs.Told.{AreTold, AreToldBehind, IsRightTold, TellsSpeculation, TellsStep, arrived_in, kind_in, kind_of};
+ghost use Rattle.std.specs.Prelude.{◌≡◌, ◌↔◌, ◌∷◌, ◌++◌, ◌/◌, [], cond, IfOk, IfSome, IsTrue, OnOk, slice_get};
+ghost use Rattle.std.specs.Option.{option_map_or};
+ghost use Rattle.mt_machine.specs.Access.{entry_of};
+ghost use Rattle.mt_judge.specs.Told.{AreTold, AreToldBehind, IsRightTold, TellsSpeculation, TellsStep, arrived_in, fetch_hindrance, fill_hindrance, has_line, hindrance_of, kind_in, kind_of, translation_hindrance};
 
-use mt_kinds::MemType;
-use mt_list_machine::Cpu;
+use mt_kinds::{LINE_BYTES, MemType};
+use mt_list_machine::{Cpu, is_cached};
 use mt_machine::{Event, Phase};
 use mt_ports::NoMemory;
 use mt_procedure::{
@@ -10,7 +12,11 @@ use mt_procedure::{
     phase_in,
 };
 use mt_search::{Fault, Wrong, fault_of, wrongs_of};
+use mt_tlb::Entry;
 use std::alloc::Global;
+
+/// The pages below the end of the physical addresses.
+const PHYSICAL_PAGES: u64 = 1 << 40;
 
 /// How many processors have arrived at the two barriers, and how many there are.
 #[derive(Clone, Copy)]
@@ -41,6 +47,23 @@ pub struct ToldSpeculation {
     pub wrongs: Vec<Wrong>,
 }
 
+/// Why a speculation may not be made.
+#[derive(Clone, Copy)]
+pub enum Hindrance {
+    /// The processor doesn't map the page.
+    Unmapped,
+    /// Its TLB has an entry of the page.
+    HasEntry,
+    /// CR0.CD is set.
+    NoFill,
+    /// The entry's type isn't cached.
+    Uncached(MemType),
+    /// Memory has no such line.
+    NoLine,
+    /// The processor's cache has the line.
+    HasLine,
+}
+
 /// What is printed in the course of a run.
 #[derive(Drop)]
 pub enum Told {
@@ -52,7 +75,10 @@ pub enum Told {
         step: Option<ProcedureStep>,
     },
     /// This speculation may not be made.
-    Idle(Turn),
+    Idle {
+        turn: Turn,
+        why: Hindrance,
+    },
     /// The list of a processor has ended in the midst of an update.
     Unfinished {
         cpu: usize,
@@ -101,17 +127,18 @@ pub(crate) fn arrived_in(state: &State) -> Arrivals
 /// What is told of a step that was done, by the states before and after it.
 pub(crate) fn told_step(
     alloc: Global,
+    case: &Case,
     before: &State,
     done: Move,
     after: &State,
 ) -> Result<ToldStep, NoMemory>
-    ensures { IfOk result (λ t. TellsStep before.now done after.now t) }
+    ensures { IfOk result (λ t. TellsStep case.now before.now done after.now t) }
 {
     Ok(ToldStep {
         done,
         arrived: arrived_in(before),
         fault: fault_of(before, &done),
-        wrongs: wrongs_of(alloc, after)?,
+        wrongs: wrongs_of(alloc, case, after)?,
     })
 }
 
@@ -142,17 +169,105 @@ pub(crate) fn kind_of(state: &State, turn: Turn) -> Option<MemType>
 /// What is told of a speculation, by the states before and after it.
 pub(crate) fn told_speculation(
     alloc: Global,
+    case: &Case,
     before: &State,
     turn: Turn,
     after: &State,
 ) -> Result<ToldSpeculation, NoMemory>
-    ensures { IfOk result (λ x. TellsSpeculation before.now turn after.now x) }
+    ensures { IfOk result (λ x. TellsSpeculation case.now before.now turn after.now x) }
 {
     Ok(ToldSpeculation {
         turn,
         kind: kind_of(before, turn),
-        wrongs: wrongs_of(alloc, after)?,
+        wrongs: wrongs_of(alloc, case, after)?,
     })
+}
+
+// Whether memory has the line of a page.
+fn has_line(case: &Case, ppage: u64, line: u64) -> bool
+    ensures { result ≡ has_line case.now.layout ppage line }
+{
+    ppage < PHYSICAL_PAGES
+        && {
+            let number = PAGE_LINES * ppage + line % PAGE_LINES;
+            case.layout.place(LINE_BYTES * number).is_some()
+        }
+}
+
+// Why a line isn't filled by an entry.
+fn fill_hindrance(case: &Case, entry: &Entry, line: u64) -> Hindrance
+    ensures { result ≡ fill_hindrance case.now.layout line entry.now }
+{
+    if !is_cached(entry.kind) {
+        Hindrance::Uncached(entry.kind)
+    } else if has_line(case, entry.ppage, line) {
+        Hindrance::HasLine
+    } else {
+        Hindrance::NoLine
+    }
+}
+
+fn entry_hindrance(case: &Case, cpu: &Cpu, line: u64) -> Hindrance
+    ensures { result ≡ option_map_or (fill_hindrance case.now.layout line) (entry_of cpu.now (line / 64)) Hindrance.Unmapped }
+{
+    match cpu.entry_of(line / PAGE_LINES) {
+        Some(entry) => fill_hindrance(case, &entry, line),
+        None => Hindrance::Unmapped,
+    }
+}
+
+fn fetch_hindrance(case: &Case, cpu: &Cpu, line: u64) -> Hindrance
+    ensures { result ≡ fetch_hindrance case.now line cpu.now }
+{
+    if cpu.mapping_of(line / PAGE_LINES).is_none() {
+        Hindrance::Unmapped
+    } else if !case.mode.leaks && cpu.cd() {
+        Hindrance::NoFill
+    } else {
+        entry_hindrance(case, cpu, line)
+    }
+}
+
+fn translation_hindrance(cpu: &Cpu, page: u64) -> Hindrance
+    ensures { result ≡ translation_hindrance page cpu.now }
+{
+    if cpu.mapping_of(page).is_none() {
+        Hindrance::Unmapped
+    } else {
+        Hindrance::HasEntry
+    }
+}
+
+fn translation_at(cpus: &[Cpu], k: usize, page: u64) -> Hindrance
+    ensures { result ≡ option_map_or (translation_hindrance page) (slice_get cpus.now k) Hindrance.Unmapped }
+{
+    if k < cpus.len() {
+        translation_hindrance(&cpus[k], page)
+    } else {
+        Hindrance::Unmapped
+    }
+}
+
+fn fetch_at(case: &Case, cpus: &[Cpu], k: usize, line: u64) -> Hindrance
+    ensures { result ≡ option_map_or (fetch_hindrance case.now line) (slice_get cpus.now k) Hindrance.Unmapped }
+{
+    if k < cpus.len() {
+        fetch_hindrance(case, &cpus[k], line)
+    } else {
+        Hindrance::Unmapped
+    }
+}
+
+// Why a speculation may not be made, if it may not.
+fn hindrance_of(case: &Case, state: &State, turn: Turn) -> Hindrance
+    ensures { result ≡ hindrance_of case.now state.now turn }
+{
+    let cpus = state.cpus.as_slice();
+    match turn {
+        Turn::Step(_) => Hindrance::Unmapped,
+        Turn::Translate(k, page) => translation_at(cpus, k, page),
+        Turn::Fetch(k, line) => fetch_at(case, cpus, k, line),
+    }
 }
 
 impl ToldSpeculation {
@@ -210,7 +325,8 @@ pub(crate) fn tell_pause(
         Turn::Translate(..) | Turn::Fetch(..) => if state.may_take(case, turn) {
             Ok(())
         } else {
-            tell(told, Told::Idle(turn))
+            let why = hindrance_of(case, state, turn);
+            tell(told, Told::Idle { turn, why })
         },
     }
 }

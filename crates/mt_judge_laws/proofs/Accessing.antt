@@ -33,14 +33,26 @@ use Rattle.mt_search.specs.declared.wrong.Kept.{Kept}
 use Rattle.mt_search.specs.declared.wrong.Kept.TheVariants.{Buffer, CleanLine, DirtyLine}
 use Rattle.mt_procedure.specs.Speculation.{filled, may_fill, physical_line, with_fetch, with_translation}
 use Rattle.mt_search.specs.Wrongs.{allows, fault_with, made_entry, old_type, page_of}
-use Rattle.mt_judge_laws.proofs.Held.{AreRight, HoldsRight, allows_held, bare, both, clean_held, cleaned_is_held, cleared_is_held, has_old_entries, has_old_lines, is_made, kind_by, may_hold, or_last, re_right, right_buffer, right_entry, right_line, view}
+use Rattle.mt_judge_laws.proofs.Held.{AreRight, HoldsRight, allows_held, bare, both, clean_held, cleaned_is_held, cleared_is_held, has_old_entries, has_old_lines, is_flushed, is_made, kind_by, may_hold, or_last, re_right, right_buffer, right_entry, right_line, view}
 
 -- ---- what a processor holds, held against another one's registers
+
+-- what the entries pass that a processor's registers make
+abbrev pub AllMade : Processor → (Entry → Bool) → Type 0
+AllMade v test = (page : ℕ) (m : Mapping) → find_mapping page v.mappings ≡ Some m → test (new_entry v m) ≡ true
+
+-- an entry is one that the processor has or one that its registers make, so it passes what these pass
+abbrev pub IsFrom : Processor → Entry → Type 0
+IsFrom v e = (test : Entry → Bool) → AllMade v test → list_all test v.entries ≡ true → test e ≡ true
+
+abbrev pub AreFrom : Processor → List Entry → Type 0
+AreFrom v es = (test : Entry → Bool) → AllMade v test → list_all test v.entries ≡ true → list_all test es ≡ true
 
 -- all but what it holds is the same, and what it holds is right
 pub record Keeps (v q : Processor) : Type 0 where
   pub same : bare q ≡ bare v
   pub right : AreRight (view v) q.lines q.buffers q.entries
+  pub from : AreFrom v q.entries
 
 abbrev pub AllKeep : List Processor → List Processor → Type 0
 AllKeep [] [] = Unit {0}
@@ -62,7 +74,7 @@ kept_stages (v ∷ vs) (p ∷ ps) all = λ i. stage_of (all.0.same i) ∷ kept_s
 
 pub keep_each : (ps : List Processor) → ((j : ℕ) (p : Processor) → slice_get ps j ≡ Some p → HoldsRight p) → AllKeep ps ps
 keep_each [] right = tt
-keep_each (p ∷ ps) right = (record { same = refl; right = right 0 p refl }, keep_each ps (λ j q at. right (suc j) q at))
+keep_each (p ∷ ps) right = (record { same = refl; right = right 0 p refl; from = λ test each old. old }, keep_each ps (λ j q at. right (suc j) q at))
 
 abbrev KeptBy : (Processor → Processor) → Type 0
 KeptBy f = (v p : Processor) → Keeps v p → Keeps v (f p)
@@ -109,10 +121,10 @@ abbrev LinesRight : Processor → List CacheLine → Type 0
 LinesRight v ls = list_all (right_line (view v)) ls ≡ true
 
 with_right_lines : (v p : Processor) (f : List CacheLine → List CacheLine) → (LinesRight v p.lines → LinesRight v (f p.lines)) → Keeps v p → Keeps v (with_lines f p)
-with_right_lines v p f kept h = record { same = h.same; right = record { right_lines = kept h.right.right_lines; right_buffers = h.right.right_buffers; right_entries = h.right.right_entries } }
+with_right_lines v p f kept h = record { same = h.same; right = record { right_lines = kept h.right.right_lines; right_buffers = h.right.right_buffers; right_entries = h.right.right_entries }; from = h.from }
 
 with_right_buffers : (v p : Processor) (f : List CacheLine → List CacheLine) → (list_all (right_buffer (view v)) p.buffers ≡ true → list_all (right_buffer (view v)) (f p.buffers) ≡ true) → Keeps v p → Keeps v (with_buffers f p)
-with_right_buffers v p f kept h = record { same = h.same; right = record { right_lines = h.right.right_lines; right_buffers = kept h.right.right_buffers; right_entries = h.right.right_entries } }
+with_right_buffers v p f kept h = record { same = h.same; right = record { right_lines = h.right.right_lines; right_buffers = kept h.right.right_buffers; right_entries = h.right.right_entries }; from = h.from }
 
 pub all_changed : (test : CacheLine → Bool) (n : ℕ) (f : CacheLine → CacheLine) → ((l : CacheLine) → l.number ≡ n → test l ≡ true → test (f l) ≡ true) → (ls : List CacheLine) → list_all test ls ≡ true → list_all test (change_line n f ls) ≡ true
 all_changed test n f kept [] h = h
@@ -307,7 +319,7 @@ find_all test chosen (y ∷ ys) x all h = one (chosen y) h (λ g. find_all test 
     one true g rest = let e : y ≡ x = cc in ap test (sym e) ∙ and_left _ _ all
     one false g rest = rest g
 
-find_any : {X : Type 0} → (test chosen : X → Bool) (xs : List X) (x : X) → find chosen xs ≡ Some x → test x ≡ true → list_any test xs ≡ true
+pub find_any : {X : Type 0} → (test chosen : X → Bool) (xs : List X) (x : X) → find chosen xs ≡ Some x → test x ≡ true → list_any test xs ≡ true
 find_any test chosen [] x h passes = absurd (cc)
 find_any test chosen (y ∷ ys) x h passes = one (chosen y) h (λ g. find_any test chosen ys x g passes)
   where
@@ -323,7 +335,7 @@ find_any test chosen (y ∷ ys) x h passes = one (chosen y) h (λ g. find_any te
     one true g rest = let e : y ≡ x = cc in first (test y) _ (ap test e ∙ passes)
     one false g rest = or_true (test y) _ (rest g)
 
-find_chosen : {X : Type 0} → (chosen : X → Bool) (xs : List X) (x : X) → find chosen xs ≡ Some x → chosen x ≡ true
+pub find_chosen : {X : Type 0} → (chosen : X → Bool) (xs : List X) (x : X) → find chosen xs ≡ Some x → chosen x ≡ true
 find_chosen chosen [] x h = absurd (cc)
 find_chosen chosen (y ∷ ys) x h = one (chosen y) refl h (find_chosen chosen ys x)
   where
@@ -370,13 +382,14 @@ pub made_now : (v : Processor) (e : Entry) → has_old_entries v.phase ≡ false
 made_now v e new h = ap (λ b. b || is_made (view v) e) (sym new) ∙ and_left _ _ h
 
 -- the registers give the entry's page its type
-entry_gives : (v : Processor) (e : Entry) (n : ℕ) → n / 64 ≡ e.ppage → is_made (view v) e ≡ true → (what : Kept) → allows what e.kind ≡ true → may_hold (view v) what (n / 64) ≡ true
-entry_gives v e n page h what may =
+entry_gives : (v : Processor) (e : Entry) (n : ℕ) → n / 64 ≡ e.ppage → is_flushed v.phase ≡ false → is_made (view v) e ≡ true → (what : Kept) → allows what e.kind ≡ true → may_hold (view v) what (n / 64) ≡ true
+entry_gives v e n page unflushed h what may =
     let m = made_by v e h in
-    find_any (allows_held (view v) what (n / 64)) (maps_page e.vpage) v.mappings m.mapping m.is
+    both (not (is_flushed v.phase && not v.self_snoop)) _ (ap (λ b. not (b && not v.self_snoop)) unflushed)
+    (find_any (allows_held (view v) what (n / 64)) (maps_page e.vpage) v.mappings m.mapping m.is
     (both (m.mapping.ppage == n / 64) _
     (eq-eqb m.mapping.ppage (n / 64) (m.page ∙ sym page))
-    (or_last (has_old_lines v.phase) _ (ap (allows what) m.kind ∙ may)))
+    (or_last (has_old_lines v.phase) _ (ap (allows what) m.kind ∙ may))))
 
 page_is : (n address : ℕ) → (4096 * n + address % 4096) / 64 / 64 ≡ n
 page_is n address = omega arith
@@ -384,9 +397,13 @@ page_is n address = omega arith
 line_page : (n line : ℕ) → (64 * n + line % 64) / 64 ≡ n
 line_page n line = omega arith
 
-runs_new : (ph : Phase) → is_running ph ≡ true → has_old_entries ph ≡ false
+pub runs_new : (ph : Phase) → is_running ph ≡ true → has_old_entries ph ≡ false
 runs_new Running runs = refl
 runs_new other runs = absurd (cc)
+
+runs_unflushed : (ph : Phase) → is_running ph ≡ true → is_flushed ph ≡ false
+runs_unflushed Running runs = refl
+runs_unflushed other runs = absurd (cc)
 
 local_if : (global on : Bool) → (on || not (global && on)) ≡ true
 local_if global true = refl
@@ -420,19 +437,38 @@ translation p page e r h = one (find_entry page p.entries) refl h
         let found : find_entry page p.entries ≡ Some e = is ∙ ap Some same in
         (find_all (right_entry (view p)) (λ y. y.vpage == page) p.entries e r.right_entries found, eqb-true e.vpage page (find_chosen (λ (y : Entry). y.vpage == page) p.entries e found))
 
-kept_entry : (own p : Processor) (e : Entry) → right_entry (view own) e ≡ true → Keeps own p → Keeps own (keep_entry e p)
-kept_entry own p e right h = one (is_some (find_entry e.vpage p.entries))
+-- by the entry that a processor has of a page, or makes of it
+from_own : (own q : Processor) (page : ℕ) (e : Entry) → bare q ≡ bare own → AreFrom own q.entries → entry_of q page ≡ Some e → IsFrom own e
+from_own own q page e same from h test each old = one (find_entry page q.entries) refl h
   where
-    added : list_all (right_entry (view own)) (add_entry e p.entries) ≡ true
-    added = all_append (right_entry (view own)) _ (e ∷ []) (room (length p.entries == 64)) (both (right_entry (view own) e) true right refl)
+    mapped : (x : Option Mapping) → find_mapping page q.mappings ≡ x → option_map (new_entry q) x ≡ Some e → test e ≡ true
+    mapped None is g = absurd (cc)
+    mapped (Some m) is g =
+        let made : new_entry q m ≡ e = cc in
+        let there : find_mapping page own.mappings ≡ Some m = ap (λ (x : Processor). find_mapping page x.mappings) (sym same) ∙ is in
+        ap test (sym made) ∙ ap (λ (x : Processor). test (new_entry x m)) same ∙ each page m there
+
+    one : (x : Option Entry) → find_entry page q.entries ≡ x → option_map_or Some x (option_map (new_entry q) (find_mapping page q.mappings)) ≡ Some e → test e ≡ true
+    one None is g = mapped (find_mapping page q.mappings) refl g
+    one (Some x) is g = let there : x ≡ e = cc in find_all test (λ y. y.vpage == page) q.entries e (from test each old) (is ∙ ap Some there)
+
+kept_entry : (own p : Processor) (e : Entry) → right_entry (view own) e ≡ true → IsFrom own e → Keeps own p → Keeps own (keep_entry e p)
+kept_entry own p e right made h = one (is_some (find_entry e.vpage p.entries))
+  where
+    added : (test : Entry → Bool) → test e ≡ true → list_all test p.entries ≡ true → list_all test (add_entry e p.entries) ≡ true
+    added test passes old = all_append test _ (e ∷ []) (room (length p.entries == 64)) (both (test e) true passes refl)
       where
-        room : (b : Bool) → list_all (right_entry (view own)) (if b then drop 1 p.entries else p.entries) ≡ true
-        room true = all_drop (right_entry (view own)) p.entries h.right.right_entries
-        room false = h.right.right_entries
+        room : (b : Bool) → list_all test (if b then drop 1 p.entries else p.entries) ≡ true
+        room true = all_drop test p.entries old
+        room false = old
 
     one : (b : Bool) → Keeps own (if b then p else record p { entries = add_entry e p.entries })
     one true = h
-    one false = record { same = h.same; right = record { right_lines = h.right.right_lines; right_buffers = h.right.right_buffers; right_entries = added } }
+    one false = record {
+      same = h.same;
+      right = record { right_lines = h.right.right_lines; right_buffers = h.right.right_buffers; right_entries = added (right_entry (view own)) right h.right.right_entries };
+      from = λ test each old. added test (made test each old) (h.from test each old);
+    }
 
 kept_translation : (own q : Processor) (page : ℕ) → Keeps own q → Keeps own (with_translation page q)
 kept_translation own q page h = one (entry_of q page) refl
@@ -441,13 +477,17 @@ kept_translation own q page h = one (entry_of q page) refl
     one None is = h
     one (Some e) is =
         let right : right_entry (view q) e ≡ true = (translation q page e (re_right own q q.lines q.buffers q.entries h.same h.right) is).0 in
-        kept_entry own q e (ap (λ (x : Processor). right_entry (view x) e) (sym h.same) ∙ right) h
+        kept_entry own q e (ap (λ (x : Processor). right_entry (view x) e) (sym h.same) ∙ right) (from_own own q page e h.same h.from is) h
 
 -- ---- an access
 
 module _ (vs : List Processor) (k : ℕ) (own : Processor) (at_own : slice_get vs k ≡ Some own) where
-  keep_with_entry : (s : System) (e : Entry) → right_entry (view own) e ≡ true → KeepsAll vs s (change (keep_entry e) k s)
-  keep_with_entry s e right = keep_change vs k own at_own (keep_entry e) (λ p h. kept_entry own p e right h) s
+  -- an entry that is right, and that the processor has or makes
+  abbrev IsOwn : Entry → Type 0
+  IsOwn e = (right_entry (view own) e ≡ true) × IsFrom own e
+
+  keep_with_entry : (s : System) (e : Entry) → IsOwn e → KeepsAll vs s (change (keep_entry e) k s)
+  keep_with_entry s e right = keep_change vs k own at_own (keep_entry e) (λ p h. kept_entry own p e right.0 right.1 h) s
 
   keep_answer : (b : Bool) (s : System) (x y : Answered) → KeepsAll vs s x.after → KeepsAll vs s y.after → KeepsAll vs s (if b then x else y).after
   keep_answer true s x y a c = a
@@ -456,27 +496,27 @@ module _ (vs : List Processor) (k : ℕ) (own : Processor) (at_own : slice_get v
   keep_translated : is_running own.phase ≡ true → (s : System) (e : Entry) (op : Op) → is_made (view own) e ≡ true → KeepsAll vs s (translated s k e op).after
   keep_translated runs s e (Load address) made =
       keep_answer (is_some (place s.memory (physical e address))) s _ _
-      (keep_load vs k own at_own e.kind (physical e address) s (entry_gives own e (line_of (physical e address)) (page_is e.ppage address) made)) (λ all. all)
+      (keep_load vs k own at_own e.kind (physical e address) s (entry_gives own e (line_of (physical e address)) (page_is e.ppage address) (runs_unflushed own.phase runs) made)) (λ all. all)
   keep_translated runs s e (Store address value) made =
       keep_answer (is_some (place s.memory (physical e address))) s _ _
-      (keep_store vs k own at_own runs e.kind (physical e address) value s (entry_gives own e (line_of (physical e address)) (page_is e.ppage address) made)) (λ all. all)
+      (keep_store vs k own at_own runs e.kind (physical e address) value s (entry_gives own e (line_of (physical e address)) (page_is e.ppage address) (runs_unflushed own.phase runs) made)) (λ all. all)
   keep_translated runs s e Fence made = λ all. all
 
-  keep_by_entry : is_running own.phase ≡ true → (s : System) (op : Op) (x : Option Entry) → ((e : Entry) → x ≡ Some e → right_entry (view own) e ≡ true) → (other : Answered) → KeepsAll vs s other.after
+  keep_by_entry : is_running own.phase ≡ true → (s : System) (op : Op) (x : Option Entry) → ((e : Entry) → x ≡ Some e → IsOwn e) → (other : Answered) → KeepsAll vs s other.after
       → KeepsAll vs s (option_map_or (λ e. translated (change (keep_entry e) k s) k e op) x other).after
   keep_by_entry runs s op None right other kept = kept
   keep_by_entry runs s op (Some e) right other kept = λ all.
-      keep_translated runs (change (keep_entry e) k s) e op (made_now own e (runs_new own.phase runs) (right e refl)) (keep_with_entry s e (right e refl) all)
+      keep_translated runs (change (keep_entry e) k s) e op (made_now own e (runs_new own.phase runs) (right e refl).0) (keep_with_entry s e (right e refl) all)
 
   -- ---- what it does by itself
 
-  keep_filled : (s : System) (line : ℕ) (e : Entry) → right_entry (view own) e ≡ true → is_made (view own) e ≡ true → is_cached e.kind ≡ true → KeepsAll vs s (filled line k e s)
-  keep_filled s line e right made cached all =
+  keep_filled : (s : System) (line : ℕ) (e : Entry) → IsOwn e → is_flushed own.phase ≡ false → is_made (view own) e ≡ true → is_cached e.kind ≡ true → KeepsAll vs s (filled line k e s)
+  keep_filled s line e right unflushed made cached all =
       let n = physical_line e line in
       let entered = keep_with_entry s e right all in
       let drained = keep_drain_line vs k own at_own n (change (keep_entry e) k s) entered in
       let read = keep_read vs n (drain_line k n (change (keep_entry e) k s)) drained in
-      keep_fill vs k own at_own n (bus_read n (drain_line k n (change (keep_entry e) k s))) (entry_gives own e n (line_page e.ppage line) made CleanLine cached) read
+      keep_fill vs k own at_own n (bus_read n (drain_line k n (change (keep_entry e) k s))) (entry_gives own e n (line_page e.ppage line) unflushed made CleanLine cached) read
 
 own_right : (s : System) (k : ℕ) (p : Processor) → slice_get s.processors k ≡ Some p → AllKeep s.processors s.processors → HoldsRight p
 own_right s k p at all =
@@ -485,8 +525,8 @@ own_right s k p at all =
     subst (λ (v : Processor). AreRight (view v) p.lines p.buffers p.entries) same h.2.right
 
 module _ (s : System) (k : ℕ) (p : Processor) (at : slice_get s.processors k ≡ Some p) (all : AllKeep s.processors s.processors) where
-  right_at : (page : ℕ) (e : Entry) → entry_of p page ≡ Some e → right_entry (view p) e ≡ true
-  right_at page e is = (translation p page e (own_right s k p at all) is).0
+  right_at : (page : ℕ) (e : Entry) → entry_of p page ≡ Some e → (right_entry (view p) e ≡ true) × IsFrom p e
+  right_at page e is = ((translation p page e (own_right s k p at all) is).0, from_own p p page e refl (λ test each old. old) is)
 
   -- an access keeps all right, and so does what a processor does by itself
   pub access_keeps : is_running p.phase ≡ true → (op : Op) → AllKeep s.processors (access_at s k p op).after.processors
@@ -497,8 +537,8 @@ module _ (s : System) (k : ℕ) (p : Processor) (at : slice_get s.processors k �
   pub translation_keeps : (page : ℕ) → AllKeep s.processors (change (with_translation page) k s).processors
   translation_keeps page = keep_change s.processors k p at (with_translation page) (λ q h. kept_translation p q page h) s all
 
-  pub fetch_keeps : (m : Memory) (line : ℕ) → has_old_entries p.phase ≡ false → option_map_or (may_fill m line p) (entry_of p (line / 64)) false ≡ true → AllKeep s.processors (with_fetch line k s).processors
-  fetch_keeps m line new may =
+  pub fetch_keeps : (m : Memory) (line : ℕ) → has_old_entries p.phase ≡ false → is_flushed p.phase ≡ false → option_map_or (may_fill m line p) (entry_of p (line / 64)) false ≡ true → AllKeep s.processors (with_fetch line k s).processors
+  fetch_keeps m line new unflushed may =
       subst (λ (x : Option Processor). AllKeep s.processors (option_map_or (λ q. option_map_or (λ e. filled line k e s) (entry_of q (line / 64)) s) x s).processors) (sym at)
       (one (entry_of p (line / 64)) refl may)
     where
@@ -506,7 +546,7 @@ module _ (s : System) (k : ℕ) (p : Processor) (at : slice_get s.processors k �
       one None is h = all
       one (Some e) is h =
           let right = right_at (line / 64) e is in
-          keep_filled s.processors k p at s line e right (made_now p e new right) (and_left (is_cached e.kind) _ (and_left _ _ h)) all
+          keep_filled s.processors k p at s line e right unflushed (made_now p e new right.0) (and_left (is_cached e.kind) _ (and_left _ _ h)) all
 
 -- ---- its type is the one that the registers give
 

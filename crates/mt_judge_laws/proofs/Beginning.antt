@@ -21,7 +21,9 @@ use Rattle.mt_search.specs.Searches.{has_wrong}
 use Rattle.mt_judge_laws.specs.Manual.{IsRightStart, at_rest, machine_of, MayCall}
 use Rattle.mt_judge_laws.proofs.Holding.{order_of, Holds}
 use Rattle.mt_judge_laws.proofs.Right.{AllRun, NoneWrong, Senses, none_wrong, nothing_wrong, running_is, start_agrees, start_right, stays_right}
-use Rattle.mt_judge_laws.proofs.Since.{AllSince, is_no_fill}
+use Rattle.mt_judge_laws.proofs.Known.{known_first}
+use Rattle.mt_judge_laws.proofs.Held.{HoldsRight}
+use Rattle.mt_judge_laws.proofs.Since.{AllSince, is_between, is_no_fill}
 
 -- ---- lists
 
@@ -88,8 +90,11 @@ module _ (senses : Senses) (c : Case) (s : State) (right : IsRightStart c s) (go
         },
   )
 
-  none : NoneWrong s.processors
-  none = none_wrong senses s right.right
+  none : NoneWrong c s.processors
+  none = none_wrong senses c s right.right
+
+  right_first : (i : ℕ) (p : Processor) → slice_get s.processors i ≡ Some p → HoldsRight p
+  right_first i p at = start_right c s.processors runs none i p at (λ off. entries_local p.entries ((all_get IsProcessor s.processors right.quiet.sound.each i p at).local_entries off))
 
   since : AllSince (order_of c) s.processors s.processors
   since i p at =
@@ -100,9 +105,11 @@ module _ (senses : Senses) (c : Case) (s : State) (right : IsRightStart c s) (go
           mappings = refl;
           self_snoop = refl;
           file = λ h. refl;
+          off = λ h. absurd (let whole : is_between p.phase ≡ false = ap is_between phase in cc);
           disabled = λ h. absurd (let off : is_no_fill p.phase ≡ false = ap is_no_fill phase in cc);
           local = λ h. absurd (let off : is_tlb_flushed p.phase ≡ false = ap is_tlb_flushed phase in cc);
-          right = start_right s.processors runs none i p at (λ off. entries_local p.entries ((all_get IsProcessor s.processors right.quiet.sound.each i p at).local_entries off));
+          right = right_first i p at;
+          known = known_first c.goal p (runs i p at) (right_first i p at);
         },
       )
 
@@ -110,6 +117,6 @@ module _ (senses : Senses) (c : Case) (s : State) (right : IsRightStart c s) (go
   holds_first = record { guarded = guards; filed = files; since = since }
 
   -- nothing is wrong where that is kept
-  pub right_in : (t : State) → Holds c s t.processors → has_wrong t ≡ false
+  pub right_in : (t : State) → Holds c s t.processors → has_wrong c t ≡ false
   right_in t h =
-      nothing_wrong senses t (stays_right (order_of c) s.processors t.processors (start_agrees s.processors runs none) h.guarded h.filed h.since)
+      nothing_wrong senses c t (stays_right (order_of c) s.processors t.processors (start_agrees c s.processors runs none) h.guarded h.filed h.since c refl right.starts)

@@ -17,7 +17,7 @@ use Rattle.mt_tlb.specs.Entries.{find_mapping}
 use Rattle.mt_tlb.specs.declared.entry.Entry.{Entry}
 use Rattle.mt_tlb.specs.declared.mapping.Mapping.{Mapping}
 use Rattle.mt_machine.specs.declared.phase.Phase.{Phase}
-use Rattle.mt_machine.specs.declared.phase.Phase.TheVariants.{Writing, Enabled, Flushed2}
+use Rattle.mt_machine.specs.declared.phase.Phase.TheVariants.{Writing, Enabled, Flushed, Flushed2, TlbFlushed}
 use Rattle.mt_machine.specs.Access.{is_cached, is_running}
 use Rattle.mt_machine.specs.System.{Processor}
 use Rattle.mt_laws.proofs.Barrier.Ranks.{and_left, and_right}
@@ -40,10 +40,19 @@ has_old_entries Enabled = true
 has_old_entries Flushed2 = true
 has_old_entries other = false
 
+-- the caches are flushed, unless the processor is self-snooping, and not yet a second time
+abbrev pub is_flushed : Phase → Bool
+is_flushed Flushed = true
+is_flushed TlbFlushed = true
+is_flushed (Writing i) = true
+is_flushed Enabled = true
+is_flushed other = false
+
 -- what decides whether a processor may hold something
 pub record View : Type 0 where
   pub file : RegisterFile
   pub mappings : List Mapping
+  pub flushed : Bool
   pub old_lines : Bool
   pub old_entries : Bool
   pub runs : Bool
@@ -53,6 +62,7 @@ abbrev pub view : Processor → View
 view p = record {
   file = p.file;
   mappings = p.mappings;
+  flushed = is_flushed p.phase && not p.self_snoop;
   old_lines = has_old_lines p.phase;
   old_entries = has_old_entries p.phase;
   runs = is_running p.phase;
@@ -66,8 +76,9 @@ kind_by v m = effective_type (defined_type (page_type v.file m.ppage)) (pat_entr
 abbrev pub allows_held : View → Kept → ℕ → Mapping → Bool
 allows_held v what page m = (m.ppage == page) && (v.old_lines || allows what (kind_by v m))
 
+-- no line is left behind the first flush
 abbrev pub may_hold : View → Kept → ℕ → Bool
-may_hold v what page = list_any (allows_held v what page) v.mappings
+may_hold v what page = not v.flushed && list_any (allows_held v what page) v.mappings
 
 abbrev pub kept_by : ℕ → Kept
 kept_by dirty = if dirty == 0 then CleanLine else DirtyLine
@@ -141,9 +152,10 @@ written_is_cached other h = refl
 -- where a dirty line may be, a clean one may
 pub clean_held : (v : View) (n : ℕ) → may_hold v DirtyLine n ≡ true → may_hold v CleanLine n ≡ true
 clean_held v n h =
-    any_more (allows_held v DirtyLine n) (allows_held v CleanLine n)
+    both (not v.flushed) _ (and_left _ _ h)
+    (any_more (allows_held v DirtyLine n) (allows_held v CleanLine n)
     (λ m g. both (m.ppage == n) _ (and_left _ _ g) (or_more v.old_lines _ _ (written_is_cached (kind_by v m)) (and_right (m.ppage == n) _ g)))
-    v.mappings h
+    v.mappings (and_right (not v.flushed) _ h))
 
 pub cleaned_is_held : (v : View) (dirty n : ℕ) → may_hold v (kept_by dirty) n ≡ true → may_hold v CleanLine n ≡ true
 cleaned_is_held v dirty n h = one (dirty == 0) h

@@ -1,10 +1,11 @@
 -- What is kept while the steps are due: the barriers, and what each processor holds; and that each is a step of the machine.
-use Rattle.std.proofs.Common.{◌≡◌, ◌∙◌, ap, refl, sym, subst, arith, ℕ, zero, suc, Bool, true, false, List, [], ◌∷◌, set, Option, None, Some}
+use Rattle.std.proofs.Common.{◌≡◌, ◌∙◌, ap, refl, sym, subst, arith, ℕ, zero, suc, Bool, true, false, List, [], ◌∷◌, length, set, Option, None, Some}
 use Rattle.std.specs.Prelude.{◌||◌, if◌then◌else◌, slice_get, ◌==◌, ◌&&◌, not, slice_index}
 use Rattle.std.specs.List.{list_all}
 use Rattle.std.specs.Option.{option_map_or, option_map}
 use Rattle.std.proofs.lemmas.Bool.{eqb-true, le-ltb}
 use Rattle.mt_regs.specs.RegisterFile.{RegisterFile}
+use Rattle.mt_regs.specs.Registers.{writable}
 use Rattle.mt_cache.specs.Lines.{first_dirty_line, first_dirty_word}
 use Rattle.mt_cache.specs.declared.line.CacheLine.{CacheLine}
 use Rattle.mt_machine.specs.declared.ruled.Ruled.TheVariants.{Busy as RuledBusy}
@@ -41,7 +42,7 @@ use Rattle.mt_procedure.specs.Steps.{event_of, accessed, answer_aside, aside, co
 use Rattle.mt_search.specs.Wrongs.{fault_with}
 use Rattle.mt_judge_laws.specs.Manual.{at_rest, IsInstruction}
 use Rattle.mt_judge_laws.proofs.Counting.{all_staged, stage_after}
-use Rattle.mt_judge_laws.proofs.Since.{AllSince, IsPlain, all_right, all_since, control_since, steps_since}
+use Rattle.mt_judge_laws.proofs.Since.{AllMakeKnown, AllSince, IsPlain, all_make_known, all_right, all_since, control_since, steps_since}
 use Rattle.mt_judge_laws.proofs.Accessing.{AllKeep, access_keeps, access_right, kept_at, kept_stages}
 
 -- ---- lists
@@ -103,7 +104,7 @@ quiet_holds c first ps qs kept h = record {
         let from = kept_at ps qs i x kept at in
         subst (λ (y : Processor). Filed (order_of c) y.file (stage_of y)) (sym from.2.same) (h.filed.1 i from.0 from.1),
   );
-  since = all_since (order_of c) first.processors ps qs kept h.since;
+  since = all_since (order_of c) first.processors ps qs kept (all_make_known (order_of c) first.processors ps h.guarded h.filed h.since) h.since;
 }
 
 -- a processor with an event that is due hasn't released
@@ -159,6 +160,12 @@ module _ (c : Case) (first s : State) (h : Holds c first s.processors) (k : ℕ)
   abbrev before : System
   before = system_of c s
 
+  makes : AllMakeKnown (order_of c) first.processors s.processors
+  makes = all_make_known (order_of c) first.processors s.processors h.guarded h.filed h.since
+
+  registers : length (writable p.file) ≡ length (writable c.goal)
+  registers = ap (λ (cap : ℕ). length (writable (record c.goal { capabilities = cap }))) (h.filed.1 k p at).alike.capabilities
+
   -- the system that a machine's run leads to is a state's
   settled : IsStart (at_rest c first) → (to : System) → Reached (at_rest c first) (machine_with c to) → Reached (at_rest c first) (machine_with c (bus c.layout to.processors to.memory.words))
   settled start to reaches =
@@ -190,7 +197,7 @@ module _ (c : Case) (first s : State) (h : Holds c first s.processors) (k : ℕ)
     holds_event = record {
       guarded = step_guarded (order_of c) e k before p at now_due h.guarded;
       filed = filed_steps (order_of c) e k before p at now_due h.guarded h.filed;
-      since = steps_since (order_of c) first.processors k before p at h.since e now_due h.guarded;
+      since = steps_since (order_of c) first.processors k before p at h.since makes e now_due h.guarded registers;
     }
 
   -- ---- an instruction of a processor that runs
@@ -260,7 +267,7 @@ module _ (c : Case) (first s : State) (h : Holds c first s.processors) (k : ℕ)
           holds = record {
             guarded = subst (Guarded (order_of c)) (sym (control_stages_at ctl)) h.guarded;
             filed = subst (λ (t : System). AllFiled (Some (order_of c)) t.processors) is_done (filed_next (Controls k ctl) before (Some (order_of c)) (runs_at, λ q at_q. fits q) h.guarded h.filed);
-            since = control_since (order_of c) first.processors k before p at h.since runs ctl plain;
+            since = control_since (order_of c) first.processors k before p at h.since makes runs ctl plain;
           };
           leads = still_leads (control_at before k p ctl).after (Controls k ctl) (runs_at, λ q at_q. fits q) (ap (λ (t : System). record (machine_with c before) { system = t }) is_done) (control_stages_at ctl);
           right = right;

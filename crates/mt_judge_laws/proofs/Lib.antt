@@ -1,5 +1,6 @@
 mod Held
 mod Accessing
+mod Known
 mod Since
 mod Right
 mod Counting

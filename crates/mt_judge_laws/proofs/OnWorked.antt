@@ -11,7 +11,7 @@ use Rattle.mt_search.specs.Searches.{has_wrong}
 use Rattle.mt_search.specs.Wrongs.{disagree}
 use Rattle.mt_search.specs.WorkedWrongs.{dirty_line, mapped, with_line}
 use Rattle.mt_judge_laws.specs.Manual.{IsInstruction, IsManual, IsManualList, IsRightStart, manual_list}
-use Rattle.mt_judge_laws.specs.WorkedManual.{first_list, one_list, one_started, second_list, speculating, two_lists, two_processors, two_started}
+use Rattle.mt_judge_laws.specs.WorkedManual.{first_list, one_list, one_started, second_list, speculating, strictly, two_files, two_lists, two_processors, two_started}
 
 pub first_is : IsManualList 2 false first_list
 first_is = record { before = []; behind = Access (Load 0x1000) ∷ Pge true ∷ []; before_fit = search rules; behind_fit = search rules; is = refl }
@@ -37,7 +37,7 @@ odd ts is fit = let low = (subst (All IsInstruction) is fit 0 (Access (Load 0)) 
 
 -- ---- the starts
 
-none_wrong : (has_wrong two_started ≡ false) × (has_wrong one_started ≡ false)
+none_wrong : (has_wrong two_lists two_started ≡ false) × (has_wrong one_list one_started ≡ false)
 unfolding disagree
 none_wrong = (refl, refl)
 
@@ -51,8 +51,16 @@ two_right = record {
     no_order = refl;
   };
   first = search rules;
+  starts = λ strict. absurd (let e : false ≡ true = strict in cc);
   right = none_wrong.0;
 }
+
+none_strict : has_wrong (strictly two_files two_lists) two_started ≡ false
+unfolding disagree
+none_strict = refl
+
+pub two_strict : IsRightStart (strictly two_files two_lists) two_started
+two_strict = record { quiet = two_right.quiet; first = two_right.first; starts = λ strict. refl; right = none_strict }
 
 pub one_right : IsRightStart one_list one_started
 one_right = record {
@@ -64,8 +72,13 @@ one_right = record {
     no_order = refl;
   };
   first = search rules;
+  starts = λ strict. absurd (let e : false ≡ true = strict in cc);
   right = none_wrong.1;
 }
+
+pub none_alone : (has_wrong (speculating false two_lists) two_started ≡ false) × (has_wrong (speculating true one_list) one_started ≡ false)
+unfolding disagree
+none_alone = (refl, refl)
 
 pub two_manual : IsManual two_lists two_started
 two_manual = record { few = search rules; goal = search rules; lists = lists_are; places = refl; arrived = refl }
@@ -81,8 +94,8 @@ pub one_manual : IsManual one_list one_started
 one_manual = record { few = search rules; goal = search rules; lists = lists_of_one; places = refl; arrived = refl }
 
 -- what processors do by themselves changes neither
-pub right_alone : (leaks : Bool) (c : Case) (s : State) → IsRightStart c s → IsRightStart (speculating leaks c) s
-right_alone leaks c s h = record { quiet = h.quiet; first = h.first; right = h.right }
+pub right_alone : (leaks : Bool) (c : Case) (s : State) → has_wrong (speculating leaks c) s ≡ false → IsRightStart c s → IsRightStart (speculating leaks c) s
+right_alone leaks c s right h = record { quiet = h.quiet; first = h.first; starts = h.starts; right = right }
 
 pub manual_alone : (leaks : Bool) (c : Case) (s : State) → IsManual c s → IsManual (speculating leaks c) s
 manual_alone leaks c s h = record { few = h.few; goal = h.goal; lists = h.lists; places = h.places; arrived = h.arrived }

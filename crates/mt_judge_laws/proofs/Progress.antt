@@ -78,7 +78,7 @@ low_page g n most (m ∷ ms) low h = one (m.ppage == n) refl h (λ rest. low_pag
 
 held_page : (v : View) (what : Kept) (n most : ℕ) (ms : List Mapping) → v.mappings ≡ ms → All (λ (m : Mapping). m.ppage < most) ms → may_hold v what n ≡ true → n < most
 held_page v what n most ms same low h =
-    low_page (λ m. v.old_lines || allows what (kind_by v m)) n most ms low (ap (list_any (allows_held v what n)) (sym same) ∙ h)
+    low_page (λ m. v.old_lines || allows what (kind_by v m)) n most ms low (ap (list_any (allows_held v what n)) (sym same) ∙ and_right (not v.flushed) _ h)
 
 -- ---- the next step, and that it may be done
 

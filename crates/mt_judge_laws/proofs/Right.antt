@@ -1,8 +1,9 @@
 -- Where the barriers are kept and each processor has kept what it has since a right start, nothing is wrong.
 use Rattle.std.proofs.Common.{◌≡◌, ◌⊎◌, ◌∙◌, ◌↔◌, ap, refl, sym, inl, inr, ⊎_elim, arith, ℕ, ◌≤◌, Bool, true, false, List, [], ◌∷◌, Option, None, Some, lit≤, subst}
-use Rattle.std.specs.Prelude.{◌==◌, not, ◌&&◌, ◌||◌, slice_get}
+use Rattle.std.specs.Prelude.{◌==◌, not, ◌&&◌, ◌||◌, map, slice_get}
 use Rattle.std.specs.List.{list_all, list_any}
 use Rattle.std.specs.Option.{option_map, option_map_or}
+use Rattle.std.proofs.lemmas.Option.{slice_get-map}
 use Rattle.std.proofs.lemmas.Bool.{eq-eqb, not-false}
 use Rattle.mt_regs.specs.RegisterFile.{RegisterFile}
 use Rattle.mt_regs.specs.PageTypes.{is_type}
@@ -12,20 +13,21 @@ use Rattle.mt_tlb.specs.declared.entry.Entry.{Entry}
 use Rattle.mt_tlb.specs.declared.mapping.Mapping.{Mapping}
 use Rattle.mt_machine.specs.declared.phase.Phase.{Phase}
 use Rattle.mt_machine.specs.declared.phase.Phase.TheVariants.{Running, Taken, Arrived, Arrived2, Writing, Enabled, Flushed2}
-use Rattle.mt_machine.specs.Access.{is_running, new_entry}
+use Rattle.mt_machine.specs.Access.{is_cached, is_running, new_entry}
 use Rattle.mt_machine.specs.Machine.{Order, has_released}
 use Rattle.mt_machine.specs.System.{Processor}
 use Rattle.mt_laws.proofs.Barrier.Ranks.{Guarded, and_left, and_right, rank, rank_of, stage_at}
 use Rattle.mt_laws.proofs.Barrier.Stages.{stage_of, stages_of}
 use Rattle.mt_laws.proofs.Registers.Filed.{AllFiled, is_done}
 use Rattle.mt_search.specs.declared.wrong.Wrong.{Wrong}
-use Rattle.mt_search.specs.declared.wrong.Wrong.TheVariants.{Disagree, StaleBuffer, StaleEntry, StaleLine}
-use Rattle.mt_procedure.specs.Runs.{State}
+use Rattle.mt_search.specs.declared.wrong.Wrong.TheVariants.{Disagree, MixedEntry, StaleBuffer, StaleEntry, StaleLine, UnsnoopedLine}
+use Rattle.mt_procedure.specs.Runs.{Case, State}
 use Rattle.mt_search.specs.Searches.{has_wrong}
 use Rattle.mt_search.specs.declared.wrong.Kept.TheVariants.{Buffer}
-use Rattle.mt_search.specs.Wrongs.{disagree, holds_at, is_allowed, is_awake, is_same_entry, is_stale_buffer, is_stale_entry, is_stale_line, is_wrong, kept_as, made_entry, page_of}
+use Rattle.mt_search.specs.Wrongs.{caches, caches_by, disagree, holds_at, is_allowed, is_awake, is_deaf, is_mixed_entry, is_same_entry, is_stale_buffer, is_stale_entry, is_stale_line, is_wrong, kept_as, lets_cache, made_entry, page_of}
 use Rattle.mt_judge_laws.proofs.Accessing.{made_now, type_is_own}
-use Rattle.mt_judge_laws.proofs.Held.{AreRight, HoldsRight, all_both, all_more, both, has_old_entries, has_old_lines, is_made, kind_by, right_buffer, right_entry, right_line, view}
+use Rattle.mt_judge_laws.proofs.Held.{AreRight, HoldsRight, all_both, all_more, allows_held, both, has_old_entries, has_old_lines, is_flushed, is_made, kind_by, right_buffer, right_entry, right_line, view}
+use Rattle.mt_judge_laws.proofs.Known.{is_known}
 use Rattle.mt_judge_laws.proofs.Since.{AllSince, is_before, is_early, is_no_fill}
 
 -- ---- tests over lists
@@ -96,16 +98,16 @@ running_is Running runs = refl
 running_is other runs = absurd (cc)
 
 abbrev pub Senses : Type 0
-Senses = (s : State) → (has_wrong s ≡ true) ↔ ((w : Wrong) × (is_wrong s.processors w ≡ true))
+Senses = (c : Case) (s : State) → (has_wrong c s ≡ true) ↔ ((w : Wrong) × (is_wrong c s.processors w ≡ true))
 
-abbrev pub NoneWrong : List Processor → Type 0
-NoneWrong ps = (w : Wrong) → is_wrong ps w ≡ false
+abbrev pub NoneWrong : Case → List Processor → Type 0
+NoneWrong c ps = (w : Wrong) → is_wrong c ps w ≡ false
 
-pub none_wrong : Senses → (s : State) → has_wrong s ≡ false → NoneWrong s.processors
-none_wrong senses s right w = off (is_wrong s.processors w) (λ h. let e : has_wrong s ≡ true = (senses s).1 (w, h) in cc)
+pub none_wrong : Senses → (c : Case) (s : State) → has_wrong c s ≡ false → NoneWrong c s.processors
+none_wrong senses c s right w = off (is_wrong c s.processors w) (λ h. let e : has_wrong c s ≡ true = (senses c s).1 (w, h) in cc)
 
-pub nothing_wrong : Senses → (s : State) → NoneWrong s.processors → has_wrong s ≡ false
-nothing_wrong senses s none = off (has_wrong s) (λ h. let found = (senses s).0 h in let e = none found.0 in let g = found.1 in cc)
+pub nothing_wrong : Senses → (c : Case) (s : State) → NoneWrong c s.processors → has_wrong c s ≡ false
+nothing_wrong senses c s none = off (has_wrong c s) (λ h. let found = (senses c s).0 h in let e = none found.0 in let g = found.1 in cc)
 
 -- the types that two processors give to the first one's pages
 abbrev pub Agree : Processor → Processor → Type 0
@@ -114,7 +116,7 @@ Agree p q = (n : ℕ) → list_any (λ m. (m.ppage == n) && disagree p q m) p.ma
 abbrev pub AllRun : List Processor → Type 0
 AllRun ps = (i : ℕ) (p : Processor) → slice_get ps i ≡ Some p → is_running p.phase ≡ true
 
-module _ (ps : List Processor) (runs : AllRun ps) (none : NoneWrong ps) where
+module _ (c : Case) (ps : List Processor) (runs : AllRun ps) (none : NoneWrong c ps) where
   at_own : (k : ℕ) (p : Processor) (test : Processor → Bool) → slice_get ps k ≡ Some p → holds_at ps k (λ q. is_awake q && test q) ≡ false → test p ≡ false
   at_own k p test at h =
       and_off (is_awake p) (test p) (ap (λ b. b || not p.cache_disabled) (runs k p at))
@@ -184,6 +186,42 @@ rank_of_running Running true runs = inr refl
 rank_of_running Running false runs = inl (refl, refl)
 rank_of_running other ahead runs = absurd (cc)
 
+-- by the registers as they are
+allowed_now : (p : Processor) (l : CacheLine) → has_old_lines p.phase ≡ false → right_line (view p) l ≡ true → is_allowed p (kept_as l) (page_of l) ≡ true
+allowed_now p l new h =
+    ap (λ b. list_any (allows_held (record (view p) { old_lines = b }) (kept_as l) (page_of l)) p.mappings) (sym new)
+    ∙ and_right (not (is_flushed p.phase && not p.self_snoop)) _ h
+
+old_or_flushed : (ph : Phase) → (has_old_lines ph ≡ false) ⊎ (is_flushed ph ≡ true)
+old_or_flushed (Writing i) = inr refl
+old_or_flushed Enabled = inr refl
+old_or_flushed other = inl refl
+
+-- no line of a processor that isn't self-snooping is stale: none is left behind the first flush of the caches
+no_unsnooped_line : (p : Processor) → HoldsRight p → p.self_snoop ≡ false → (n : ℕ) → list_any (λ l. (l.number == n) && is_stale_line p l) p.lines ≡ false
+no_unsnooped_line p right alone n =
+    none_fails (λ (l : CacheLine). l.number == n) (λ l. is_allowed p (kept_as l) (page_of l)) p.lines
+    (all_more (right_line (view p)) (λ l. is_allowed p (kept_as l) (page_of l)) each p.lines right.right_lines)
+  where
+    each : (l : CacheLine) → right_line (view p) l ≡ true → is_allowed p (kept_as l) (page_of l) ≡ true
+    each l h = ⊎_elim
+        (λ (new : has_old_lines p.phase ≡ false). allowed_now p l new h)
+        (λ (flushed : is_flushed p.phase ≡ true). absurd (let none : not (is_flushed p.phase && not p.self_snoop) ≡ false = λ i. not (flushed i && not (alone i)) in let some : not (is_flushed p.phase && not p.self_snoop) ≡ true = and_left _ _ h in cc))
+        (old_or_flushed p.phase)
+
+-- no entry that is known is mixed
+none_mixed : (chosen mixed known : Entry → Bool) → ((e : Entry) → known e ≡ true → mixed e ≡ false) → (es : List Entry) → list_all known es ≡ true → list_any (λ e. chosen e && mixed e) es ≡ false
+none_mixed chosen mixed known each [] h = refl
+none_mixed chosen mixed known each (e ∷ es) h =
+    ap (λ b. (chosen e && b) || list_any (λ x. chosen x && mixed x) es) (each e (and_left _ _ h))
+    ∙ ap (λ b. b || list_any (λ x. chosen x && mixed x) es) (not_both (chosen e) false refl)
+    ∙ none_mixed chosen mixed known each es (and_right (known e) _ h)
+
+known_unmixed : (a b : Bool) → (not a || b) ≡ true → (a && not b) ≡ false
+known_unmixed true true h = refl
+known_unmixed true false h = absurd (cc)
+known_unmixed false b h = refl
+
 -- nothing that an awake processor holds is stale
 module _ (o : Order) (firsts ps : List Processor) (since : AllSince o firsts ps) (k : ℕ) (p : Processor) (at : slice_get ps k ≡ Some p) (awake : is_awake p ≡ true) where
   own : HoldsRight p
@@ -198,12 +236,12 @@ module _ (o : Order) (firsts ps : List Processor) (since : AllSince o firsts ps)
   no_stale_line : (n : ℕ) → list_any (λ l. (l.number == n) && is_stale_line p l) p.lines ≡ false
   no_stale_line n =
       none_fails (λ (l : CacheLine). l.number == n) (λ l. is_allowed p (kept_as l) (page_of l)) p.lines
-      (ap (λ b. list_all (right_line (record (view p) { old_lines = b })) p.lines) (sym is_new.0) ∙ own.right_lines)
+      (all_more (right_line (view p)) (λ l. is_allowed p (kept_as l) (page_of l)) (λ l. allowed_now p l is_new.0) p.lines own.right_lines)
 
   no_stale_buffer : (n : ℕ) → list_any (λ b. (b.number == n) && is_stale_buffer p b) p.buffers ≡ false
   no_stale_buffer n =
       none_fails (λ (b : CacheLine). b.number == n) (λ b. is_allowed p Buffer (page_of b)) p.buffers
-      (all_more (right_buffer (record (view p) { old_lines = false })) (λ b. is_allowed p Buffer (page_of b)) (λ b h. and_right (is_running p.phase) _ h) p.buffers
+      (all_more (right_buffer (record (view p) { old_lines = false })) (λ b. is_allowed p Buffer (page_of b)) (λ b h. and_right (not (is_flushed p.phase && not p.self_snoop)) _ (and_right (is_running p.phase) _ h)) p.buffers
       (ap (λ b. list_all (right_buffer (record (view p) { old_lines = b })) p.buffers) (sym is_new.0) ∙ own.right_buffers))
 
   no_stale_entry : (n : ℕ) → list_any (λ e. (e.vpage == n) && is_stale_entry p e) p.entries ≡ false
@@ -215,7 +253,7 @@ module _ (o : Order) (firsts ps : List Processor) (since : AllSince o firsts ps)
 -- ---- two processors
 
 module _ (o : Order) (firsts ps : List Processor) (agree : (k j : ℕ) (p q : Processor) → slice_get firsts k ≡ Some p → slice_get firsts j ≡ Some q → Agree p q)
-    (g : Guarded o (stages_of ps)) (filed : AllFiled (Some o) ps) (since : AllSince o firsts ps) where
+    (g : Guarded o (stages_of ps)) (filed : AllFiled (Some o) ps) (since : AllSince o firsts ps) (c : Case) (goal : o.goal ≡ c.goal) (begun : c.mode.strict ≡ true → c.starts ≡ map (λ (p : Processor). p.file) firsts) where
   still_at : (k : ℕ) (p : Processor) → slice_get ps k ≡ Some p → is_running p.phase ≡ false → has_released o p ≡ false
   still_at k p at = g.in_step k (stage_of p) (stage_at ps k p at)
 
@@ -266,10 +304,47 @@ module _ (o : Order) (firsts ps : List Processor) (agree : (k j : ℕ) (p q : Pr
       at_processor None at = refl
       at_processor (Some p) at = one p (is_awake p) refl at
 
-  pub stays_right : NoneWrong ps
+  strictly_off : (k : ℕ) (test : Processor → Bool) → ((p : Processor) → slice_get ps k ≡ Some p → c.mode.strict ≡ true → test p ≡ false) → holds_at ps k (λ q. c.mode.strict && test q) ≡ false
+  strictly_off k test each = at_processor (slice_get ps k) refl
+    where
+      one : (p : Processor) (b : Bool) → c.mode.strict ≡ b → slice_get ps k ≡ Some p → (b && test p) ≡ false
+      one p true strict at = each p at strict
+      one p false strict at = refl
+
+      at_processor : (x : Option Processor) → slice_get ps k ≡ x → option_map_or (λ q. c.mode.strict && test q) x false ≡ false
+      at_processor None at = refl
+      at_processor (Some p) at = one p c.mode.strict refl at
+
+  deaf_off : (p : Processor) (b : Bool) → (p.self_snoop ≡ false → b ≡ false) → (is_deaf p && b) ≡ false
+  deaf_off p b h = one (is_awake p) p.self_snoop h
+    where
+      one : (awake snoops : Bool) → (snoops ≡ false → b ≡ false) → (not awake && not snoops && b) ≡ false
+      one true snoops g = refl
+      one false true g = refl
+      one false false g = g refl
+
+  -- the registers of the start are those that the case names
+  no_mixed_entry : (k : ℕ) (p : Processor) → slice_get ps k ≡ Some p → c.mode.strict ≡ true → (n : ℕ) → list_any (λ e. (e.vpage == n) && is_mixed_entry c k p e) p.entries ≡ false
+  no_mixed_entry k p at strict n =
+      let f = since k p at in
+      none_mixed (λ e. e.vpage == n) (is_mixed_entry c k p) (is_known o.goal f.0)
+      (λ e h.
+      ap (λ b. is_cached e.kind && not b) (lets_is f.0 f.1 f.2.mappings e.vpage)
+      ∙ known_unmixed (is_cached e.kind) (caches o.goal f.0 e.vpage || caches f.0.file f.0 e.vpage) h)
+      p.entries f.2.known
+    where
+      lets_is : (first : Processor) → slice_get firsts k ≡ Some first → p.mappings ≡ first.mappings → (page : ℕ) → lets_cache c k p page ≡ (caches o.goal first page || caches first.file first page)
+      lets_is first at_first mappings page =
+          let named : slice_get c.starts k ≡ Some first.file = ap (λ (fs : List RegisterFile). slice_get fs k) (begun strict) ∙ slice_get-map (λ (q : Processor). q.file) firsts k ∙ ap (option_map (λ (q : Processor). q.file)) at_first in
+          (λ i. list_any (caches_by (sym goal i) page) (mappings i) || option_map_or (λ f. list_any (caches_by f page) (mappings i)) (named i) false)
+
+  pub stays_right : NoneWrong c ps
   stays_right (StaleLine k n) = awake_off k (λ q. list_any (λ l. (l.number == n) && is_stale_line q l) q.lines) (λ p at awake. no_stale_line o firsts ps since k p at awake n)
   stays_right (StaleBuffer k n) = awake_off k (λ q. list_any (λ b. (b.number == n) && is_stale_buffer q b) q.buffers) (λ p at awake. no_stale_buffer o firsts ps since k p at awake n)
   stays_right (StaleEntry k n) = awake_off k (λ q. list_any (λ e. (e.vpage == n) && is_stale_entry q e) q.entries) (λ p at awake. no_stale_entry o firsts ps since k p at awake n)
+  stays_right (UnsnoopedLine k n) =
+      strictly_off k (λ q. is_deaf q && list_any (λ l. (l.number == n) && is_stale_line q l) q.lines) (λ p at strict. deaf_off p _ (λ alone. no_unsnooped_line p (since k p at).2.right alone n))
+  stays_right (MixedEntry k n) = strictly_off k (λ q. list_any (λ e. (e.vpage == n) && is_mixed_entry c k q e) q.entries) (λ p at strict. no_mixed_entry k p at strict n)
   stays_right (Disagree k j n) = at_processor (slice_get ps k) refl
     where
       one : (p : Processor) (b : Bool) → is_running p.phase ≡ b → slice_get ps k ≡ Some p → (b && holds_at ps j (λ q. is_awake q && list_any (λ m. (m.ppage == n) && disagree p q m) p.mappings)) ≡ false

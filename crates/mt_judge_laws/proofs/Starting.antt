@@ -13,6 +13,8 @@ use Rattle.mt_laws.proofs.Barrier.Ranks.{At, processor_at}
 use Rattle.mt_laws.proofs.Barrier.Stages.{Stage, stage_of, stages_of}
 use Rattle.mt_laws.proofs.Steps.StepCounts.{count_more}
 use Rattle.mt_procedure.specs.declared.moves.Move.{Move}
+use Rattle.mt_search.specs.declared.search.Aim.{Aim}
+use Rattle.mt_search.specs.declared.search.Aim.TheVariants as aim
 use Rattle.mt_search.specs.declared.search.Found.{Found}
 use Rattle.mt_search.specs.declared.search.Found.TheVariants as ends
 use Rattle.mt_procedure.specs.declared.step.ListPlace.{ListPlace}
@@ -135,7 +137,7 @@ module _ (senses : Senses) (c : Case) (s : State) (right : IsRightStart c s) (ma
 
     -- ---- what follows
 
-    no_wrong : (t : State) → Stands c s t → has_wrong t ≡ false
+    no_wrong : (t : State) → Stands c s t → has_wrong c t ≡ false
     no_wrong t st = right_in senses c s right manual.goal t st.holds
 
     move_is : (t : State) (k : ℕ) (g : GoesHere c s t k) → next_move c t k ≡ Some (move_of c t k g.todo)
@@ -181,16 +183,18 @@ module _ (senses : Senses) (c : Case) (s : State) (right : IsRightStart c s) (ma
       };
     }
 
-    found_is : (f : Found) → IsFound c s f → (f ≡ ends.Nothing) ⊎ (f ≡ ends.Stopped)
-    found_is ends.WrongStart h = absurd (let e = right.right in cc)
-    found_is (ends.Wrong path) h =
+    found_is : (a : Aim) (f : Found) → IsFound a c s f → (f ≡ ends.Nothing) ⊎ (f ≡ ends.Stopped)
+    found_is a ends.WrongStart h = absurd (let e = right.right in cc)
+    found_is aim.Wrong (ends.Wrong path) h =
         absurd (let w = (fine h.front h.runs).turns h.last h.wrong.goes in let bad = h.wrong.bad in cc)
-    found_is (ends.Stuck path) h = absurd (⊎_elim
-        (λ (e : IsEnded c (run c s path.items)). h.unended.2 (e h.unended.0 h.unended.1))
-        (λ (g : SomeGoesOn c (run c s path.items)). let waits = h.waits g.0 in let on = g.1 in cc)
+    found_is aim.Left (ends.Wrong path) h = absurd (let bad : false ≡ true = h.wrong.bad in cc)
+    found_is aim.Wrong (ends.At path) h = absurd (⊎_elim
+        (λ (e : IsEnded c (run c s path.items)). h.sought.unended.2 (e h.sought.unended.0 h.sought.unended.1))
+        (λ (g : SomeGoesOn c (run c s path.items)). let waits = h.sought.waits g.0 in let on = g.1 in cc)
         (fine path.items h.runs).goes)
-    found_is ends.Stopped h = inr refl
-    found_is ends.Nothing h = inl refl
+    found_is aim.Left (ends.At path) h = absurd (let none = (fine path.items h.runs).right in let some = h.sought.wrong in cc)
+    found_is a ends.Stopped h = inr refl
+    found_is a ends.Nothing h = inl refl
 
 -- ---- the laws
 
@@ -201,4 +205,4 @@ pub none_goes_wrong : Senses → NothingGoesWrong
 none_goes_wrong senses c s right manual fills = is_right senses c s right manual fills
 
 pub searches_find : Senses → SearchesFindNothing
-searches_find senses c s f right manual fills h = found_is senses c s right manual fills f h
+searches_find senses a c s f right manual fills h = found_is senses c s right manual fills a f h

@@ -1,10 +1,11 @@
 -- The manual's own procedure as a list of steps, the starts of it, and what is proved of each of its runs (own).
 -- Intel SDM volume 3A, chapter Memory Cache Control, section "MTRR Considerations in MP Systems".
-use Rattle.std.specs.Prelude.{◌≡◌, ◌⊎◌, ℕ, ◌≤◌, Bool, true, false, ◌&&◌, List, [], ◌∷◌, ◌++◌, length, replicate, slice_get, None, Some}
+use Rattle.std.specs.Prelude.{◌≡◌, ◌⊎◌, ℕ, ◌≤◌, Bool, true, false, ◌&&◌, List, [], ◌∷◌, ◌++◌, length, map, replicate, slice_get, None, Some}
 use Rattle.std.specs.List.{All}
 use Rattle.mt_machine.specs.Machine.{Calls, FitsOp, IsEnabled, Machine, Reached, remaining_order}
 use Rattle.mt_machine.specs.Start.{IsQuiet}
 use Rattle.mt_machine.specs.System.{Processor}
+use Rattle.mt_search.specs.declared.search.Aim.{Aim}
 use Rattle.mt_search.specs.declared.search.Found.{Found}
 use Rattle.mt_search.specs.declared.search.Found.TheVariants as found
 use Rattle.mt_procedure.specs.declared.step.ListPlace.{ListPlace}
@@ -57,11 +58,12 @@ at_rest c s = record { system = system_of c s; order = None }
 abbrev pub first_place : ListPlace
 first_place = record { step = 0; part = 0 }
 
--- a sound state with nothing wrong, in which all processors run and none has finished an update
+-- a sound state with nothing wrong, in which all processors run and none has finished an update. A strict case names its registers
 pub record IsRightStart (c : Case) (s : State) : Type 0 where
   pub quiet : IsQuiet (at_rest c s)
   pub first : All (λ p. p.era ≡ 0) s.processors
-  pub right : has_wrong s ≡ false
+  pub starts : c.mode.strict ≡ true → c.starts ≡ map (λ p. p.file) s.processors
+  pub right : has_wrong c s ≡ false
 
 -- the machine may call an update to the goal
 abbrev pub MayCall : Case → State → Type 0
@@ -95,11 +97,11 @@ RunsAreTheMachines =
     (c : Case) (s : State) (ts : List Turn) → IsRightStart c s → IsManual c s → c.mode.speculates ≡ false → IsRun c s ts → IsMachines c s (run c s ts)
 
 -- in every interleaving nothing is wrong, each step is due, and no list ends in the midst of the update, whatever a processor translates and
--- fetches by itself
+-- fetches by itself, and in a strict case too
 abbrev pub NothingGoesWrong : Type 0
 NothingGoesWrong = (c : Case) (s : State) → IsRightStart c s → IsManual c s → FillsNothing c → IsRight c s
 
--- so a search finds nothing, unless it stops
+-- so a search finds nothing, unless it stops, whether it looks for what is wrong or for what is left wrong when all lists have ended
 abbrev pub SearchesFindNothing : Type 0
 SearchesFindNothing =
-    (c : Case) (s : State) (f : Found) → IsRightStart c s → IsManual c s → FillsNothing c → IsFound c s f → (f ≡ found.Nothing) ⊎ (f ≡ found.Stopped)
+    (a : Aim) (c : Case) (s : State) (f : Found) → IsRightStart c s → IsManual c s → FillsNothing c → IsFound a c s f → (f ≡ found.Nothing) ⊎ (f ≡ found.Stopped)

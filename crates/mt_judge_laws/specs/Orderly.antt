@@ -42,7 +42,7 @@ OrderlyRunsAreTheMachines =
 -- nothing is wrong in the state after it
 abbrev pub OrderlyRunsAreRight : Type 0
 OrderlyRunsAreRight =
-    (c : Case) (s : State) (ts : List Turn) → IsRightStart c s → MayCall c s → FillsNothing c → AreOrderly c s ts → has_wrong (run c s ts) ≡ false
+    (c : Case) (s : State) (ts : List Turn) → IsRightStart c s → MayCall c s → FillsNothing c → AreOrderly c s ts → has_wrong c (run c s ts) ≡ false
 
 -- and no such step behind it has a fault
 abbrev pub OrderlyStepsHaveNoFault : Type 0

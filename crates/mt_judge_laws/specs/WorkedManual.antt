@@ -1,6 +1,7 @@
 -- Starts of the manual's lists for instances (own): two processors, of which the second is self-snooping, and a dirty line of a WB page.
 -- The first one loads from the page and sets PGE behind its release, and the second loads before its interrupt.
 use Rattle.std.specs.Prelude.{Bool, false, true, List, [], ◌∷◌, ◌++◌, replicate, Option}
+use Rattle.mt_regs.specs.RegisterFile.{RegisterFile}
 use Rattle.mt_machine.specs.declared.phase.Phase.{Phase}
 use Rattle.mt_machine.specs.declared.event.Event.{Event}
 use Rattle.mt_machine.specs.declared.op.Op.TheVariants.{Load}
@@ -19,6 +20,9 @@ use Rattle.mt_judge_laws.specs.Manual.{first_place, manual_list}
 abbrev pub two_processors : List Processor
 two_processors = with_line dirty_line (mapped 0x806) ∷ record (mapped 0x806) { self_snoop = true } ∷ []
 
+abbrev pub two_files : List RegisterFile
+two_files = registers 0x806 ∷ registers 0x806 ∷ []
+
 abbrev pub first_list : List ProcedureStep
 first_list = manual_list 2 false ++ Access (Load 0x1000) ∷ Pge true ∷ []
 
@@ -27,14 +31,24 @@ second_list = Access (Load 0x1000) ∷ manual_list 2 true
 
 -- the page is WB at the start, and the goal makes it UC
 abbrev pub with_lists : List (List ProcedureStep) → Case
-with_lists lists = record { mode = record { speculates = false; leaks = false }; layout = zero_memory (record { base = 0x100000; lines = 1 } ∷ []); goal = registers 0x800; lists = lists }
+with_lists lists = record {
+  mode = record { speculates = false; leaks = false; strict = false };
+  layout = zero_memory (record { base = 0x100000; lines = 1 } ∷ []);
+  starts = [];
+  goal = registers 0x800;
+  lists = lists;
+}
 
 abbrev pub two_lists : Case
 two_lists = with_lists (first_list ∷ second_list ∷ [])
 
 -- processors do something by themselves; a cache leaks if no-fill mode fills lines of it
 abbrev pub speculating : Bool → Case → Case
-speculating leaks c = record c { mode = record { speculates = true; leaks = leaks } }
+speculating leaks c = record c { mode = record c.mode { speculates = true; leaks = leaks } }
+
+-- the strict senses count too
+abbrev pub strictly : List RegisterFile → Case → Case
+strictly starts c = record c { mode = record c.mode { strict = true }; starts = starts }
 
 -- a list that begins, and one that ends, with a load from an address that is no word's
 abbrev pub odd_before : List ProcedureStep

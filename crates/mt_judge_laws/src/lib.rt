@@ -33,14 +33,15 @@ pub fn runs_are_the_machines()
 
 /// In every interleaving of the manual's lists from a right start nothing is wrong, each step is due, and no list ends
 /// amid the update. Some processor may go unless all lists have ended. Between the steps each processor may translate
-/// pages and fetch lines by itself, if no-fill mode fills none.
+/// pages and fetch lines by itself, if no-fill mode fills none. In a strict case nothing is wrong in its senses either.
 pub fn nothing_goes_wrong()
     ensures { NothingGoesWrong }
 {
     has_wrong_if_a_sense_holds(); // a fact for the proof
 }
 
-/// A search of the manual's lists from a right start finds nothing, unless it stops.
+/// A search of the manual's lists from a right start finds nothing, unless it stops. Nor does one for what is left wrong when all lists have
+/// ended.
 pub fn searches_find_nothing()
     ensures { SearchesFindNothing }
 {

@@ -10,11 +10,13 @@ ghost use Rattle.mt_procedure.specs.Runs.{IsRun, run};
 ghost use Rattle.mt_search.specs.Searches.{has_wrong};
 ghost use Rattle.mt_judge_laws.specs.Manual.{FillsNothing, IsManual, IsManualList, IsRightStart, first_place};
 ghost use Rattle.mt_judge_laws.specs.Orderly.{AreOrderly, IsOrderly};
-ghost use Rattle.mt_judge_laws.specs.WorkedManual.{first_list, move, odd_before, odd_behind, old_fetch, one_list, one_started, second_list, speculating, started, two_lists, two_started, with_lists};
+ghost use Rattle.mt_judge_laws.specs.WorkedManual.{first_list, move, odd_before, odd_behind, old_fetch, one_list, one_started, second_list, speculating, started, strictly, two_files, two_lists, two_started, with_lists};
 
-/// A right start of two processors, and what isn't one for one thing.
+/// A right start of two processors, in a strict case too, and what isn't one for one thing.
 pub fn worked_right_starts()
     ensures right { IsRightStart two_lists two_started }
+    ensures strict { IsRightStart (strictly two_files two_lists) two_started }
+    ensures other_files { IsRightStart (strictly (registers 0x800 ∷ []) two_lists) two_started → ⊥ }
     ensures taken { IsRightStart two_lists (started (record (mapped 0x806) { phase = Taken } ∷ mapped 0x806 ∷ [])) → ⊥ }
     ensures finished { IsRightStart two_lists (started (record (mapped 0x806) { era = 1 } ∷ record (mapped 0x806) { era = 1 } ∷ [])) → ⊥ }
     ensures stale { IsRightStart two_lists (started (with_line dirty_line (mapped 0x800) ∷ mapped 0x800 ∷ [])) → ⊥ }
@@ -77,6 +79,6 @@ pub fn worked_leak()
     ensures start { IsRightStart (speculating true one_list) one_started }
     ensures manual { IsManual (speculating true one_list) one_started }
     ensures runs { IsRun (speculating true one_list) one_started old_fetch }
-    ensures wrong { has_wrong (run (speculating true one_list) one_started old_fetch) ≡ true }
+    ensures wrong { has_wrong (speculating true one_list) (run (speculating true one_list) one_started old_fetch) ≡ true }
     ensures no_fill { IsRun (speculating false one_list) one_started old_fetch → ⊥ }
 {}

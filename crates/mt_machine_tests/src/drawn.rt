@@ -125,8 +125,10 @@ fn drawn_case(alloc: Global, seed: &mut u64) -> Option<Case> {
         mode: Mode {
             speculates: false,
             leaks: false,
+            strict: false,
         },
         layout,
+        starts: Vec::new(alloc),
         goal: file(0)?,
         lists: Vec::from_array(alloc, lists).ok()?,
     })

@@ -1,10 +1,12 @@
-/// What processors do by themselves in the runs of a case.
+/// What processors do by themselves in the runs of a case, and what counts as wrong.
 #[derive(Clone, Copy)]
 pub struct Mode {
     /// Processors translate pages and fetch lines by themselves.
     pub speculates: bool,
     /// A processor with CR0.CD set fetches lines too: no-fill mode fills.
     pub leaks: bool,
+    /// The strict senses of wrong count too.
+    pub strict: bool,
 }
 
 /// A turn of a run.

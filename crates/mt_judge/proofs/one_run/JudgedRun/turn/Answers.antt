@@ -12,13 +12,13 @@ returns-then-not-may_take-clause-told c =
 pub returns-in-Some-clause-told : goal.returns-in-Some-clause-told
 returns-in-Some-clause-told c =
     let q : JudgedRun = record c.args.self.now { state = c.take.new.state } in
-    let noted = subst (λ (s : State). IsStepNoted s c.in-Some.done q c.note_step.new.self) c.in_ok-before.ensures c.in_ok-note_step-in-Some.ensures.told in
+    let noted = subst (λ (s : State). IsStepNoted c.args.case.now s c.in-Some.done q c.note_step.new.self) c.in_ok-before.ensures c.in_ok-note_step-in-Some.ensures.told in
     told_step c.args.case.now c.args.turn c.args.self.now q c.note_step.new.self (search rules) c.in_ok-done.ensures.after refl refl c.note_step.ensures.state c.in-Some.done
     (sym c.in-Some.is ∙ c.in_ok-done.ensures.told) noted
 
 pub returns-clause-told : goal.returns-clause-told
 returns-clause-told c =
     let q : JudgedRun = record c.args.self.now { state = c.take.new.state } in
-    let noted = subst (λ (s : State). IsSpeculationNoted s c.args.turn q c.note_speculation.new.self) c.in_ok-before.ensures c.in_ok-note_speculation-in-None.ensures.told in
+    let noted = subst (λ (s : State). IsSpeculationNoted c.args.case.now s c.args.turn q c.note_speculation.new.self) c.in_ok-before.ensures c.in_ok-note_speculation-in-None.ensures.told in
     told_speculation c.args.case.now c.args.turn c.args.self.now q c.note_speculation.new.self (search rules) c.in_ok-done.ensures.after refl refl c.note_speculation.ensures.state
     (sym c.in-None.is ∙ c.in_ok-done.ensures.told) noted
