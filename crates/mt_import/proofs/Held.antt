@@ -1,16 +1,13 @@
 -- What a reader keeps when it takes one more fact.
-use Rattle.std.proofs.Common.{◌≡◌, ◌≢◌, ◌≤◌, ◌<◌, ◌+◌, ◌-◌, ◌*◌, ℕ, Bool, true, false, ◌==◌, ◌&&◌, nat_lt, zero, suc, List, ◌∷◌, replicate, Option, Some, None, refl, sym, ◌∙◌, ap, arith, slice_set, inl, inr, subst, bit_or}
-use Rattle.std.specs.Prelude.{◌⊎◌, max, is_some}
+use Rattle.std.proofs.Common.{◌≡◌, ◌≢◌, ◌≤◌, ◌<◌, ◌+◌, ◌-◌, ◌*◌, ℕ, Bool, true, false, ◌==◌, ◌&&◌, nat_lt, zero, suc, List, ◌∷◌, replicate, Option, Some, None, refl, sym, ◌∙◌, ap, arith, slice_set, subst, bit_or}
+use Rattle.std.specs.Prelude.{max, if◌then◌else◌}
 use Rattle.std.specs.List.{slice_index_or}
 use Rattle.std.proofs.lemmas.Bool.{eqb-true}
 use Rattle.std.proofs.lemmas.List.{get_or-set_other, length-replicate}
 use Rattle.std.proofs.lemmas.Grind.{get_or-set_at}
 use Rattle.std.proofs.Math.ListN.{length-set}
 use Rattle.std.proofs.lemmas.Bool.Decides.{nat_tests}
-use Rattle.mt_regs.specs.RegisterFile.{RegisterFile, IsRegisterFile, low_byte}
-use Rattle.mt_regs.specs.Registers.{register_of, value_at}
-use Rattle.mt_regs.specs.declared.registers.Register as register
-use Rattle.mt_regs.proofs.ByNumber.{register_of-range}
+use Rattle.mt_regs.specs.RegisterFile.{low_byte}
 use Rattle.mt_import.specs.declared.format.Format.{Format}
 use Rattle.mt_import.specs.declared.shape.Reading.{Reading}
 use Rattle.mt_import.specs.declared.shape.Slot.{Slot}
@@ -22,6 +19,7 @@ use Rattle.mt_import.specs.Readings.{is_line, is_register_value, is_warning, is_
 use Rattle.mt_import.specs.Outcome.{Seen, capabilities_after, fixed_line_after, last_after, nothing_seen, seen_with, slot_shown, tally_warned, tally_with}
 use Rattle.mt_import.specs.Warnings.{none_warned, warned_by, warned_with}
 use Rattle.mt_import.specs.Slot.{blank_slot, slot_with}
+use Rattle.mt_import.specs.Values.{is_fixed_number, is_pair_number}
 use Rattle.mt_import.specs.Reader.{HasTakenFacts, IsFit, IsReader, State, held_at, slot_of}
 
 none_at : (n i : ℕ) → slice_index_or (replicate n blank_slot) i blank_slot ≡ blank_slot
@@ -29,12 +27,12 @@ none_at zero i = refl
 none_at (suc n) zero = refl
 none_at (suc n) (suc i) = none_at n i
 
-at_start : (processor : ℕ) (slot : Option ℕ) → held_at (replicate 4112 blank_slot) processor slot ≡ blank_slot
+at_start : (processor : ℕ) (slot : Option ℕ) → held_at (replicate 1584 blank_slot) processor slot ≡ blank_slot
 at_start processor None = refl
-at_start processor (Some slot) = none_at 4112 (257 * processor + slot)
+at_start processor (Some slot) = none_at 1584 (99 * processor + slot)
 
 pub taken_new : (context : Context) (format : Option Format)
-    → HasTakenFacts (record { context = context; slots = replicate 4112 blank_slot; capabilities = blank_slot; last = None; line_of_fixed = None; processors = 1; width = None; line_of_width = 0; tally = record { format = format; lines = 0; matches = 0; warned = none_warned } }) (nothing_seen format)
+    → HasTakenFacts (record { context = context; slots = replicate 1584 blank_slot; capabilities = blank_slot; last = None; line_of_fixed = None; processors = 1; width = None; line_of_width = 0; tally = record { format = format; lines = 0; matches = 0; warned = none_warned } }) (nothing_seen format)
 taken_new context format = record {
   slots_are = λ processor number. at_start processor (slot_of number);
   capabilities_is = refl;
@@ -46,9 +44,9 @@ taken_new context format = record {
   tally_is = refl;
 }
 
-pub reader_new : IsReader (replicate 4112 blank_slot) 1 None
+pub reader_new : IsReader (replicate 1584 blank_slot) 1 None
 reader_new = record {
-  size = length-replicate {A = Slot} 4112 blank_slot;
+  size = length-replicate {A = Slot} 1584 blank_slot;
   some = omega arith;
   few = omega arith;
   fit = tt;
@@ -57,71 +55,69 @@ reader_new = record {
 
 -- ---- slots
 
-abbrev IsSlot : ℕ → ℕ → Type 0
-IsSlot number slot = ((number ≡ 0xfe) × (slot ≡ 0)) ⊎ ((0x200 ≤ number) × (number < 0x300) × (slot ≡ number - 0x1ff))
+-- the register in a slot
+abbrev number_in : ℕ → ℕ
+number_in slot = if slot == 0 then 0xfe else if slot == 97 then 0x277 else if slot == 98 then 0x2ff else if nat_lt slot 65 then slot + 0x1ff else slot + 0x20f
 
-slot_is : (number slot : ℕ) → slot_of number ≡ Some slot → IsSlot number slot
-slot_is number slot is = by (number == 0xfe) refl (nat_lt number 0x200) refl (nat_lt number 0x300) refl
+slot_is : (number slot : ℕ) → slot_of number ≡ Some slot → (slot < 99) × (number ≡ number_in slot)
+slot_is number slot is = by (number == 0xfe) refl (number == 0x277) refl (number == 0x2ff) refl (is_pair_number number) refl (is_fixed_number number) refl
   where
     same : (a b : ℕ) → ◌≡◌ {A = Option ℕ} (Some a) (Some b) → b ≡ a
     same a b e = cc e
 
-    by : (first : Bool) → (number == 0xfe) ≡ first → (low : Bool) → nat_lt number 0x200 ≡ low → (high : Bool) → nat_lt number 0x300 ≡ high → IsSlot number slot
-    by true one low is_low high is_high = inl (eqb-true number 0xfe one, same 0 slot (let e = is in rw one at e))
-    by false one true is_low high is_high = let e : None ≡ Some slot = rw (one, is_low) at is in cc e
-    by false one false is_low false is_high = let e : None ≡ Some slot = rw (one, is_low, is_high) at is in cc e
-    by false one false is_low true is_high =
-        inr (grind (arith, nat_tests, is_low), grind (arith, nat_tests, is_high), same (number - 0x1ff) slot (rw (one, is_low, is_high) at is))
+    at : (other : ℕ) → slot ≡ other → other < 99 → number ≡ number_in other → (slot < 99) × (number ≡ number_in slot)
+    at other equal less own = rw equal (less, own)
 
-slot_within : (number slot : ℕ) → slot_of number ≡ Some slot → slot < 257
-slot_within number slot is = elim (slot_is number slot is) [
-  | inl first ↦ omega (arith, first.1)
-  | inr later ↦ omega (arith, later.0, later.1, later.2)
-]
+    in_pairs : is_pair_number number ≡ true → (0x1ff < number) × (number < 0x240)
+    in_pairs e = (grind (arith, nat_tests, e), grind (arith, nat_tests, e))
+
+    in_fixed : is_fixed_number number ≡ true → (0x24f < number) × (number < 0x270)
+    in_fixed e = (grind (arith, nat_tests, e), grind (arith, nat_tests, e))
+
+    of_pair : (0x1ff < number) × (number < 0x240) → (number - 0x1ff < 99) × (number ≡ number_in (number - 0x1ff))
+    of_pair low = (omega (arith, low.1), grind (arith, nat_tests, low.0, low.1))
+
+    of_fixed : (0x24f < number) × (number < 0x270) → (number - 0x20f < 99) × (number ≡ number_in (number - 0x20f))
+    of_fixed low = (omega (arith, low.1), grind (arith, nat_tests, low.0, low.1))
+
+    by : (a : Bool) → (number == 0xfe) ≡ a → (b : Bool) → (number == 0x277) ≡ b → (c : Bool) → (number == 0x2ff) ≡ c → (d : Bool) → is_pair_number number ≡ d → (e : Bool) → is_fixed_number number ≡ e
+        → (slot < 99) × (number ≡ number_in slot)
+    by true is_a b is_b c is_c d is_d e is_e = at 0 (same 0 slot (let e = is in rw is_a at e)) (omega arith) (eqb-true number 0xfe is_a)
+    by false is_a true is_b c is_c d is_d e is_e = at 97 (same 97 slot (let e = is in rw (is_a, is_b) at e)) (omega arith) (eqb-true number 0x277 is_b)
+    by false is_a false is_b true is_c d is_d e is_e = at 98 (same 98 slot (let e = is in rw (is_a, is_b, is_c) at e)) (omega arith) (eqb-true number 0x2ff is_c)
+    by false is_a false is_b false is_c true is_d e is_e =
+        let own = of_pair (in_pairs is_d) in at (number - 0x1ff) (same (number - 0x1ff) slot (let e = is in rw (is_a, is_b, is_c, is_d) at e)) own.0 own.1
+    by false is_a false is_b false is_c false is_d true is_e =
+        let own = of_fixed (in_fixed is_e) in at (number - 0x20f) (same (number - 0x20f) slot (let e = is in rw (is_a, is_b, is_c, is_d, is_e) at e)) own.0 own.1
+    by false is_a false is_b false is_c false is_d false is_e = let e : None ≡ Some slot = rw (is_a, is_b, is_c, is_d, is_e) at is in cc e
+
+slot_within : (number slot : ℕ) → slot_of number ≡ Some slot → slot < 99
+slot_within number slot is = (slot_is number slot is).0
 
 slots_apart : (a b slot : ℕ) → slot_of a ≡ Some slot → slot_of b ≡ Some slot → a ≡ b
-slots_apart a b slot is is_too = by (slot_is a slot is) (slot_is b slot is_too)
-  where
-    by : IsSlot a slot → IsSlot b slot → a ≡ b
-    by (inl one) (inl two) = one.0 ∙ sym two.0
-    by (inl one) (inr two) = absurd (omega (arith, one.1, two.0, two.2))
-    by (inr one) (inl two) = absurd (omega (arith, two.1, one.0, one.2))
-    by (inr one) (inr two) = omega (arith, one.0, one.2, two.0, two.2)
-
--- a register that some file has stands in a slot
-pub register_slot : (f : RegisterFile) (number : ℕ) → IsRegisterFile f → is_some (value_at f number) ≡ true → slot_of number ≡ None → ⊥
-register_slot f number is_file has none = by (number == 0xfe) refl (register_of f number) refl
-  where
-    by : (first : Bool) → (number == 0xfe) ≡ first → (found : Option register.Register) → register_of f number ≡ found → ⊥
-    by true one found is = let e : Some 0 ≡ None = rw one at none in cc e
-    by false one None is = let e : false ≡ true = rw (one, is) at has in cc e
-    by false one (Some r) is =
-        let range = register_of-range f number r is_file is in
-        let low : nat_lt number 0x200 ≡ false = grind (arith, nat_tests, range.0) in
-        let high : nat_lt number 0x300 ≡ true = grind (arith, nat_tests, range.1) in
-        let e : Some (number - 0x1ff) ≡ None = rw (one, low, high) at none in cc e
+slots_apart a b slot is is_too = (slot_is a slot is).1 ∙ sym (slot_is b slot is_too).1
 
 -- ---- one more reading
 
 most : (a b : ℕ) → (1 ≤ a) → (a ≤ 16) → (b ≤ 16) → (1 ≤ max a b) × (max a b ≤ 16)
 most a b some few few_too = (grind (arith, nat_tests, some), grind (arith, nat_tests, few, few_too))
 
-places_apart : (p k slot s : ℕ) → slot < 257 → s < 257 → 257 * k + s ≡ 257 * p + slot → k ≡ p
+places_apart : (p k slot s : ℕ) → slot < 99 → s < 99 → 99 * k + s ≡ 99 * p + slot → k ≡ p
 places_apart p k slot s within within_too same = omega (arith, within, within_too, same)
 
 module _ (state : State) (reading : Reading) (slot : ℕ) (next : Slot) (is : IsReader state.slots state.processors state.width) (at : slot_of reading.number ≡ Some slot) (few : reading.processor < 16)
     (is_next : next ≡ slot_with (held_at state.slots reading.processor (Some slot)) reading) where
   abbrev slots : List Slot
-  slots = slice_set state.slots (257 * reading.processor + slot) next
+  slots = slice_set state.slots (99 * reading.processor + slot) next
 
   other : (k number : ℕ) → (reading.processor == k && reading.number == number) ≡ false → (found : Option ℕ) → slot_of number ≡ found → held_at slots k found ≡ held_at state.slots k found
   other k number apart None found = refl
-  other k number apart (Some s) found = get_or-set_other state.slots (257 * reading.processor + slot) (257 * k + s) next blank_slot differ
+  other k number apart (Some s) found = get_or-set_other state.slots (99 * reading.processor + slot) (99 * k + s) next blank_slot differ
     where
       equal : (a b : ℕ) → a ≡ b → (b == a) ≡ true
       equal a b e = grind (arith, nat_tests, e)
 
-      differ : 257 * k + s ≢ 257 * reading.processor + slot
+      differ : 99 * k + s ≢ 99 * reading.processor + slot
       differ same =
           let p = places_apart reading.processor k slot s (slot_within reading.number slot at) (slot_within number s found) same in
           let q : s ≡ slot = omega (arith, p, same) in
@@ -131,7 +127,7 @@ module _ (state : State) (reading : Reading) (slot : ℕ) (next : Slot) (is : Is
   own : held_at slots reading.processor (slot_of reading.number) ≡ slot_with (held_at state.slots reading.processor (slot_of reading.number)) reading
   own =
       ap (held_at slots reading.processor) at
-      ∙ get_or-set_at state.slots (257 * reading.processor + slot) (257 * reading.processor + slot) next blank_slot refl (omega (arith, is.size, slot_within reading.number slot at, few))
+      ∙ get_or-set_at state.slots (99 * reading.processor + slot) (99 * reading.processor + slot) next blank_slot refl (omega (arith, is.size, slot_within reading.number slot at, few))
       ∙ is_next ∙ ap (λ found. slot_with (held_at state.slots reading.processor found) reading) (sym at)
 
   fits : (reading.number ≡ 0xfe → low_byte (bit_or (held_at state.slots reading.processor (slot_of 0xfe)).value reading.value) ≤ 32)
@@ -151,7 +147,7 @@ module _ (state : State) (reading : Reading) (slot : ℕ) (next : Slot) (is : Is
   reader_more sound =
       let bounds = most (reading.processor + 1) state.processors (omega arith) (omega (arith, few)) is.few in
       record {
-        size = length-set state.slots (257 * reading.processor + slot) next ∙ is.size;
+        size = length-set state.slots (99 * reading.processor + slot) next ∙ is.size;
         some = bounds.0;
         few = bounds.1;
         fit = is.fit;

@@ -6,6 +6,7 @@ mod Listed
 pub mod Parts
 pub mod Puts
 pub mod Same
+pub mod Settling
 pub mod Takes
 mod Types
 pub mod Words

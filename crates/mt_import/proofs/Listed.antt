@@ -1,15 +1,15 @@
 -- The numbers of the registers that some dump has.
-use Rattle.std.proofs.Common.{◌≡◌, ◌∙◌, ◌<◌, ◌≤◌, ◌==◌, ◌&&◌, nat_lt, ℕ, zero, suc, Bool, true, false, Option, Some, None, refl, sym, subst, arith, lit≤, inl, inr}
-use Rattle.std.specs.Prelude.{if◌then◌else◌, is_some, not}
+use Rattle.std.proofs.Common.{◌≡◌, ◌∙◌, ◌<◌, ◌≤◌, ◌==◌, ◌&&◌, ◌-◌, nat_lt, ℕ, zero, suc, Bool, true, false, Option, Some, None, refl, sym, subst, arith, lit≤, inl, inr}
+use Rattle.std.specs.Prelude.{if◌then◌else◌, not}
 use Rattle.std.proofs.lemmas.Bool.{and_parts, cases_lt}
 use Rattle.std.proofs.lemmas.Bool.Decides.{nat_tests}
 use Rattle.mt_regs.specs.declared.registers.Register.{Register}
 use Rattle.mt_regs.specs.RegisterFile.{IsRegisterFile}
-use Rattle.mt_regs.specs.Registers.{register_of, value_at}
+use Rattle.mt_regs.specs.Registers.{register_of}
 use Rattle.mt_regs.proofs.ByNumber.{register_of-range}
 use Rattle.mt_import.specs.Readings.{all_registers, is_listed, is_register}
 use Rattle.mt_import.specs.Reader.{slot_of}
-use Rattle.mt_import.proofs.Held.{register_slot}
+use Rattle.mt_import.specs.Values.{is_fixed_number, is_pair_number}
 
 are_registers : IsRegisterFile all_registers
 unfolding all_registers
@@ -61,6 +61,14 @@ listed_is number = elim (cases_lt number 0x300) [
   | inr high ↦ past_listed number high ∙ sym (past number high)
 ]
 
+-- Each of them has a slot.
 pub listed_slot : (number : ℕ) → is_listed number ≡ true → slot_of number ≡ None → ⊥
-listed_slot number is =
-    register_slot all_registers number are_registers (and_parts (nat_lt number 0x1000) (is_some (value_at all_registers number)) (sym (listed_is number) ∙ is)).1
+listed_slot number is none = by (number == 0xfe) refl (number == 0x277) refl (number == 0x2ff) refl (is_pair_number number) refl (is_fixed_number number) refl
+  where
+    by : (a : Bool) → (number == 0xfe) ≡ a → (b : Bool) → (number == 0x277) ≡ b → (c : Bool) → (number == 0x2ff) ≡ c → (d : Bool) → is_pair_number number ≡ d → (e : Bool) → is_fixed_number number ≡ e → ⊥
+    by true is_a b is_b c is_c d is_d e is_e = let e : Some 0 ≡ None = rw is_a at none in cc e
+    by false is_a true is_b c is_c d is_d e is_e = let e : Some 97 ≡ None = rw (is_a, is_b) at none in cc e
+    by false is_a false is_b true is_c d is_d e is_e = let e : Some 98 ≡ None = rw (is_a, is_b, is_c) at none in cc e
+    by false is_a false is_b false is_c true is_d e is_e = let e : Some (number - 0x1ff) ≡ None = rw (is_a, is_b, is_c, is_d) at none in cc e
+    by false is_a false is_b false is_c false is_d true is_e = let e : Some (number - 0x20f) ≡ None = rw (is_a, is_b, is_c, is_d, is_e) at none in cc e
+    by false is_a false is_b false is_c false is_d false is_e = let e : false ≡ true = grind (arith, nat_tests, is, is_a, is_b, is_c, is_d, is_e) in cc e

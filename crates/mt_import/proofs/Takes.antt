@@ -23,14 +23,14 @@ use Rattle.mt_import.specs.declared.shape.Tally.{Tally}
 use Rattle.mt_import.specs.declared.shape.Told.{Told}
 use Rattle.mt_import.specs.declared.shape.Way.{Way}
 use Rattle.mt_import.specs.Readings.{Fact, context_after, line_facts, starts}
-use Rattle.mt_import.specs.declared.format.Choice.{Choice}
-use Rattle.mt_import.specs.Shown.{format_of, is_auto, said_in}
+use Rattle.mt_import.specs.declared.format.Choice.TheVariants.{Only}
+use Rattle.mt_import.specs.Shown.{said_in}
 use Rattle.mt_import.specs.Supplied.{Supplied}
 use Rattle.mt_import.specs.Outcome.{Seen, Outcome, ended_by, facts_fault, nothing_seen, refusal, seen_after, warned_till}
 use Rattle.mt_import.specs.Import.{answered, closed, failure, log_answer, tables_outcome}
 use Rattle.mt_import.specs.LogTables.{begins_table, context_told, facts_alone, facts_told, has_picked, is_read, kept, missing_table, tables_behind, tables_with, told_by, way_at_end, way_behind, way_from}
 use Rattle.mt_import.specs.Reader.{HasTakenFacts, State, TakesFacts, summary_in}
-use Rattle.mt_import.specs.Tries.{AreTried, HasTried, LeadsTo, Tried, TriesSeen, contexts_with, current_behind, current_from, facts_with, failure_or, fault_in}
+use Rattle.mt_import.specs.Tries.{AreTried, Begins, HasTried, LeadsTo, Tried, TriesSeen, contexts_with, current_behind, current_from, facts_with, failure_or, fault_in}
 use Rattle.mt_import.proofs.Facts.{fault_append, seen_append, till_goes, till_stops}
 use Rattle.mt_import.proofs.Same.{same_end}
 
@@ -273,26 +273,27 @@ module _ (auto : Bool) (supplied : Supplied) where
 
 -- ---- all lines
 
-module _ (choice : Choice) (supplied : Supplied) where
+module _ (auto : Bool) (supplied : Supplied) (format : Option Format) where
   -- what all lines lead to
   abbrev pub log_course : Course (Result Outcome Failure)
   log_course lines end =
-      let whole = (way_at_end (way_from (format_of choice)) 1 lines).tables in
-      log_answer (is_auto choice) supplied whole (nothing_seen (format_of choice)) (facts_alone (is_read supplied.table whole) (way_from (format_of choice)) (starts (format_of choice)) 1 lines)
+      let whole = (way_at_end (way_from format) 1 lines).tables in
+      log_answer auto supplied whole (nothing_seen format) (facts_alone (is_read supplied.table whole) (way_from format) (starts format) 1 lines)
 
-  pub begins_log : (auto : Bool) (format : Option Format) (tries : TriesSeen) → auto ≡ is_auto choice → format ≡ format_of choice → tries.way ≡ way_from format
-      → ((pick : Pick) (supplied : Supplied) → AreTried pick supplied (nothing_seen format) (λ whole. []) (λ whole. starts format) tries) → LeadsTo auto supplied tries 1 log_course
-  begins_log auto format tries same known way tried = record {
-    start = nothing_seen (format_of choice);
+  pub begins_log : (tries : TriesSeen) → Begins format tries → LeadsTo auto supplied tries 1 log_course
+  begins_log tries begins = record {
+    start = nothing_seen format;
     facts = λ whole. [];
-    contexts = λ whole. starts (format_of choice);
-    tried = rw (← known) (tried supplied.table supplied);
-    before = rw way (omega arith);
-    leads = λ lines end. rw (way, same, known) refl;
+    contexts = λ whole. starts format;
+    tried = begins.1 supplied.table supplied;
+    before = rw begins.0 (omega arith);
+    leads = λ lines end. rw begins.0 refl;
   }
 
-  pub tells_outcome : (bytes : List ℕ) (end : Place) (answer : Result Outcome Failure) → answer ≡ log_course (lines_of bytes) end → answered supplied.table answer ≡ tables_outcome choice supplied bytes
-  tells_outcome bytes end answer is = ap (answered supplied.table) is
+-- Of the format that a word names nothing is told in front.
+pub only_outcome : (format : Format) (supplied : Supplied) (bytes : List ℕ) (end : Place) (answer : Result Outcome Failure) → answer ≡ log_course false supplied (Some format) (lines_of bytes) end
+    → answered supplied.table answer ≡ tables_outcome (Only format) supplied bytes
+only_outcome format supplied bytes end answer is = ap (answered supplied.table) is
 
 -- ---- what a feed lends of a line
 

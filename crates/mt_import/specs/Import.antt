@@ -17,7 +17,8 @@ use Rattle.mt_output.specs.Ports.{Change, Held, Port, SinkRun, SourceRun, change
 use Rattle.mt_output.specs.Written.{Writes}
 use Rattle.mt_shell.specs.Runs.{Commands}
 use Rattle.mt_import.specs.declared.format.Choice.{Choice}
-use Rattle.mt_import.specs.Shown.{format_of, is_auto, shown}
+use Rattle.mt_import.specs.Census.{beside, format_of, front_of}
+use Rattle.mt_import.specs.Shown.{is_auto, shown}
 use Rattle.mt_import.specs.Help.{own_text}
 use Rattle.mt_import.specs.Supplied.{Supplied, command_of}
 use Rattle.mt_import.specs.declared.fault.ImportFault.{ImportFault}
@@ -30,7 +31,8 @@ use Rattle.mt_import.specs.Readings.{Fact}
 use Rattle.mt_import.specs.Outcome.{Outcome, Seen, ended, facts_fault, facts_outcome, faulted, is_empty, nothing_seen, refusal, seen_after, warned_till}
 
 abbrev pub log_outcome : Choice → Supplied → List ℕ → Outcome
-log_outcome choice supplied text = facts_outcome (is_auto choice) supplied (nothing_seen (format_of choice)) (shown (format_of choice) text)
+log_outcome choice supplied text =
+    beside (front_of choice text) (facts_outcome (is_auto choice) supplied (nothing_seen (format_of choice text)) (shown (format_of choice text) text))
 
 -- the outcome of these facts, where the log has the table that is asked for
 abbrev pub closed : Bool → Supplied → Tables → Seen → Outcome
@@ -53,7 +55,8 @@ answered pick (Err failed_by) = failed pick failed_by
 
 abbrev pub tables_outcome : Choice → Supplied → List ℕ → Outcome
 tables_outcome choice supplied text =
-    answered supplied.table (log_answer (is_auto choice) supplied (tables_of (format_of choice) text) (nothing_seen (format_of choice)) (facts_of_tables supplied.table (format_of choice) text))
+    beside (front_of choice text) (answered supplied.table
+    (log_answer (is_auto choice) supplied (tables_of (format_of choice text) text) (nothing_seen (format_of choice text)) (facts_of_tables supplied.table (format_of choice text) text)))
 
 abbrev pub own_outcome : List ℕ → Outcome
 own_outcome text = record { notes = []; dump = text; reasons = []; status = Done }

@@ -23,5 +23,7 @@ pub mod Warnings
 pub mod Outcome
 pub mod Reader
 pub mod Help
+pub mod Census
 pub mod Import
 pub mod Tries
+pub mod Readers

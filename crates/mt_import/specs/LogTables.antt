@@ -26,7 +26,7 @@ use Rattle.mt_import.specs.declared.shape.Way.{Way}
 use Rattle.mt_import.specs.LineWords.{head_end, words_behind}
 use Rattle.mt_import.specs.Pieces.{behind}
 use Rattle.mt_import.specs.Readings.{Fact, context_after, line_facts, starts}
-use Rattle.mt_import.specs.Shown.{chosen, said_in, unmarked}
+use Rattle.mt_import.specs.Shown.{said_in, unmarked}
 use Rattle.mt_import.specs.Slot.{all_bits}
 
 -- ---- the lines of a table
@@ -85,12 +85,9 @@ is_part format line (Warns warning number) = false
 is_part format line (Lists processor shown) = false
 is_part format line (Bad why place) = false
 
-abbrev pub told_in : Option Format → ℕ → List ℕ → Told
-told_in format number line = record { number = number; format = format; said = said_in format number line; is_part = is_part format (unmarked line) (said_in format number line) }
-
--- what a line says, where this format is known before
+-- what a line says in this format
 abbrev pub told_by : Option Format → ℕ → List ℕ → Told
-told_by before number line = told_in (chosen before number line) number line
+told_by format number line = record { number = number; format = format; said = said_in format number line; is_part = is_part format (unmarked line) (said_in format number line) }
 
 -- ---- headings
 

@@ -15,11 +15,12 @@ use Rattle.mt_import.specs.declared.shape.Tally.{Tally}
 use Rattle.mt_import.specs.Slot.{blank_slot}
 use Rattle.mt_import.specs.Supplied.{Supplied}
 use Rattle.mt_import.specs.Readings.{Fact}
+use Rattle.mt_import.specs.Values.{is_fixed_number, is_pair_number}
 use Rattle.mt_import.specs.Outcome.{Findings, Seen, Summary, capabilities_shown, facts_fault, firm_of, help_on, help_words, helps_on, hint_of, is_missing, is_nowhere, lacking_text, last_fixed_line, last_shown, missing_line, missing_lines, note_line, note_lines, noted, noted_of, processors, processors_text, seen_after, seen_with, slot_shown, summary_of, value_word, value_words, values_of, warned_till}
 
 pub record State : Type 0 where
   pub context : Context
-  pub slots : List Slot  -- 257 for each processor
+  pub slots : List Slot  -- 99 for each processor
   pub capabilities : Slot
   pub last : Option LastPair
   pub line_of_fixed : Option ℕ
@@ -30,11 +31,17 @@ pub record State : Type 0 where
 
 -- where a register stands among those of a processor
 abbrev pub slot_of : ℕ → Option ℕ
-slot_of number = if number == 0xfe then Some 0 else if nat_lt number 0x200 then None else if nat_lt number 0x300 then Some (number - 0x1ff) else None
+slot_of number =
+    if number == 0xfe then Some 0
+    else if number == 0x277 then Some 97
+    else if number == 0x2ff then Some 98
+    else if is_pair_number number then Some (number - 0x1ff)
+    else if is_fixed_number number then Some (number - 0x20f)
+    else None
 
 abbrev pub held_at : List Slot → ℕ → Option ℕ → Slot
 held_at slots processor None = blank_slot
-held_at slots processor (Some slot) = slice_index_or slots (257 * processor + slot) blank_slot
+held_at slots processor (Some slot) = slice_index_or slots (99 * processor + slot) blank_slot
 
 -- what a reader holds of each register
 abbrev pub slots_of : State → ℕ → ℕ → Slot
@@ -123,7 +130,7 @@ IsFit width = (32 ≤ width) × (width ≤ 52)
 
 -- What every reader keeps: a dump of so many processors, of this width and of their pairs may be made.
 pub record IsReader (slots : List Slot) (processors : ℕ) (width : Option ℕ) : Type 0 where
-  pub size : length slots ≡ 4112
+  pub size : length slots ≡ 1584
   pub some : 1 ≤ processors
   pub few : processors ≤ 16
   pub fit : IfSome width IsFit

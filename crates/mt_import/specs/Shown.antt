@@ -1,6 +1,6 @@
 -- What the lines of a log show, in each format (own).
 --     said_of format number line      what a line says, whatever the others say
---     chosen format line      the format that is known behind a line
+--     format_told number line      the first format that a line tells
 --     facts_from context number lines      the facts of lines, of which the first has this number
 use Rattle.std.specs.Prelude.{ℕ, ◌+◌, ◌==◌, ◌&&◌, nat_lt, Bool, true, false, List, [], ◌∷◌, ◌++◌, if◌then◌else◌, Option, Some, None}
 use Rattle.mt_text.specs.Text.{is_too_long, lines_of, past_limit}
@@ -77,7 +77,7 @@ said_of format number line =
     if is_too_long line then Bad LongLine (past_limit number)
     else said_or_sizes (said_by_line format number (unmarked line)) number (unmarked line)
 
--- ---- `auto`: the format of the first line that tells it
+-- ---- the format that a line tells
 
 -- A line that turns to processor 0 tells no format, nor does one that turns to a processor whose number can't be read.
 abbrev pub tells_turn : Turn → Bool
@@ -118,10 +118,6 @@ format_told number line =
     else if tells Plain number line then Some Plain
     else None
 
-abbrev pub chosen : Option Format → ℕ → List ℕ → Option Format
-chosen (Some format) number line = Some format
-chosen None number line = format_told number line
-
 -- what a line says in a format, where one is known
 abbrev pub said_in : Option Format → ℕ → List ℕ → LineSays
 said_in (Some format) number line = said_of format number line
@@ -131,10 +127,10 @@ said_in None number line = if is_too_long line then Bad LongLine (past_limit num
 
 -- the facts of a line behind lines that lead to this
 abbrev pub facts_of_line : Context → ℕ → List ℕ → List Fact
-facts_of_line context number line = line_facts number (chosen context.format number line) context (said_in (chosen context.format number line) number line)
+facts_of_line context number line = line_facts number context.format context (said_in context.format number line)
 
 abbrev pub context_behind : Context → ℕ → List ℕ → Context
-context_behind context number line = context_after context (chosen context.format number line) (said_in (chosen context.format number line) number line)
+context_behind context number line = context_after context context.format (said_in context.format number line)
 
 abbrev pub facts_from : Context → ℕ → List (List ℕ) → List Fact
 facts_from context number [] = []
@@ -142,10 +138,6 @@ facts_from context number (line ∷ lines) = facts_of_line context number line +
 
 abbrev pub shown : Option Format → List ℕ → List Fact
 shown format text = facts_from (starts format) 1 (lines_of text)
-
-abbrev pub format_of : Choice → Option Format
-format_of Auto = None
-format_of (Only format) = Some format
 
 abbrev pub is_auto : Choice → Bool
 is_auto Auto = true

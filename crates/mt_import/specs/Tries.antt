@@ -1,7 +1,7 @@
 -- What is kept of the facts of a log while the table that is asked for isn't known (own).
 --     AreTried pick supplied start facts contexts tries      these facts were taken, for each count of tables that the log may turn out to have
 --     LeadsTo auto supplied tries number course      what the lines that follow lead to
-use Rattle.std.specs.Prelude.{ℕ, ◌≡◌, ◌<◌, ◌++◌, Bool, List, if◌then◌else◌, Option, Some, None, unwrap_or, Result, Ok, Err}
+use Rattle.std.specs.Prelude.{ℕ, ◌≡◌, ◌<◌, ◌+◌, ◌++◌, Bool, List, [], ◌∷◌, if◌then◌else◌, Option, Some, None, unwrap_or, Result, Ok, Err}
 use Rattle.mt_text.specs.Reader.{Course}
 use Rattle.mt_text.specs.declared.place.Place.{Place}
 use Rattle.mt_import.specs.declared.fault.ImportFault.{ImportFault}
@@ -12,11 +12,12 @@ use Rattle.mt_import.specs.declared.shape.Pick.TheVariants.{Each, Number, Last}
 use Rattle.mt_import.specs.declared.shape.Tables.{Tables}
 use Rattle.mt_import.specs.declared.shape.Told.{Told}
 use Rattle.mt_import.specs.declared.shape.Way.{Way}
-use Rattle.mt_import.specs.LogTables.{begins_table, context_told, facts_alone, facts_told, is_read, way_at_end}
-use Rattle.mt_import.specs.Outcome.{Outcome, Seen, facts_fault, seen_after, warned_till}
+use Rattle.mt_import.specs.declared.format.Format.{Format}
+use Rattle.mt_import.specs.LogTables.{begins_table, context_told, facts_alone, facts_told, is_read, way_at_end, way_from}
+use Rattle.mt_import.specs.Outcome.{Outcome, Seen, facts_fault, nothing_seen, seen_after, warned_till}
 use Rattle.mt_import.specs.Import.{failure, log_answer}
 use Rattle.mt_import.specs.Reader.{HasTakenFacts, IsShort, State}
-use Rattle.mt_import.specs.Readings.{Fact}
+use Rattle.mt_import.specs.Readings.{Fact, starts}
 use Rattle.mt_import.specs.Supplied.{Supplied}
 
 -- what a reader has shown up to the first fault
@@ -81,6 +82,15 @@ pub record LeadsTo (auto : Bool) (supplied : Supplied) (tries : TriesSeen) (numb
   pub before : tries.way.tables.last < number
   pub leads : (lines : List (List ℕ)) (end : Place) → let whole = (way_at_end tries.way number lines).tables in
       course lines end ≡ log_answer auto supplied whole start (facts whole ++ facts_alone (is_read supplied.table whole) tries.way (contexts whole) number lines)
+
+-- Tries of no line, where the format may be known.
+abbrev pub Begins : Option Format → TriesSeen → Type 0
+Begins format tries = (tries.way ≡ way_from format) × ((pick : Pick) (supplied : Supplied) → AreTried pick supplied (nothing_seen format) (λ whole. []) (λ whole. starts format) tries)
+
+-- A call takes this line, which has this number.
+abbrev pub LeadsOn : Supplied → List ℕ → ℕ → TriesSeen → TriesSeen → Type 0
+LeadsOn supplied line number old new = (auto : Bool) (course : Course (Result Outcome Failure)) → LeadsTo auto supplied old number course
+    → LeadsTo auto supplied new (number + 1) (λ lines. course (line ∷ lines))
 
 -- the fault that the lines had, or else this one, with what they warn of
 abbrev pub failure_or : TriesSeen → ImportFault → Failure

@@ -7,7 +7,7 @@ use crate::LineSays;
 use crate::kernel::default_shown;
 use crate::pieces::{
     VALUE_SIZE, is_text, prefixed_number, prefixed_register, shown_as, shown_bits, shows_one,
-    shows_width, whole_number, word_place, word_text,
+    shows_width, whole_number, word_is, word_place, word_text,
 };
 use crate::reading::{one_shown, two_shown};
 use mt_kinds::{DEF_TYPE_E, DEF_TYPE_FE, PAGE_BYTES, PHYSMASK_V};
@@ -128,7 +128,7 @@ fn is_fixed(first: usize, line: &Line<'_>) -> bool
     requires { first ≤ 8 }
     ensures { result ≡ is_fixed first (words_of line.now.bytes.now) }
 {
-    is_text(b"Fixed", word_text(line, first)) && is_text(b"MSR", word_text(line, first + 1))
+    word_is(line, first, b"Fixed") && word_is(line, first + 1, b"MSR")
 }
 
 fn fixed_from(processor: Option<u32>, first: usize, line: &Line<'_>) -> LineSays
@@ -147,9 +147,9 @@ fn is_pair(first: usize, line: &Line<'_>) -> bool
     requires { first ≤ 8 }
     ensures { result ≡ is_pair first (words_of line.now.bytes.now) }
 {
-    is_text(b"base", word_text(line, first + 1))
-        && is_text(b"mask", word_text(line, first + 3))
-        && is_text(b"type", word_text(line, first + 5))
+    word_is(line, first + 1, b"base")
+        && word_is(line, first + 3, b"mask")
+        && word_is(line, first + 5, b"type")
 }
 
 fn is_page(address: u64) -> bool
@@ -223,11 +223,11 @@ fn is_size(first: usize, line: &Line<'_>) -> bool
     requires { first ≤ 8 }
     ensures { result ≡ is_size first (words_of line.now.bytes.now) }
 {
-    is_text(b"CPU", word_text(line, first))
-        && is_text(b"physical", word_text(line, first + 1))
-        && is_text(b"address", word_text(line, first + 2))
-        && is_text(b"size:", word_text(line, first + 3))
-        && is_text(b"bits", word_text(line, first + 5))
+    word_is(line, first, b"CPU")
+        && word_is(line, first + 1, b"physical")
+        && word_is(line, first + 2, b"address")
+        && word_is(line, first + 3, b"size:")
+        && word_is(line, first + 5, b"bits")
 }
 
 fn size_from(first: usize, line: &Line<'_>) -> LineSays
@@ -249,10 +249,10 @@ fn is_default(first: usize, line: &Line<'_>) -> bool
     requires { first ≤ 8 }
     ensures { result ≡ is_default first (words_of line.now.bytes.now) }
 {
-    is_text(b"selected", word_text(line, first + 1))
-        && is_text(b"as", word_text(line, first + 2))
-        && is_text(b"default", word_text(line, first + 3))
-        && is_text(b"type.", word_text(line, first + 4))
+    word_is(line, first + 1, b"selected")
+        && word_is(line, first + 2, b"as")
+        && word_is(line, first + 3, b"default")
+        && word_is(line, first + 4, b"type.")
 }
 
 fn default_named(word: &[u8]) -> Option<u8>
@@ -292,9 +292,9 @@ fn is_fixed_flag(first: usize, line: &Line<'_>) -> bool
     requires { first ≤ 8 }
     ensures { result ≡ is_fixed_flag first (words_of line.now.bytes.now) }
 {
-    is_text(b"Fixed", word_text(line, first))
-        && is_text(b"MTRRs", word_text(line, first + 1))
-        && is_text(b":", word_text(line, first + 2))
+    word_is(line, first, b"Fixed")
+        && word_is(line, first + 1, b"MTRRs")
+        && word_is(line, first + 2, b":")
 }
 
 // `Variable MTRRs: Enabled`
@@ -302,7 +302,7 @@ fn is_variable_flag(first: usize, line: &Line<'_>) -> bool
     requires { first ≤ 8 }
     ensures { result ≡ is_variable_flag first (words_of line.now.bytes.now) }
 {
-    is_text(b"Variable", word_text(line, first)) && is_text(b"MTRRs:", word_text(line, first + 1))
+    word_is(line, first, b"Variable") && word_is(line, first + 1, b"MTRRs:")
 }
 
 fn other_from(first: usize, line: &Line<'_>) -> LineSays
@@ -350,16 +350,16 @@ fn is_fixed_of(first: usize, line: &Line<'_>) -> bool
     requires { first ≤ 4 }
     ensures { result ≡ is_fixed_of first (words_of line.now.bytes.now) }
 {
-    is_text(b"MTRR:", word_text(line, first + 1)) && is_fixed(first + 2, line)
+    word_is(line, first + 1, b"MTRR:") && is_fixed(first + 2, line)
 }
 
 fn is_setup(first: usize, line: &Line<'_>) -> bool
     requires { first ≤ 4 }
     ensures { result ≡ is_setup first (words_of line.now.bytes.now) }
 {
-    is_text(b"setup", word_text(line, first + 1))
-        && is_text(b"mtrr", word_text(line, first + 2))
-        && is_text(b"for", word_text(line, first + 3))
+    word_is(line, first + 1, b"setup")
+        && word_is(line, first + 2, b"mtrr")
+        && word_is(line, first + 3, b"for")
 }
 
 // Behind `apic_id`.
@@ -396,11 +396,7 @@ fn level_words(line: &Line<'_>) -> usize
     ensures words { result ≡ level_words (words_of line.now.bytes.now) }
     ensures few { result ≤ 1 }
 {
-    if is_text(b"[DEBUG]", word_text(line, 0)) {
-        1
-    } else {
-        0
-    }
+    if word_is(line, 0, b"[DEBUG]") { 1 } else { 0 }
 }
 
 /// What a line says.

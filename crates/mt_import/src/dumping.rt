@@ -1,4 +1,5 @@
 ghost use Rattle.std.specs.Prelude.{◌≡◌, ◌≤◌, ◌<◌, ◌+◌, ◌++◌, Some, length, map};
+ghost use Rattle.arrayvec.specs.ArrayVec.{array_vec_len};
 ghost use Rattle.mt_regs.specs.Registers.{fixed_numbers};
 ghost use Rattle.mt_kinds.specs.Bits.{is_bit_set};
 ghost use Rattle.mt_regs.specs.RegisterFile.{low_byte};
@@ -140,6 +141,7 @@ impl LogReader {
         ensures told { let summary = summary_in is_auto supplied.now self.now
             in result ≡ dump_outcome (refusal self.now.tally missing.now) summary summary.width (summary.values 0 0xfe) }
         ensures written { IsWritten result.status (dump_text result) }
+        ensures room { length result.reasons ≤ 0x7c00 }
     {
         let tally = self.tally();
         let Some(width) = self.width(supplied) else {
@@ -161,6 +163,7 @@ impl LogReader {
         requires { length missing.now ≤ 0x6000 }
         ensures told { result ≡ refusal self.now.tally (missing.now ++ advice_of is_auto supplied.now (findings_in self.now)) }
         ensures written { IsWritten result.status (dump_text result) }
+        ensures room { length result.reasons ≤ 0x7c00 }
     {
         let mut text = ArrayVec::new();
         append_text(&mut text, missing);
@@ -172,6 +175,7 @@ impl LogReader {
     pub fn finish(&self, is_auto: bool, supplied: &Supplied) -> Outcome
         ensures told { result ≡ ended_by (summary_in is_auto supplied.now self.now) }
         ensures written { IsWritten result.status (dump_text result) }
+        ensures room { length result.reasons ≤ 0x7c00 }
     {
         let missing = self.missing(supplied);
         let text = missing.as_slice();
@@ -185,7 +189,8 @@ impl LogReader {
 
 // What is told beside a dump.
 fn remarks(is_auto: bool, tally: &Tally) -> TextBuffer
-    ensures { result.items ≡ remarks is_auto tally.now }
+    ensures text { result.items ≡ remarks is_auto tally.now }
+    ensures short { array_vec_len result ≤ 899 }
 {
     let mut text = ArrayVec::new();
     if is_auto {
@@ -200,6 +205,7 @@ pub(crate) fn refusal(tally: &Tally, missing: &[u8]) -> Outcome
     requires { length missing.now ≤ 0x7000 }
     ensures told { result ≡ refusal tally.now missing.now }
     ensures written { IsWritten result.status (dump_text result) }
+    ensures room { length result.reasons ≤ 0x7c00 }
 {
     let mut reasons = ArrayVec::new();
     append_text(&mut reasons, count_line(tally).as_slice());

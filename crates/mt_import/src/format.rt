@@ -1,6 +1,6 @@
 ghost use Rattle.std.specs.Prelude.{◌≡◌};
 ghost use Rattle.mt_import.specs.Tables.{each_said};
-ghost use Rattle.mt_import.specs.Shown.{chosen, format_of, format_told, is_auto, is_telling, said_by_line, said_in, said_in_each, said_of, first_said, said_or_sizes, tells, unmarked};
+ghost use Rattle.mt_import.specs.Shown.{format_told, is_telling, said_by_line, said_in, said_in_each, said_of, first_said, said_or_sizes, tells, unmarked};
 
 use crate::chipsec::chipsec_said;
 use crate::coreboot::coreboot_said;
@@ -45,30 +45,9 @@ pub enum Format {
 /// The formats that a log may have.
 #[derive(Clone, Copy)]
 pub enum Choice {
-    /// That of the first line that tells one.
+    /// The one of which most lines show registers.
     Auto,
     Only(Format),
-}
-
-impl Choice {
-    /// The format, if it is known.
-    pub(crate) fn format(self) -> Option<Format>
-        ensures { result ≡ format_of self }
-    {
-        match self {
-            Choice::Auto => None,
-            Choice::Only(format) => Some(format),
-        }
-    }
-
-    pub(crate) fn is_auto(self) -> bool
-        ensures { result ≡ is_auto self }
-    {
-        match self {
-            Choice::Auto => true,
-            Choice::Only(_) => false,
-        }
-    }
 }
 
 impl Format {
@@ -168,7 +147,8 @@ fn is_telling(said: &LineSays) -> bool
     }
 }
 
-fn format_told(line: &Line<'_>) -> Option<Format>
+/// The first format in which a line says what no other format's line does.
+pub(crate) fn format_told(line: &Line<'_>) -> Option<Format>
     ensures { result ≡ format_told line.now.number line.now.bytes.now }
 {
     if line.too_long() {
@@ -195,16 +175,6 @@ fn format_told(line: &Line<'_>) -> Option<Format>
         Some(Format::Plain)
     } else {
         None
-    }
-}
-
-/// The format that is known behind a line, if it was known before or the line tells it.
-pub(crate) fn chosen(format: Option<Format>, line: &Line<'_>) -> Option<Format>
-    ensures { result ≡ chosen format line.now.number line.now.bytes.now }
-{
-    match format {
-        Some(format) => Some(format),
-        None => format_told(line),
     }
 }
 

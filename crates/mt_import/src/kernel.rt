@@ -78,14 +78,14 @@ pub(crate) fn default_shown(code: Option<u8>, place: Place) -> Option<Shown>
 fn head_said(alone: bool, words: &LineWords<'_>) -> LineSays
     ensures { result ≡ head_said alone words.now.number words.now.words }
 {
-    if is_text(b"default", words.text(1)) && is_text(b"type:", words.text(2)) {
+    if words.is(1, b"default") && words.is(2, b"type:") {
         let code = type_named(words.text(3));
         LineSays::Begins(one_shown(default_shown(code, words.place(3))))
-    } else if !is_text(b"ranges", words.text(2)) {
+    } else if !words.is(2, b"ranges") {
         LineSays::Nothing
-    } else if is_text(b"fixed", words.text(1)) {
+    } else if words.is(1, b"fixed") {
         fixed_said(alone, words.place(3), enabled_by(words.text(3)))
-    } else if is_text(b"variable", words.text(1)) {
+    } else if words.is(1, b"variable") {
         variable_said(words.place(3), enabled_by(words.text(3)))
     } else {
         LineSays::Nothing
@@ -295,13 +295,13 @@ pub(crate) fn kernel_said(alone: bool, words: &LineWords<'_>) -> LineSays
     ensures { result ≡ kernel_said alone words.now.number words.now.words }
 {
     let count = words.count();
-    if count == 4 && is_text(b"MTRR", words.text(0)) {
+    if count == 4 && words.is(0, b"MTRR") {
         head_said(alone, words)
-    } else if count == 2 && is_text(b"disabled", words.text(1)) {
+    } else if count == 2 && words.is(1, b"disabled") {
         disabled_said(number_in(decimal(words.text(0), 31)), words.place(1))
     } else if count == 2 {
         run_said(words)
-    } else if count == 6 && is_text(b"base", words.text(1)) && is_text(b"mask", words.text(3)) {
+    } else if count == 6 && words.is(1, b"base") && words.is(3, b"mask") {
         pair_said(number_in(decimal(words.text(0), 31)), words)
     } else {
         LineSays::Nothing

@@ -2,6 +2,8 @@
 #![tactic(auto)]
 
 mod advice;
+mod auto_reader;
+mod census;
 mod chipsec;
 mod command_reader;
 mod coreboot;
@@ -22,6 +24,7 @@ mod plain;
 mod program;
 mod rdmsr;
 mod reader;
+mod readers;
 mod reading;
 mod running;
 mod shape;
@@ -49,8 +52,8 @@ pub use reader::LogReader;
 pub use reading::{Context, LineSays, Shows, Turn};
 pub use running::{import, import_apart};
 pub use shape::{
-    Announced, Failure, FixedLine, Pick, Reading, Shown, Slot, Tables, Tally, Told, Warned,
-    Warning, Way,
+    Announced, Best, Census, Failure, FixedLine, Pick, Reading, Shown, Slot, Tables, Tally, Told,
+    Warned, Warning, Way,
 };
 pub use supplied::{Assumed, Supplied, command_of};
 pub use tables::{EACH, Row, Says};

@@ -1,9 +1,10 @@
 ghost use Rattle.std.specs.Prelude.{◌≡◌, ◌≤◌, ◌-◌, drop, length, take};
 ghost use Rattle.mt_text.specs.Text.{words_of};
 ghost use Rattle.mt_text.specs.Words.{place_of, text_of};
+ghost use Rattle.mt_import.specs.Pieces.{is_text};
 ghost use Rattle.mt_import.specs.LineWords.{behind_facility, behind_log, behind_stamp, head_end, is_bracket, is_closed, is_iso, is_level, is_opened, kernel_end, words_behind};
 
-use crate::pieces::{is_text, word_place, word_text};
+use crate::pieces::{is_text, word_is, word_place, word_text};
 use mt_text::{Line, Place};
 use std::cmp::min;
 use std::marker::Model;
@@ -105,11 +106,10 @@ fn behind_facility(line: &Line<'_>) -> u8
     ensures end { result ≡ behind_facility (words_of line.now.bytes.now) }
     ensures few { result ≤ 5 }
 {
-    let is_facility = is_text(b"kern", word_text(line, 0))
-        && is_text(b":", between(0, 1, word_text(line, 1)));
+    let is_facility = word_is(line, 0, b"kern") && is_text(b":", between(0, 1, word_text(line, 1)));
     if !is_facility {
         0
-    } else if is_text(b":", word_text(line, 2)) {
+    } else if word_is(line, 2, b":") {
         3
     } else {
         2
@@ -120,9 +120,9 @@ fn behind_log(line: &Line<'_>) -> u8
     ensures end { result ≡ behind_log (words_of line.now.bytes.now) }
     ensures few { result ≤ 5 }
 {
-    if is_text(b"kernel:", word_text(line, 2)) {
+    if word_is(line, 2, b"kernel:") {
         3
-    } else if is_text(b"kernel:", word_text(line, 4)) {
+    } else if word_is(line, 4, b"kernel:") {
         5
     } else if is_iso(word_text(line, 0)) {
         1
@@ -142,7 +142,7 @@ pub(crate) fn head_end(line: &Line<'_>) -> u8
 pub(crate) fn kernel_end(line: &Line<'_>) -> u8
     ensures { result ≡ kernel_end (words_of line.now.bytes.now) }
 {
-    if is_text(b"(XEN)", word_text(line, 0)) {
+    if word_is(line, 0, b"(XEN)") {
         behind_stamp(1, line)
     } else {
         head_end(line)
@@ -169,6 +169,13 @@ impl<'a> LineWords<'a> {
         ensures { result.now ≡ text_of self.now.words i }
     {
         word_text(&self.line, self.first as usize + i as usize)
+    }
+
+    /// Whether a word is this text.
+    pub(crate) fn is(&self, i: u8, text: &[u8]) -> bool
+        ensures { result ≡ is_text text.now (text_of self.now.words i) }
+    {
+        is_text(text, self.text(i))
     }
 
     /// The place of a word, which is the line's first column where the line doesn't have the word.

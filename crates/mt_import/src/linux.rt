@@ -87,7 +87,7 @@ fn pat_from(at: u8, words: &LineWords<'_>) -> LineSays
     ensures { result ≡ pat_from at words.now.number words.now.words }
 {
     if words.count() == at as usize + 9
-        && is_text(b"[0-7]:", words.text(at))
+        && words.is(at, b"[0-7]:")
         && is_configuration(words.text(at - 1))
     {
         let value = bytes_value(&entries_from(at + 1, words));
@@ -103,11 +103,7 @@ fn pat_word(words: &LineWords<'_>) -> u8
     ensures some { 1 ≤ result }
     ensures few { result ≤ 3 }
 {
-    if is_text(b"[0-7]:", words.text(2)) {
-        2
-    } else {
-        3
-    }
+    if words.is(2, b"[0-7]:") { 2 } else { 3 }
 }
 
 fn pat_said(words: &LineWords<'_>) -> LineSays
@@ -120,12 +116,12 @@ fn is_pat_change(words: &LineWords<'_>) -> bool
     ensures { result ≡ is_pat_change words.now.words }
 {
     words.count() == 9
-        && is_text(b"PAT", words.text(1))
-        && is_text(b"enabled:", words.text(2))
-        && is_text(b"cpu", words.text(3))
-        && is_text(b"0,", words.text(4))
-        && is_text(b"old", words.text(5))
-        && is_text(b"new", words.text(7))
+        && words.is(1, b"PAT")
+        && words.is(2, b"enabled:")
+        && words.is(3, b"cpu")
+        && words.is(4, b"0,")
+        && words.is(5, b"old")
+        && words.is(7, b"new")
 }
 
 // `x86 PAT enabled: cpu 0, old 0x7040600070406, new 0x7010600070106`
@@ -261,7 +257,7 @@ fn size_word(words: &LineWords<'_>) -> u8
     ensures word { result ≡ size_word words.now.words }
     ensures few { result ≤ 4 }
 {
-    if is_text(b"(", words.text(2)) { 4 } else { 3 }
+    if words.is(2, b"(") { 4 } else { 3 }
 }
 
 // The word that has its amount.
@@ -270,11 +266,7 @@ fn amount_word(words: &LineWords<'_>) -> u8
     ensures few { result ≤ 5 }
 {
     let at = size_word(words);
-    if is_text(b"size=", words.text(at)) {
-        at + 1
-    } else {
-        at
-    }
+    if words.is(at, b"size=") { at + 1 } else { at }
 }
 
 // The amount of a region, before this ending.
@@ -282,7 +274,7 @@ fn amount_of(end: &[u8], words: &LineWords<'_>) -> Option<u64>
     ensures { result ≡ amount_by (cut_before end.now (amount_text words.now.words)) }
 {
     let at = size_word(words);
-    if is_text(b"size=", words.text(at)) {
+    if words.is(at, b"size=") {
         return amount_before(end, words.text(at + 1));
     }
     match words.text(at).strip_prefix(b"size=") {
@@ -342,10 +334,7 @@ fn region_said(words: &LineWords<'_>) -> LineSays
 fn is_cleanup(words: &LineWords<'_>) -> bool
     ensures { result ≡ is_cleanup words.now.words }
 {
-    words.count() == 8
-        && is_text(b"base:", words.text(2))
-        && is_text(b"range:", words.text(4))
-        && is_text(b"type", words.text(6))
+    words.count() == 8 && words.is(2, b"base:") && words.is(4, b"range:") && words.is(6, b"type")
 }
 
 fn pair_before_comma(word: &[u8]) -> Option<u64>
@@ -394,12 +383,12 @@ fn is_map(words: &LineWords<'_>) -> bool
     ensures { result ≡ is_map words.now.words }
 {
     words.count() == 16
-        && is_text(b"map:", words.text(1))
-        && is_text(b"fixed", words.text(5))
-        && is_text(b"max", words.text(9))
-        && is_text(b"built", words.text(11))
-        && is_text(b"variable", words.text(14))
-        && is_text(b"MTRRs", words.text(15))
+        && words.is(1, b"map:")
+        && words.is(5, b"fixed")
+        && words.is(9, b"max")
+        && words.is(11, b"built")
+        && words.is(14, b"variable")
+        && words.is(15, b"MTRRs")
 }
 
 // VCNT by the map's numbers, in both of which AMD's TOM2 may count.

@@ -4,7 +4,7 @@ ghost use Rattle.mt_import.specs.declared.shape.Pick.{Pick};
 ghost use Rattle.mt_import.specs.declared.shape.Tables.{Tables as Begun};
 ghost use Rattle.mt_import.specs.LogTables.{are_some_bits, begins_table, between, has_picked, is_between_lines, is_in_table, is_part, is_read, is_region, missing_table, no_tables, pick_text, shown_at, shows_default, shows_part, table_hint, tables_text, tables_with, told_by, way_behind};
 
-use crate::format::{chosen, said_in, unmarked};
+use crate::format::{said_in, unmarked};
 use crate::line_words::{LineWords, head_end};
 use crate::pieces::count_on;
 use crate::shape::{Failure, Pick, Shown, Tables, Told, Way};
@@ -98,11 +98,10 @@ fn is_part(format: Option<Format>, line: &Line<'_>, said: &LineSays) -> bool
     }
 }
 
-/// What a line says, where this format is known before.
-pub(crate) fn told_by(before: Option<Format>, line: &Line<'_>) -> Told
-    ensures { result ≡ told_by before line.now.number line.now.bytes.now }
+/// What a line says in this format.
+pub(crate) fn told_by(format: Option<Format>, line: &Line<'_>) -> Told
+    ensures { result ≡ told_by format line.now.number line.now.bytes.now }
 {
-    let format = chosen(before, line);
     let said = said_in(format, line);
     Told {
         number: line.number,

@@ -186,6 +186,13 @@ pub(crate) fn word_text<'a>(line: &Line<'a>, i: usize) -> &'a [u8]
     }
 }
 
+/// Whether a word of a line is this text.
+pub(crate) fn word_is(line: &Line<'_>, i: usize, text: &[u8]) -> bool
+    ensures { result ≡ is_text text.now (text_of (words_of line.now.bytes.now) i) }
+{
+    is_text(text, word_text(line, i))
+}
+
 /// The place of a word, which is the line's first column where the line doesn't have the word.
 pub(crate) fn word_place(line: &Line<'_>, i: usize) -> Place
     ensures { result ≡ place_of line.now.number (words_of line.now.bytes.now) i }

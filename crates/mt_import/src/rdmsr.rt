@@ -166,9 +166,9 @@ fn is_traced(word: &[u8]) -> bool
 fn call_said(words: &LineWords<'_>) -> LineSays
     ensures { result ≡ call_said words.now.words }
 {
-    if is_text(b"rdmsr", words.text(1)) {
+    if words.is(1, b"rdmsr") {
         call_from(3, 2, Some(0), words)
-    } else if is_text(b"sudo", words.text(1)) && is_text(b"rdmsr", words.text(2)) {
+    } else if words.is(1, b"sudo") && words.is(2, b"rdmsr") {
         call_from(3, 3, Some(0), words)
     } else {
         LineSays::Nothing

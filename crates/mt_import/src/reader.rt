@@ -6,10 +6,10 @@ ghost use Rattle.mt_import.specs.Reader.{HasSlot, HasTakenFacts, IsFit, IsReader
 use crate::pieces::{count_on, shown_as};
 use crate::reading::{MOST_SHOWN, fixed_shows, is_register, named_processor};
 use crate::shape::{FixedLine, LastPair, Reading, Shown, Slot, Tally, Told, Warned};
-use crate::values::is_pair_number;
+use crate::values::{is_fixed_number, is_pair_number};
 use crate::{Context, Format, ImportFault, LineSays, Reason, Rival, Shows, Supplied};
 use mt_kinds::{PHYSMASK_V, is_bit_set};
-use mt_regs::{CAPABILITIES, DEFAULT_TYPE, FIRST_PAIR};
+use mt_regs::{CAPABILITIES, DEFAULT_TYPE, PAT};
 use mt_text::Place;
 use std::marker::Model;
 
@@ -17,10 +17,8 @@ mod rivals;
 
 use rivals::width_rival;
 
-// Registers of a processor: 0FEH, and those from 200H to 2FFH.
-const SLOTS: usize = 257;
-
-const LAST_REGISTER: u32 = 0x2ff;
+// Registers of a processor: 0FEH, those of pairs, those from 250H to 26FH, 277H and 2FFH.
+const SLOTS: usize = 99;
 
 // The fixed-range registers have numbers from here.
 const FIRST_FIXED: u32 = 0x250;
@@ -34,7 +32,7 @@ pub struct LogReader {
     // what the lines so far lead to
     context: Context,
     // each processor's registers
-    slots: [Slot; 4112],
+    slots: [Slot; 1584],
     // the capability register, as the lines of all processors show it
     capabilities: Slot,
     // the last pair of which a line shows that it is enabled
@@ -61,14 +59,20 @@ impl Model for LogReader {
 
 fn slot_of(number: u32) -> Option<usize>
     ensures slot { result ≡ slot_of number }
-    ensures within { IfSome result (λ slot. slot < 257) }
+    ensures within { IfSome result (λ slot. slot < 99) }
 {
     if number == CAPABILITIES {
         Some(0)
-    } else if number < FIRST_PAIR || number > LAST_REGISTER {
-        None
+    } else if number == PAT {
+        Some(97)
+    } else if number == DEFAULT_TYPE {
+        Some(98)
+    } else if is_pair_number(number) {
+        Some((number - 0x1ff) as usize)
+    } else if is_fixed_number(number) {
+        Some((number - 0x20f) as usize)
     } else {
-        Some((number - FIRST_PAIR) as usize + 1)
+        None
     }
 }
 
@@ -189,7 +193,7 @@ impl LogReader {
         let blank = Slot::blank();
         LogReader {
             context: Context::starts(format),
-            slots: [blank; 4112],
+            slots: [blank; 1584],
             capabilities: blank,
             last: None,
             line_of_fixed: None,
@@ -207,7 +211,7 @@ impl LogReader {
 
     fn held(&self, processor: u32, slot: usize) -> Slot
         requires processor { processor < 16 }
-        requires slot { slot < 257 }
+        requires slot { slot < 99 }
         ensures { result ≡ held_at self.now.slots processor (Some slot) }
     {
         self.slots[SLOTS * processor as usize + slot]

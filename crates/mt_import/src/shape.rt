@@ -115,6 +115,23 @@ pub struct Tally {
     pub warned: Warned,
 }
 
+/// How many lines of a log show registers, by their format. Each line is of one format at most.
+#[derive(Clone, Copy)]
+pub struct Census {
+    /// The format of the first line that tells one.
+    pub first: Option<Format>,
+    /// Of each format, in the order in which lines tell them.
+    pub counts: [u64; 10],
+}
+
+/// The format of which most lines show registers.
+#[derive(Clone, Copy)]
+pub struct Best {
+    pub lines: u64,
+    /// The format, if a line tells one.
+    pub format: Option<Format>,
+}
+
 /// What is known of a log beside what its lines show of registers.
 #[derive(Clone, Copy)]
 pub struct Known {

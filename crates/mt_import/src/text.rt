@@ -125,6 +125,7 @@ pub(crate) fn faulted(stop: &Stop, hint: &[u8]) -> Outcome
     requires hint { length hint.now ≤ 224 }
     ensures told { result ≡ faulted stop.now.fault stop.now.warned hint.now }
     ensures written { IsWritten result.status (dump_text result) }
+    ensures room { length result.reasons ≤ 0x7c00 }
 {
     let mut reasons = ArrayVec::new();
     stop.warned.append_lines(&mut reasons);

@@ -3,7 +3,6 @@ ghost use Rattle.arrayvec.specs.ArrayVec.{array_vec_len};
 ghost use Rattle.mt_import.specs.Warnings.{has_memory_bits, is_lost, is_syscfg, is_top_of_memory, kernel_warning, line_on, line_warned, names_syscfg, none_warned, warned_by, warned_with, warning_in, warning_line, warning_lines, warning_of, warning_text};
 
 use crate::line_words::{LineWords, kernel_end};
-use crate::pieces::is_text;
 use crate::shape::{Reading, Warned, Warning};
 use arrayvec::ArrayVec;
 use mt_dump::{TextBuffer, append_text};
@@ -16,9 +15,9 @@ const MEMORY_BITS: u64 = 0x1818_1818_1818_1818;
 fn kernel_warning(words: &LineWords<'_>) -> Option<Warning>
     ensures { result ≡ kernel_warning words.now.words }
 {
-    if is_text(b"CPUs", words.text(2)) && is_text(b"inconsistent", words.text(4)) {
+    if words.is(2, b"CPUs") && words.is(4, b"inconsistent") {
         Some(Warning::Unlike)
-    } else if is_text(b"incorrect", words.text(6)) && is_text(b"mask,", words.text(7)) {
+    } else if words.is(6, b"incorrect") && words.is(7, b"mask,") {
         Some(Warning::WrongMask)
     } else {
         None
@@ -28,9 +27,7 @@ fn kernel_warning(words: &LineWords<'_>) -> Option<Warning>
 fn is_lost(words: &LineWords<'_>) -> bool
     ensures { result ≡ is_lost words.now.words }
 {
-    is_text(b"MTRRs", words.text(4))
-        && is_text(b"cover", words.text(6))
-        && is_text(b"losing", words.text(10))
+    words.is(4, b"MTRRs") && words.is(6, b"cover") && words.is(10, b"losing")
 }
 
 fn names_syscfg(word: &[u8]) -> bool
@@ -43,7 +40,7 @@ fn is_syscfg(words: &LineWords<'_>) -> bool
     ensures { result ≡ is_syscfg words.now.words }
 {
     names_syscfg(words.text(0))
-        || (is_text(b"[Firmware", words.text(0)) && names_syscfg(words.text(5)))
+        || (words.is(0, b"[Firmware") && names_syscfg(words.text(5)))
         || (words.text(0).strip_prefix(b"MTRR").is_some()
             && words.text(1).strip_prefix(b"CPU").is_some()
             && names_syscfg(words.text(2)))
@@ -58,9 +55,9 @@ fn is_top_of_memory(word: &[u8]) -> bool
 fn warning_in(words: &LineWords<'_>) -> Option<Warning>
     ensures { result ≡ warning_in words.now.words }
 {
-    if is_text(b"mtrr:", words.text(0)) {
+    if words.is(0, b"mtrr:") {
         kernel_warning(words)
-    } else if is_text(b"WARNING:", words.text(0)) && is_lost(words) {
+    } else if words.is(0, b"WARNING:") && is_lost(words) {
         Some(Warning::LostMemory)
     } else if is_top_of_memory(words.text(0)) {
         Some(Warning::TopOfMemory)

@@ -4,14 +4,14 @@ ghost use Rattle.mt_import.specs.Xen.{xen_said};
 use crate::LineSays;
 use crate::kernel::kernel_said;
 use crate::line_words::{LineWords, behind_stamp};
-use crate::pieces::{is_text, word_text};
+use crate::pieces::word_is;
 use mt_text::Line;
 
 /// What a line says.
 pub(crate) fn xen_said(line: &Line<'_>) -> LineSays
     ensures { result ≡ xen_said line.now.number line.now.bytes.now }
 {
-    if !is_text(b"(XEN)", word_text(line, 0)) {
+    if !word_is(line, 0, b"(XEN)") {
         return LineSays::Nothing;
     }
     kernel_said(true, &LineWords::behind(behind_stamp(1, line), line))

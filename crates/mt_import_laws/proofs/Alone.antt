@@ -18,10 +18,11 @@ use Rattle.mt_import.specs.declared.shape.Told.{Told}
 use Rattle.mt_import.specs.declared.shape.Warned.{Warned}
 use Rattle.mt_import.specs.declared.shape.Way.{Way}
 use Rattle.mt_import.specs.Import.{answered, closed, failure, log_answer, log_outcome, tables_outcome}
-use Rattle.mt_import.specs.LogTables.{context_told, facts_alone, facts_of_tables, facts_told, has_picked, is_all, is_read, kept, line_kept, lines_alone, no_tables, tables_behind, tables_of, told_by, told_in, way_behind, way_from}
-use Rattle.mt_import.specs.Outcome.{Seen, ended, facts_fault, fault_line, nothing_seen, seen_after, unless, warned_till}
+use Rattle.mt_import.specs.LogTables.{context_told, facts_alone, facts_of_tables, facts_told, has_picked, is_all, is_read, kept, line_kept, lines_alone, no_tables, tables_behind, tables_of, told_by, told_by, way_behind, way_from}
+use Rattle.mt_import.specs.Outcome.{Seen, ended, facts_outcome, facts_fault, fault_line, nothing_seen, seen_after, unless, warned_till}
 use Rattle.mt_import.specs.Readings.{context_after, line_facts, starts}
-use Rattle.mt_import.specs.Shown.{chosen, facts_from, format_of, is_auto, said_in, said_of, shown}
+use Rattle.mt_import.specs.Census.{beside, format_of, front_of}
+use Rattle.mt_import.specs.Shown.{facts_from, is_auto, said_in, said_of, shown}
 use Rattle.mt_import.specs.Supplied.{Supplied}
 use Rattle.mt_import_laws.specs.Alone.{HasAlone, ReadsAll}
 use Rattle.mt_import_laws.specs.FirstLine.{ComeToSame}
@@ -45,8 +46,8 @@ module _ (format : Format) (read : Tables → Bool) where
   abbrev way_with : Tables → Way
   way_with tables = record { format = Some format; tables = tables }
 
-  kept_says : (r : Bool) (number : ℕ) (line : List ℕ) → said_of format number (line_kept r (told_in (Some format) number line) line) ≡ kept r (told_in (Some format) number line)
-  kept_says r number line = by ((told_in (Some format) number line).is_part && not r)
+  kept_says : (r : Bool) (number : ℕ) (line : List ℕ) → said_of format number (line_kept r (told_by (Some format) number line) line) ≡ kept r (told_by (Some format) number line)
+  kept_says r number line = by ((told_by (Some format) number line).is_part && not r)
     where
       by : (test : Bool) → said_of format number (if test then [] else line) ≡ (if test then Nothing else said_of format number line)
       by true = empty_says format number
@@ -56,7 +57,7 @@ module _ (format : Format) (read : Tables → Bool) where
       → facts_alone read (way_with tables) context number lines ≡ facts_from context number (lines_alone read (way_with tables) number lines)
   facts_are tables context number [] known = refl
   facts_are tables context number (line ∷ lines) known =
-      let told = told_in (Some format) number line in
+      let told = told_by (Some format) number line in
       let behind = tables_behind tables told in
       let r = read behind in
       let line' = line_kept r told line in
@@ -64,7 +65,7 @@ module _ (format : Format) (read : Tables → Bool) where
       let rest = lines_alone read (way_with behind) (number + 1) lines in
       ap (λ fs. facts_told r context told ++ fs) (facts_are behind (context_told r context told) (number + 1) lines refl)
       ∙ ap (λ said. line_facts number (Some format) context said ++ facts_from (context_after context (Some format) said) (number + 1) rest) (sym says)
-      ∙ ap (λ f. line_facts number (chosen f number line') context (said_in (chosen f number line') number line') ++ facts_from (context_after context (chosen f number line') (said_in (chosen f number line') number line')) (number + 1) rest) (sym known)
+      ∙ ap (λ f. line_facts number f context (said_in f number line') ++ facts_from (context_after context f (said_in f number line')) (number + 1) rest) (sym known)
 
 -- Each tables: every line says what it says.
 facts_all : (way : Way) (context : Context) (number : ℕ) (lines : List (List ℕ)) → context.format ≡ way.format → facts_alone (λ tables. true) way context number lines ≡ facts_from context number lines
@@ -74,7 +75,7 @@ facts_all way context number (line ∷ lines) known =
     let all = kept_all told in
     ap (λ fs. facts_told true context told ++ fs) (facts_all (way_behind way told) (context_told true context told) (number + 1) lines refl)
     ∙ ap (λ said. line_facts number told.format context said ++ facts_from (context_after context told.format said) (number + 1) lines) all
-    ∙ ap (λ f. line_facts number (chosen f number line) context (said_in (chosen f number line) number line) ++ facts_from (context_after context (chosen f number line) (said_in (chosen f number line) number line)) (number + 1) lines) (sym known)
+    ∙ ap (λ f. line_facts number f context (said_in f number line) ++ facts_from (context_after context f (said_in f number line)) (number + 1) lines) (sym known)
   where
     kept_all : (told : Told) → kept true told ≡ told.said
     kept_all told = by told.is_part
@@ -116,14 +117,16 @@ all_facts pick format text all = rw all (facts_all (way_from format) (starts for
 
 pub reads_all : (choice : Choice) (supplied : Supplied) (text : List ℕ) → supplied.table ≡ Each → ReadsAll choice supplied text
 reads_all choice supplied text all =
-    let format = format_of choice in
+    let format = format_of choice text in
     let tables = tables_of format text in
     let start = nothing_seen format in
     let facts = all_facts supplied.table format text all in
     let fault = facts_fault supplied start (shown format text) in
     let warned = warned_till supplied start (shown format text) in
     let seen = seen_after start (shown format text) in
+    let same : ComeToSame (answered supplied.table (log_answer (is_auto choice) supplied tables start (facts_of_tables supplied.table format text))) (facts_outcome (is_auto choice) supplied start (shown format text)) =
+    rw facts (all_answered (is_auto choice) supplied tables seen warned fault all) in
     record {
-      same = rw facts (all_answered (is_auto choice) supplied tables seen warned fault all);
-      one = λ few. rw facts (one_answered (is_auto choice) supplied tables seen warned fault all few);
+      same = record { notes = same.notes; dump = same.dump; status = same.status };
+      one = λ few. rw facts (ap (beside (front_of choice text)) (one_answered (is_auto choice) supplied tables seen warned fault all few));
     }

@@ -1,5 +1,5 @@
 -- What coreboot displays reads back.
-use Rattle.std.proofs.Common.{◌≡◌, ◌^◌, ◌<◌, Bool, true, List, ◌++◌, filter, Some, None, refl, sym, subst, inl, inr}
+use Rattle.std.proofs.Common.{◌≡◌, ◌^◌, ◌<◌, Bool, true, List, ◌∷◌, ◌++◌, filter, map, Some, None, refl, sym, subst, inl, inr}
 use Rattle.std.specs.Prelude.{◌⊎◌}
 use Rattle.std.specs.List.{AllByRecursion, list_all}
 use Rattle.mt_text.proofs.Plain.{is_plain}
@@ -10,13 +10,14 @@ use Rattle.mt_regs.specs.Registers.{IsWithin, writable}
 use Rattle.mt_regs.proofs.ByNumber.{place_in_writable}
 use Rattle.mt_import.specs.declared.format.Format.TheVariants.{Coreboot}
 use Rattle.mt_import.specs.Supplied.{Supplied}
-use Rattle.mt_import_laws.specs.FirstLine.{IsOfNoHost, LinesTellFirst}
+use Rattle.mt_import_laws.specs.FirstLine.{IsOfNoHost, takes}
+use Rattle.mt_import_laws.proofs.Taken.{all_stay, takes_printed}
 use Rattle.mt_import_laws.specs.Origins.{IsAmong}
 use Rattle.mt_import_laws.specs.Printed.{Key, TableReadsBack, value_in}
 use Rattle.mt_import_laws.specs.PrintedByCoreboot.{SuitsCoreboot, Tails, coreboot_lines, displayed, is_fixed, is_of_pair, line_of, name_of}
 use Rattle.mt_import_laws.proofs.Among.{all_map, among_at, among_filter, among_join, among_map, each_among, filter_among, join_among_first, join_among_second, map_among}
 use Rattle.mt_import_laws.proofs.CorebootLines.{IsNamed, is_displayed, line_plain, named, place, register_said, told}
-use Rattle.mt_import_laws.proofs.KeyLines.{ShowsAlone, has_line, lines_true}
+use Rattle.mt_import_laws.proofs.KeyLines.{keys_show, keys_stay, ShowsAlone, has_line, lines_true}
 use Rattle.mt_import_laws.proofs.Keys.{IsKey, all_within}
 use Rattle.mt_import_laws.proofs.PrintedBack.{HasLine, IsGiven, IsInFile, fits, key_in_file, table_back}
 
@@ -116,9 +117,12 @@ module _ (leveled : Bool) (tails : Tails) (file : RegisterFile) (supplied : Supp
         all = each_key;
       }) table_plain
 
--- The line of 0FEH is the first, and tells the format.
+-- The line of 0FEH is the first, and tells the format. The others are of it.
 pub told_first : (leveled : Bool) (tails : Tails) (file : RegisterFile) (supplied : Supplied) → SuitsCoreboot tails file supplied → IsOfNoHost (line_of leveled tails file None)
-    → LinesTellFirst Coreboot 1 (coreboot_lines leveled tails file)
+    → takes (coreboot_lines leveled tails file) ≡ Some Coreboot
 told_first leveled tails file supplied suits host =
     let tail = suits.are_tails None in
-    inl (told file.capabilities (tails None) tail.0 tail.1 tail.2 leveled 1 (fits file None suits.is_file suits.has_words tt) host)
+    let first = told file.capabilities (tails None) tail.0 tail.1 tail.2 leveled 1 (fits file None suits.is_file suits.has_words tt) host in
+    let show = keys_show 0 file Coreboot (line_of leveled tails file) (displayed file) (are_keys leveled tails file supplied suits) (all_fit leveled tails file supplied suits) (shows leveled tails file supplied suits) None (inl refl) 1 in
+    let stay = keys_stay 0 file Coreboot (line_of leveled tails file) (displayed file) (are_keys leveled tails file supplied suits) (all_fit leveled tails file supplied suits) (shows leveled tails file supplied suits) in
+    takes_printed Coreboot refl (coreboot_lines leveled tails file) 1 (inl (first, show.0, show.1, all_stay Coreboot 1 (map (line_of leveled tails file) (Some DefaultType ∷ map Some (filter is_fixed (writable file) ++ filter is_of_pair (writable file)))) stay.1))

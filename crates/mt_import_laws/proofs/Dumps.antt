@@ -151,7 +151,19 @@ module _ (supplied : Supplied) (seen : Seen) (auto : Bool) (fine : IsFine suppli
   ended_dump false is done = cc done
 
 pub origins : (choice : Choice) (supplied : Supplied) (text : List ℕ) → (log_outcome choice supplied text).status ≡ Done → HasOrigins supplied (seen_of choice text) (log_outcome choice supplied text)
-origins choice supplied text done = by (fault_of choice supplied text) refl done
+origins choice supplied text done =
+    let inner = by (fault_of choice supplied text) refl done in
+    record {
+      width = inner.width;
+      capabilities = inner.capabilities;
+      width_is = inner.width_is;
+      capabilities_is = inner.capabilities_is;
+      notes_are = inner.notes_are;
+      dump_is = inner.dump_is;
+      sections = inner.sections;
+      in_section = inner.in_section;
+      each = inner.each;
+    }
   where
     told : Outcome
     told = ended (is_auto choice) supplied (seen_of choice text)

@@ -13,14 +13,16 @@ use Rattle.mt_import.specs.Readings.{two_shown}
 use Rattle.mt_import.specs.Shown.{said_of, tells}
 use Rattle.mt_import.specs.Supplied.{Supplied}
 use Rattle.mt_import_laws.specs.Origins.{IsAmong}
-use Rattle.mt_import_laws.specs.FirstLine.{LinesTellFirst, says_same}
+use Rattle.mt_import_laws.specs.FirstLine.{takes}
 use Rattle.mt_import_laws.specs.Printed.{Key, TableReadsBack, value_in}
 use Rattle.mt_import_laws.specs.PrintedByEdk2.{SuitsEdk2, edk2_lines, is_valid, no_pair_line, or_none, own_line, pair_line, pair_lines, valid_from}
 use Rattle.mt_import_laws.proofs.Among.{all_map, among_join, among_map, each_among, join_among_first, join_among_second, map_among}
 use Rattle.mt_import_laws.proofs.Edk2Lines.{base_place, default_place, default_plain, default_said, default_told, fixed_place, fixed_plain, fixed_said, mask_place, pair_plain, pair_said}
-use Rattle.mt_import_laws.proofs.KeyLines.{ShowsAlone, has_line, lines_true}
+use Rattle.mt_import_laws.proofs.KeyLines.{keys_show, keys_stay, ShowsAlone, has_line, lines_true}
 use Rattle.mt_import_laws.proofs.Keys.{IsKey}
 use Rattle.mt_import_laws.proofs.PrintedBack.{HasLine, IsGiven, IsInFile, fits, key_in_file, table_back}
+use Rattle.mt_import_laws.proofs.Taken.{StaysIn, all_stay, takes_printed}
+use Rattle.mt_import.specs.Readings.{is_match}
 use Rattle.mt_import_laws.proofs.TableLines.{IsTrueSaid, all_join, tells_whole}
 use Rattle.mt_import_laws.proofs.Whole.{any_bits}
 
@@ -287,9 +289,23 @@ module _ (file : RegisterFile) (supplied : Supplied) (suits : SuitsEdk2 file sup
       table_back file Edk2 (edk2_lines file) supplied suits.is_file suits.has_words suits.agrees (inl suits.width)
       (record { each = table_true; all = each_key }) table_plain
 
--- The default type's line tells the format.
-pub told_first : (file : RegisterFile) (supplied : Supplied) → SuitsEdk2 file supplied → LinesTellFirst Edk2 1 (edk2_lines file)
-unfolding tells
-told_first file supplied suits =
-    let first = default_told file.default_type 3 (fits file (Some DefaultType) suits.is_file suits.has_words tt) in
-    inr (record { none = refl; alike = says_same refl }, inr (record { none = refl; alike = says_same refl }, inl first))
+  -- ---- the format that is taken
+
+  own_stay : AllByRecursion (StaysIn Edk2) (map (own_line file) keys)
+  own_stay = keys_stay 0 file Edk2 (own_line file) keys (λ k at. (own k at).is_key) (λ k at. (own k at).fit) (λ k at. (own k at).shows)
+
+  pairs_stay : AllByRecursion (StaysIn Edk2) (pair_lines file)
+  pairs_stay = all_map (StaysIn Edk2) pair_of (valid_from 0 file.pairs) (λ n among number. inl (ap is_match (said_pair n (printed_pair n among).within number)))
+
+  none_stays : StaysIn Edk2 no_pair_line
+  unfolding tells
+  none_stays number = inr refl
+
+  -- The default type's line tells the format, and the others are of it.
+  pub told_first : takes (edk2_lines file) ≡ Some Edk2
+  unfolding tells
+  told_first =
+      let first = default_told file.default_type 3 (fits file (Some DefaultType) suits.is_file suits.has_words tt) in
+      let show = keys_show 0 file Edk2 (own_line file) keys (λ k at. (own k at).is_key) (λ k at. (own k at).fit) (λ k at. (own k at).shows) (Some DefaultType) (inl refl) 3 in
+      let stay = all_join (StaysIn Edk2) (map (own_line file) (map Some fixed_registers)) (or_none (pair_lines file)) own_stay.1 (or_none_all (StaysIn Edk2) (pair_lines file) pairs_stay none_stays) in
+      takes_printed Edk2 refl (edk2_lines file) 1 (inr (refl, refl, inr (refl, refl, inl (first, show.0, show.1, all_stay Edk2 1 (map (own_line file) (map Some fixed_registers) ++ or_none (pair_lines file)) stay))))

@@ -6,7 +6,8 @@ use Rattle.mt_import.specs.declared.fault.ImportFault.{ImportFault}
 use Rattle.mt_import.specs.declared.format.Choice.{Choice}
 use Rattle.mt_import.specs.declared.shape.Reading.{Reading}
 use Rattle.mt_import.specs.declared.shape.Warned.{Warned}
-use Rattle.mt_import.specs.Shown.{format_of, is_auto, shown}
+use Rattle.mt_import.specs.Census.{format_of}
+use Rattle.mt_import.specs.Shown.{is_auto, shown}
 use Rattle.mt_import.specs.Supplied.{Supplied}
 use Rattle.mt_import.specs.Outcome.{Outcome, ended, facts_fault, nothing_seen, slot_shown, unless, warned_till}
 use Rattle.mt_import.specs.Import.{log_outcome}
@@ -14,14 +15,14 @@ use Rattle.mt_import_laws.specs.Origins.{Contradict, ContradictsWord, IsAmong, r
 use Rattle.mt_import_laws.proofs.Fine.{IsFine, agreed, fine_after, word_agrees}
 
 abbrev pub fault_of : Choice → Supplied → List ℕ → Option ImportFault
-fault_of choice supplied text = facts_fault supplied (nothing_seen (format_of choice)) (shown (format_of choice) text)
+fault_of choice supplied text = facts_fault supplied (nothing_seen (format_of choice text)) (shown (format_of choice text) text)
 
 -- what lines before the first fault warn of
 abbrev pub till_of : Choice → Supplied → List ℕ → Warned
-till_of choice supplied text = warned_till supplied (nothing_seen (format_of choice)) (shown (format_of choice) text)
+till_of choice supplied text = warned_till supplied (nothing_seen (format_of choice text)) (shown (format_of choice text) text)
 
 pub fine_of : (choice : Choice) (supplied : Supplied) (text : List ℕ) → fault_of choice supplied text ≡ None → IsFine supplied (readings_of choice text)
-fine_of choice supplied text none = fine_after supplied (shown (format_of choice) text) (nothing_seen (format_of choice)) none tt
+fine_of choice supplied text none = fine_after supplied (shown (format_of choice text) text) (nothing_seen (format_of choice text)) none tt
 
 pub faulty : (fault : Option ImportFault) (warned : Warned) (told : Outcome) → (fault ≡ None → ⊥) → (unless fault warned told).status ≡ BadText
 faulty None warned told not_none = absurd (not_none refl)

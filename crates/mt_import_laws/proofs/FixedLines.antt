@@ -9,7 +9,8 @@ use Rattle.mt_import.specs.declared.reading.LineSays.{LineSays}
 use Rattle.mt_import.specs.declared.reading.LineSays.TheVariants.{Nothing, Announces, Value, Turns, Shows, Lists, Begins, FixedRanges, VariableRanges, Width, Warns, Bad}
 use Rattle.mt_import.specs.declared.shape.FixedLine.{FixedLine}
 use Rattle.mt_import.specs.Readings.{fixed_after, fixed_clash, fixed_shows, is_line, is_match, said_facts, shows_facts, starts, unless_clash, unlike}
-use Rattle.mt_import.specs.Shown.{chosen, context_behind, facts_from, facts_of_line, format_of, is_auto, said_in}
+use Rattle.mt_import.specs.Census.{format_of}
+use Rattle.mt_import.specs.Shown.{context_behind, facts_from, facts_of_line, is_auto, said_in}
 use Rattle.mt_import.specs.Supplied.{Supplied}
 use Rattle.mt_import.specs.Outcome.{Seen, ended, facts_fault, nothing_seen, seen_after, seen_with}
 use Rattle.mt_import.specs.Import.{log_outcome}
@@ -109,19 +110,19 @@ module _ (supplied : Supplied) where
       (sym (fault_append supplied seen (facts_of_line context number line) (facts_from (context_behind context number line) (number + 1) lines)) ∙ none)
 
   abbrev said_at : Context → ℕ → List ℕ → LineSays
-  said_at context number line = said_in (chosen context.format number line) number line
+  said_at context number line = said_in context.format number line
 
   -- each line says what the last one said
   all_as_last : (lines : List (List ℕ)) (context : Context) (number : ℕ) (seen : Seen) (flag on : Bool) → facts_fault supplied seen (facts_from context number lines) ≡ None → LastSays context.fixed flag
       → LinesSayFixed context number lines on → on ≡ flag
   all_as_last [] context number seen flag on none last says = absurd says
   all_as_last (line ∷ lines) context number seen flag on none last (inl here) =
-      as_last context (seen_with seen (is_line number (chosen context.format number line) (is_match (said_at context number line)))) (said_at context number line) flag on (parts context number seen line lines none).0 last here
+      as_last context (seen_with seen (is_line number context.format (is_match (said_at context number line)))) (said_at context number line) flag on (parts context number seen line lines none).0 last here
   all_as_last (line ∷ lines) context number seen flag on none last (inr later) =
       let both = parts context number seen line lines none in
       all_as_last lines (context_behind context number line) (number + 1) (seen_after seen (facts_of_line context number line)) flag on both.1
       (still (said_at context number line) context.table context.fixed flag
-      (λ other says. as_last context (seen_with seen (is_line number (chosen context.format number line) (is_match (said_at context number line)))) (said_at context number line) flag other both.0 last says) last) later
+      (λ other says. as_last context (seen_with seen (is_line number context.format (is_match (said_at context number line)))) (said_at context number line) flag other both.0 last says) last) later
 
   never : (lines : List (List ℕ)) (context : Context) (number : ℕ) (seen : Seen) → facts_fault supplied seen (facts_from context number lines) ≡ None → LinesSayFixed context number lines true → LinesSayFixed context number lines false → ⊥
   never [] context number seen none on off = on
@@ -140,4 +141,4 @@ module _ (supplied : Supplied) where
 pub fixed_lines_contradict : (choice : Choice) (supplied : Supplied) (text : List ℕ) → LogSaysFixed choice text true → LogSaysFixed choice text false → (log_outcome choice supplied text).status ≡ BadText
 fixed_lines_contradict choice supplied text on off =
     faulty (fault_of choice supplied text) (till_of choice supplied text) (ended (is_auto choice) supplied (seen_of choice text)) (λ none.
-    never supplied (lines_of text) (starts (format_of choice)) 1 (nothing_seen (format_of choice)) none on off)
+    never supplied (lines_of text) (starts (format_of choice text)) 1 (nothing_seen (format_of choice text)) none on off)

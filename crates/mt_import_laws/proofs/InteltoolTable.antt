@@ -8,14 +8,15 @@ use Rattle.mt_import.specs.Pieces.{shows_one}
 use Rattle.mt_import.specs.Shown.{said_of, tells}
 use Rattle.mt_import.specs.Supplied.{Supplied}
 use Rattle.mt_import_laws.specs.Origins.{IsAmong}
-use Rattle.mt_import_laws.specs.FirstLine.{LinesTellFirst, only_turns}
+use Rattle.mt_import_laws.specs.FirstLine.{takes}
 use Rattle.mt_import_laws.specs.Printed.{Key, TableReadsBack, number_at, value_in}
 use Rattle.mt_import_laws.specs.PrintedByInteltool.{Names, SuitsInteltool, inteltool_lines, line_of}
 use Rattle.mt_import_laws.proofs.Among.{all_map}
 use Rattle.mt_import_laws.proofs.InteltoolLines.{line_plain, register_said, told}
-use Rattle.mt_import_laws.proofs.KeyLines.{ShowsAlone, all_keys, among_all, has_line, in_file, lines_true, low}
+use Rattle.mt_import_laws.proofs.KeyLines.{keys_show, keys_stay, ShowsAlone, all_keys, among_all, has_line, in_file, lines_true, low}
 use Rattle.mt_import_laws.proofs.Keys.{IsKey}
 use Rattle.mt_import_laws.proofs.PrintedBack.{HasLine, IsInFile, fits, key_in_file, table_back}
+use Rattle.mt_import_laws.proofs.Taken.{all_stay, takes_printed}
 use Rattle.mt_import_laws.proofs.TableLines.{IsTrueSaid}
 use Rattle.mt_import_laws.proofs.Whole.{any_bits}
 
@@ -61,10 +62,12 @@ reads names file supplied suits =
     table_back file Inteltool (inteltool_lines names file) supplied suits.is_file suits.has_words suits.agrees (inl suits.width)
     (record { each = table_true names file supplied suits; all = λ key inside. inl (table_has names file supplied suits key inside) }) (table_plain names file supplied suits)
 
--- The first register's line tells the format.
-pub told_first : (names : Names) (file : RegisterFile) (supplied : Supplied) → SuitsInteltool names file supplied → LinesTellFirst Inteltool 1 (inteltool_lines names file)
+-- The first register's line tells the format, and the others are of it.
+pub told_first : (names : Names) (file : RegisterFile) (supplied : Supplied) → SuitsInteltool names file supplied → takes (inteltool_lines names file) ≡ Some Inteltool
 unfolding tells
 told_first names file supplied suits =
     let named = suits.are_names None in
     let first = told 0xfe file.capabilities (names None) named.0 named.1 3 (lit< tt) (fits file None suits.is_file suits.has_words tt) in
-    inr (record { none = refl; alike = only_turns refl refl }, inr (record { none = refl; alike = only_turns refl refl }, inl first))
+    let show = keys_show 0 file Inteltool (line_of names file) (all_keys file) (are_keys names file supplied suits) (all_fit names file supplied suits) (shows names file supplied suits) None (inl refl) 3 in
+    let stay = keys_stay 0 file Inteltool (line_of names file) (all_keys file) (are_keys names file supplied suits) (all_fit names file supplied suits) (shows names file supplied suits) in
+    takes_printed Inteltool refl (inteltool_lines names file) 1 (inr (refl, refl, inr (refl, refl, inl (first, show.0, show.1, all_stay Inteltool 1 _ stay.1))))

@@ -11,7 +11,7 @@ use Rattle.mt_regs.specs.RegisterFile.{RegisterFile, has_fixed, is_enabled, is_f
 use Rattle.mt_dump.specs.Canon.{ended}
 use Rattle.mt_text.specs.Text.{lines_of}
 use Rattle.mt_import.specs.declared.format.Format.{Format}
-use Rattle.mt_import.specs.declared.format.Format.TheVariants.{Linux, Xen}
+use Rattle.mt_import.specs.declared.format.Format.TheVariants.{Rdmsr, X86info, Inteltool, Coreboot, Edk2, Linux, Xen, Chipsec, Windbg, Plain}
 use Rattle.mt_import.specs.declared.reading.Context.{Context}
 use Rattle.mt_import.specs.declared.reading.LineSays.TheVariants.{VariableRanges}
 use Rattle.mt_import.specs.declared.shape.FixedLine.{FixedLine}
@@ -19,7 +19,7 @@ use Rattle.mt_import.specs.declared.shape.Reading.{Reading}
 use Rattle.mt_import.specs.declared.shape.Shown.{Shown}
 use Rattle.mt_import.specs.Kernel.{all_fixed_shown, fixed_run}
 use Rattle.mt_import.specs.Pieces.{shown_as, shown_bits}
-use Rattle.mt_import.specs.Readings.{Fact, fixed_shows, flag_shown, is_line, is_off, one_shown, shows_facts, starts, two_shown}
+use Rattle.mt_import.specs.Readings.{Fact, fixed_shows, flag_shown, is_line, is_match, is_off, one_shown, shows_facts, starts, two_shown}
 use Rattle.mt_import.specs.Shown.{context_behind, facts_from, facts_of_line, said_of, shown}
 use Rattle.mt_import.specs.Slot.{all_bits, is_disabled}
 use Rattle.mt_import.specs.Supplied.{Supplied, supplied_value}
@@ -27,14 +27,16 @@ use Rattle.mt_import.specs.Values.{is_pair_number, mask_of}
 use Rattle.mt_import.specs.Outcome.{Seen, nothing_seen, facts_outcome, seen_after, slot_shown}
 use Rattle.mt_import.proofs.Facts.{seen_append}
 use Rattle.mt_import_laws.specs.Origins.{IsAmong, context_after_lines}
-use Rattle.mt_import_laws.specs.FirstLine.{LinesTellFirst}
+use Rattle.mt_import_laws.specs.FirstLine.{takes}
 use Rattle.mt_import_laws.specs.Printed.{Key, ReadsBack, TableReadsInOrder, Weaves, is_kernel, number_at, value_in}
 use Rattle.mt_import_laws.specs.PrintedByEdk2.{is_valid}
 use Rattle.mt_import_laws.specs.PrintedByKernel.{Style, SuitsKernel, default_line, fixed_line, fixed_lines, fixed_runs, kernel_lines, pair_line, pair_lines, range_type, run_line, variable_line}
 use Rattle.mt_import_laws.specs.PrintedByLinux.{Log, SuitsLinux, calls_enabled, linux_lines, linux_style}
 use Rattle.mt_import_laws.specs.PrintedByXen.{SuitsXen, xen_lines, xen_style}
 use Rattle.mt_import_laws.proofs.Among.{all_map, among_map, join_among_first, join_among_second, map_among}
+use Rattle.mt_import.specs.Census.{place_of, shows_register}
 use Rattle.mt_import_laws.proofs.AutoReads.{text_as}
+use Rattle.mt_import_laws.proofs.Taken.{StaysIn, all_stay, takes_printed}
 use Rattle.mt_dump.specs.Dumps.{dump_of}
 use Rattle.mt_import_laws.proofs.Below.{passes}
 use Rattle.mt_import_laws.proofs.KernelLines.{IsKernel, linux, xen, base_place, default_place, default_plain, default_said, default_told, fixed_line_said, fixed_place, fixed_plain, mask_place, off_line_said, off_place, off_plain, pair_line_said, pair_plain, run_line_said, run_place, run_plain, variable_line_said, variable_place, variable_plain}
@@ -56,6 +58,18 @@ with_true true = refl
 with_true false = refl
 
 -- ---- the table
+
+no_plain : (format : Format) → is_kernel format ≡ true → (place_of format == 9) ≡ false
+no_plain Linux is = refl
+no_plain Xen is = refl
+no_plain Rdmsr is = cc is
+no_plain X86info is = cc is
+no_plain Inteltool is = cc is
+no_plain Coreboot is = cc is
+no_plain Edk2 is = cc is
+no_plain Chipsec is = cc is
+no_plain Windbg is = cc is
+no_plain Plain is = cc is
 
 module _ (format : Format) (alone : Bool) (style : Style) (kernel : IsKernel format alone style.front) (some_digits : 1 ≤ style.digits) (few_digits : style.digits ≤ 13)
     (tells : Bool) (file : RegisterFile) (supplied : Supplied) (suits : SuitsKernel tells file supplied)
@@ -693,14 +707,34 @@ module _ (format : Format) (alone : Bool) (style : Style) (kernel : IsKernel for
         subst (λ fs. ReadsBack (facts_outcome false supplied (nothing_seen (Some format)) fs) file) (sym (ap (facts_from (starts (Some format)) 1) found.log_is ∙ facts_split found.front (starts (Some format)) 1 table_log))
         (one_back file prints format supplied suits.is_file suits.has_words facts all_sound suits.agrees (inl suits.width) each_back)
 
-  first_told : LinesTellFirst format 1 all_lines
-  first_told = inl (default_told format alone style kernel file suits.default_named 1)
+  -- ---- the format that is taken
+
+  true_stays : (line : List ℕ) → ShowsTrue file format line → StaysIn format line
+  true_stays line shows number = inl (ap is_match (shows.said number))
+
+  fixed_lines_stay : (test : Bool) → has_fixed file ≡ test → AllByRecursion (StaysIn format) (fixed_lines style file test)
+  fixed_lines_stay true has = (
+    λ number. inl (ap is_match (fixed_line_said format alone style kernel number)),
+    all_map (StaysIn format) (run_line style file) (fixed_runs file) (λ run among. true_stays (run_line style file run) (run_shows has run among)),
+  )
+  fixed_lines_stay false none = tt
+
+  others_stay : AllByRecursion (StaysIn format) (fixed_lines style file (has_fixed file) ++ tail_lines)
+  others_stay = all_join (StaysIn format) (fixed_lines style file (has_fixed file)) tail_lines (fixed_lines_stay (has_fixed file) refl) (
+    λ number. inl (ap is_match (variable_line_said format alone style kernel file number)),
+    all_among (StaysIn format) (pair_lines style 0 file.pairs) (λ line among. true_stays line (pairs_show line among)),
+  )
+
+  table_taken : (place_of format == 9) ≡ false → takes all_lines ≡ Some format
+  table_taken last =
+      let said = default_said format alone style kernel file suits.default_named 1 in
+      takes_printed format last all_lines 1 (inl (default_told format alone style kernel file suits.default_named 1, ap is_match said, ap shows_register said ∙ rw (is_register_key (Some DefaultType) tt) refl, all_stay format 1 _ others_stay))
 
   pub reads : TableReadsInOrder format (kernel_lines style file) supplied file
   reads = record {
     alone =
         let same : shown (Some format) (ended all_lines) ≡ facts_from (starts (Some format)) 1 all_lines = ap (facts_from (starts (Some format)) 1) (lines_back all_lines table_plain) in
-        text_as format supplied (dump_of file) all_lines table_plain first_told
+        text_as format supplied (dump_of file) all_lines table_plain (table_taken (no_plain format is_of))
         (subst (λ fs. ReadsBack (facts_outcome false supplied (nothing_seen (Some format)) fs) file) (sym same) (log_back all_lines (split format file (default_line style file) (rest (has_fixed file)) all_lines (weaves_itself format file all_lines))));
     among = λ text weaves. log_back (lines_of text) (split format file (default_line style file) (rest (has_fixed file)) (lines_of text) weaves);
   }

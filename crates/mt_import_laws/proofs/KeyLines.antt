@@ -1,19 +1,23 @@
 -- Tables with a line for each of some registers.
-use Rattle.std.proofs.Common.{◌≡◌, ◌^◌, ◌<◌, ℕ, List, ◌∷◌, map, replicate, Option, Some, None, refl, sym, subst, inl, inr, arith, lit<, unwrap_or}
+use Rattle.std.proofs.Common.{◌≡◌, ◌^◌, ◌<◌, ℕ, List, ◌∷◌, map, replicate, Option, Some, None, refl, sym, ap, ◌∙◌, subst, inl, inr, arith, lit<, unwrap_or}
 use Rattle.mt_text.specs.declared.place.Place.{Place}
 use Rattle.mt_regs.specs.RegisterFile.{IsRegisterFile, RegisterFile}
 use Rattle.mt_regs.specs.Registers.{IsWithin, writable}
 use Rattle.mt_regs.proofs.ByNumber.{place_in_writable}
 use Rattle.mt_import.specs.declared.format.Format.{Format}
 use Rattle.mt_import.specs.declared.reading.LineSays.TheVariants.{Shows}
+use Rattle.std.specs.List.{AllByRecursion}
+use Rattle.mt_import.specs.Census.{shows_register}
+use Rattle.mt_import.specs.Readings.{is_match}
 use Rattle.mt_import.specs.Shown.{said_of}
 use Rattle.mt_import.specs.Slot.{all_bits}
 use Rattle.mt_import_laws.specs.Origins.{IsAmong}
 use Rattle.mt_import_laws.specs.Printed.{Key, number_at, value_in}
-use Rattle.mt_import_laws.proofs.Among.{among_at, among_map, each_among, map_among}
-use Rattle.mt_import_laws.proofs.Keys.{IsKey, all_within, range_of}
+use Rattle.mt_import_laws.proofs.Among.{all_map, among_at, among_map, each_among, map_among}
+use Rattle.mt_import_laws.proofs.Keys.{IsKey, all_within, is_register_key, range_of}
 use Rattle.mt_import_laws.proofs.PrintedBack.{HasLine, IsInFile}
 use Rattle.mt_import_laws.proofs.TableLines.{IsTrueSaid, ShowsKey, tells_whole}
+use Rattle.mt_import_laws.proofs.Taken.{ShowsIn, StaysIn, shows_stays}
 use Rattle.mt_import_laws.proofs.Whole.{any_bits}
 
 -- ---- the registers of a file
@@ -63,9 +67,20 @@ alone_shows at file format key line number shows = record {
   bits = refl;
 }
 
+-- such a line shows a register
+pub alone_shows_in : (at : ℕ) (file : RegisterFile) (format : Format) (key : Key) (line : List ℕ) → IsKey key → ShowsAlone at file format key line → ShowsIn format line
+alone_shows_in at file format key line is shows number = (ap is_match (shows.said number), ap shows_register (shows.said number) ∙ rw (is_register_key key is) refl)
+
 module _ (at : ℕ) (file : RegisterFile) (format : Format) (line_of : Key → List ℕ) (keys : List Key)
     (are_keys : (key : Key) → IsAmong key keys → IsKey key) (fit : (key : Key) → IsAmong key keys → value_in file key < 2 ^ 64)
     (shows : (key : Key) → IsAmong key keys → ShowsAlone at file format key (line_of key)) where
+  pub keys_show : (key : Key) → IsAmong key keys → ShowsIn format (line_of key)
+  keys_show key among = alone_shows_in at file format key (line_of key) (are_keys key among) (shows key among)
+
+  -- These lines stay in the format.
+  pub keys_stay : AllByRecursion (StaysIn format) (map line_of keys)
+  keys_stay = all_map (StaysIn format) line_of keys (λ key among. shows_stays format (line_of key) (keys_show key among))
+
   pub lines_true : (line : List ℕ) → IsAmong line (map line_of keys) → (number : ℕ) → IsTrueSaid file any_bits at (said_of format number line)
   lines_true line among number =
       let found = among_map line_of keys line among in

@@ -18,7 +18,7 @@ mod Warnings
 mod Alike
 mod Alone
 mod Returns
-mod FirstLine
+mod Taken
 mod Reasons
 mod PrintedDigits
 mod LineWords

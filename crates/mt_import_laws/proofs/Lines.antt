@@ -15,7 +15,8 @@ use Rattle.mt_import.specs.Pieces.{shown_as}
 use Rattle.mt_import.specs.declared.fault.ImportFault.TheVariants.{BadLine}
 use Rattle.mt_import.specs.declared.fault.Reason.TheVariants.{MixedNumbers}
 use Rattle.mt_import.specs.Readings.{Fact, fixed_clash, fixed_facts, fixed_shows, is_fault, is_line, is_mixed, is_register, is_register_value, is_warning, is_width, listed_facts, named_processor, reading_facts, said_facts, shown_facts, shows_facts, starts, table_behind, unless_clash, value_facts, variable_shows}
-use Rattle.mt_import.specs.Shown.{chosen, context_behind, facts_from, facts_of_line, format_of, said_in, shown}
+use Rattle.mt_import.specs.Census.{format_of}
+use Rattle.mt_import.specs.Shown.{context_behind, facts_from, facts_of_line, said_in, shown}
 use Rattle.mt_import.specs.Outcome.{Seen, nothing_seen, seen_after, seen_with}
 use Rattle.mt_import_laws.specs.Origins.{IsAmong, IsOfLine, IsRead, context_after_lines, heads, is_heading, readings_of, tables_behind}
 use Rattle.mt_import_laws.proofs.Among.{among_join}
@@ -59,9 +60,9 @@ line_of (line ∷ lines) context number fact among = elim (among_join (facts_of_
   | inr later ↦ one_later context number line lines fact (line_of lines (context_behind context number line) (number + 1) fact later)
 ]
 
-pub fact_of_line : (choice : Choice) (text : List ℕ) (fact : Fact) → IsAmong fact (shown (format_of choice) text) → IsOfLine choice text fact
+pub fact_of_line : (choice : Choice) (text : List ℕ) (fact : Fact) → IsAmong fact (shown (format_of choice text) text) → IsOfLine choice text fact
 fact_of_line choice text fact among =
-    let at = line_of (lines_of text) (starts (format_of choice)) 1 fact among in
+    let at = line_of (lines_of text) (starts (format_of choice text)) 1 fact among in
     record { before = at.before; line = at.line; others = at.others; lines = at.lines; shows = at.shows }
 
 -- ---- the table of a reading
@@ -82,7 +83,7 @@ heading_by (Lists processor shown) tables = refl
 heading_by (Bad why place) tables = refl
 
 heading_behind : (context : Context) (number : ℕ) (line : List ℕ) → (context_behind context number line).table ≡ (if heads context number line then one_more context.table else context.table)
-heading_behind context number line = heading_by (said_in (chosen context.format number line) number line) context.table
+heading_behind context number line = heading_by (said_in context.format number line) context.table
 
 tables_are : (lines : List (List ℕ)) (context : Context) (number : ℕ) (line : List ℕ)
     → tables_behind context number (lines ++ line ∷ []) context.table ≡ (context_behind (context_after_lines context number lines) (number + length lines) line).table
@@ -156,14 +157,14 @@ of_said context (Bad why place) reading (inr none) = absurd none
 
 of_line : (context : Context) (number : ℕ) (line : List ℕ) → AreOf (context_behind context number line).table (facts_of_line context number line)
 of_line context number line reading (inl same) = cc same
-of_line context number line reading (inr later) = of_said context (said_in (chosen context.format number line) number line) reading later
+of_line context number line reading (inr later) = of_said context (said_in context.format number line) reading later
 
 pub readings_of_lines : (choice : Choice) (text : List ℕ) (reading : Reading) → IsAmong reading (readings_of choice text) → IsRead choice text reading
-readings_of_lines choice text reading among = by (gathered (shown (format_of choice) text) (nothing_seen (format_of choice)) reading among)
+readings_of_lines choice text reading among = by (gathered (shown (format_of choice text) text) (nothing_seen (format_of choice text)) reading among)
   where
-    by : IsAmong (is_register_value reading) (shown (format_of choice) text) ⊎ ⊥ → IsRead choice text reading
+    by : IsAmong (is_register_value reading) (shown (format_of choice text) text) ⊎ ⊥ → IsRead choice text reading
     by (inl fact) =
         let at = fact_of_line choice text (is_register_value reading) fact in
-        let context = starts (format_of choice) in
+        let context = starts (format_of choice text) in
         record { of_line = at; table = of_line (context_after_lines context 1 at.before) (1 + length at.before) at.line reading at.shows ∙ sym (tables_are at.before context 1 at.line) }
     by (inr none) = absurd none

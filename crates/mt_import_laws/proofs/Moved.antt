@@ -33,7 +33,7 @@ use Rattle.mt_import.specs.Linux.{cleanup_said, count_said, is_map, linux_words_
 use Rattle.mt_import.specs.Rdmsr.{announced, call_behind, call_from, option_at, said_by_words as rdmsr_words, said_value}
 use Rattle.mt_import.specs.X86info.{sizes_by_words, sizes_said}
 use Rattle.mt_import.specs.declared.x86info.TheConstants.{X86INFO}
-use Rattle.mt_import.specs.Shown.{chosen, first_said, format_told, is_telling, said_by_line, said_in, said_in_each, said_of, said_or_sizes, tells, unmarked, warns_or}
+use Rattle.mt_import.specs.Shown.{first_said, format_told, is_telling, said_by_line, said_in, said_in_each, said_of, said_or_sizes, tells, unmarked, warns_or}
 use Rattle.mt_import_laws.specs.Spare.{moved_place}
 
 -- what maps to the same in both cases
@@ -362,10 +362,6 @@ module _ (move : ℕ → ℕ) where
   unfolding tells
   same_tells format number line = ap is_telling (sym (by_line format number (unmarked line))) ∙ telling (said_by_line format number (unmarked line))
 
-  same_told : (number : ℕ) (line : List ℕ) → format_told (move number) line ≡ format_told number line
+  pub same_told : (number : ℕ) (line : List ℕ) → format_told (move number) line ≡ format_told number line
   same_told number line =
       rw (same_tells Xen number line, same_tells Linux number line, same_tells Coreboot number line, same_tells Edk2 number line, same_tells Inteltool number line, same_tells X86info number line, same_tells Rdmsr number line, same_tells Chipsec number line, same_tells Windbg number line, same_tells Plain number line) refl
-
-  pub same_chosen : (format : Option Format) (number : ℕ) (line : List ℕ) → chosen format (move number) line ≡ chosen format number line
-  same_chosen None number line = same_told number line
-  same_chosen (Some format) number line = refl

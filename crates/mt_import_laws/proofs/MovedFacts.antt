@@ -28,14 +28,14 @@ use Rattle.mt_import.specs.declared.shape.Shown.{Shown}
 use Rattle.mt_import.specs.declared.shape.Slot.{Slot}
 use Rattle.mt_import.specs.Pieces.{shown_as}
 use Rattle.mt_import.specs.Readings.{Fact, context_after, fixed_facts, fixed_shows, is_fault, is_line, is_match, is_mixed, is_register, is_register_value, is_warning, is_width, line_facts, named_processor, reading_facts, said_facts, shown_facts, shows_facts, unless_clash, unlike, value_facts, variable_bits, variable_shows}
-use Rattle.mt_import.specs.Shown.{chosen, context_behind, facts_from, facts_of_line, said_in}
+use Rattle.mt_import.specs.Shown.{context_behind, facts_from, facts_of_line, said_in}
 use Rattle.mt_import.specs.Slot.{clashes, slot_with}
 use Rattle.mt_import.specs.Supplied.{Supplied, bits_differ, differs, supplied_value}
 use Rattle.mt_import.specs.Outcome.{Seen, capabilities_shown, capability_rival, contradiction, count_rival, counted, counts_fewer, fact_fault, facts_fault, fix_shown, fixed_rival, fixless_rival, last_after, last_fixed_line, last_shown, least_count, pairs_fault, processors, ranged_rival, reading_fault, rival, seen_after, seen_with, shows_fixed, shows_no_fix, slot_shown, uncounted_rival, width_contradiction, width_fault, width_rival, warned_till}
 use Rattle.mt_import.specs.Values.{lacks_fix}
 use Rattle.mt_import_laws.specs.Origins.{context_after_lines}
 use Rattle.mt_import_laws.specs.Spare.{moved_fault, moved_place, moved_rival, moved_warned}
-use Rattle.mt_import_laws.proofs.Moved.{each, in_format, moved_said, moved_shown, same_chosen}
+use Rattle.mt_import_laws.proofs.Moved.{each, in_format, moved_said, moved_shown}
 
 module _ (move : ℕ → ℕ) where
   abbrev pub moved_reading : Reading → Reading
@@ -126,7 +126,7 @@ module _ (move : ℕ → ℕ) where
       each (map moved_fact) (is_mixed context.lists_processors (is_some processor)) _ _ _ _ refl (of_reading (named_processor processor (Some 0)) context.table shown)
   of_said context (Bad why place) = refl
 
-  matched : (said : LineSays) → is_match (moved_said move said) ≡ is_match said
+  pub matched : (said : LineSays) → is_match (moved_said move said) ≡ is_match said
   matched Nothing = refl
   matched (Announces processor number) = refl
   matched (Value value place) = refl
@@ -162,21 +162,19 @@ module _ (move : ℕ → ℕ) where
 
   -- what it leads to depends on the format and on what the line says
   by_parts : {A : Type 0} (f : Option Format → LineSays → A) (context : Context) (number : ℕ) (line : List ℕ)
-      → f (chosen context.format number line) (moved_said move (said_in (chosen context.format number line) number line)) ≡ f (chosen context.format (move number) line) (said_in (chosen context.format (move number) line) (move number) line)
-  by_parts f context number line =
-      ap (f (chosen context.format number line)) (in_format move (chosen context.format number line) number line)
-      ∙ ap (λ o. f o (said_in o (move number) line)) (sym (same_chosen move context.format number line))
+      → f context.format (moved_said move (said_in context.format number line)) ≡ f context.format (said_in context.format (move number) line)
+  by_parts f context number line = ap (f context.format) (in_format move context.format number line)
 
   line_moved : (context : Context) (number : ℕ) (line : List ℕ) → map moved_fact (facts_of_line context number line) ≡ facts_of_line (moved_context context) (move number) line
   line_moved context number line =
-      let said : LineSays = said_in (chosen context.format number line) number line in
-      ap (λ (fs : List Fact). is_line (move number) (chosen context.format number line) (is_match said) ∷ fs) (of_said context said)
-      ∙ ap (λ m. is_line (move number) (chosen context.format number line) m ∷ said_facts (moved_context context) (moved_said move said)) (sym (matched said))
+      let said : LineSays = said_in context.format number line in
+      ap (λ (fs : List Fact). is_line (move number) context.format (is_match said) ∷ fs) (of_said context said)
+      ∙ ap (λ m. is_line (move number) context.format m ∷ said_facts (moved_context context) (moved_said move said)) (sym (matched said))
       ∙ by_parts (λ format s. line_facts (move number) format (moved_context context) s) context number line
 
   behind_moved : (context : Context) (number : ℕ) (line : List ℕ) → moved_context (context_behind context number line) ≡ context_behind (moved_context context) (move number) line
   behind_moved context number line =
-      next_context context (chosen context.format number line) (said_in (chosen context.format number line) number line)
+      next_context context context.format (said_in context.format number line)
       ∙ by_parts (λ format s. context_after (moved_context context) format s) context number line
 
   pub facts_moved : (lines : List (List ℕ)) (context : Context) (old new : ℕ) → Moves old new lines → map moved_fact (facts_from context old lines) ≡ facts_from (moved_context context) new lines

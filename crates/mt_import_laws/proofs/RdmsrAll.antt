@@ -1,5 +1,5 @@
 -- What a shell prints that calls rdmsr for each register of all processors reads back.
-use Rattle.std.proofs.Common.{◌≡◌, ◌∙◌, ◌+◌, ◌^◌, ◌<◌, ◌≤◌, nat_lt, ℕ, zero, suc, true, List, [], ◌∷◌, ◌++◌, length, map, None, Some, refl, sym, ap, subst, inl, inr, arith}
+use Rattle.std.proofs.Common.{◌≡◌, ◌∙◌, ◌+◌, ◌^◌, ◌<◌, ◌≤◌, nat_lt, ℕ, zero, suc, true, List, [], ◌∷◌, ◌++◌, length, map, None, Some, refl, sym, ap, subst, inl, inr, arith, lit<}
 use Rattle.std.specs.List.{AllByRecursion, list_all}
 use Rattle.std.specs.Fmt.{digits}
 use Rattle.std.proofs.lemmas.Bool.{cases_lt}
@@ -14,15 +14,17 @@ use Rattle.mt_import.specs.declared.format.Format.TheVariants.{Rdmsr}
 use Rattle.mt_import.specs.declared.reading.Context.{Context}
 use Rattle.mt_import.specs.declared.shape.Announced.{Announced}
 use Rattle.mt_import.specs.Pieces.{shown_as}
-use Rattle.mt_import.specs.Readings.{Fact, is_line, shown_facts, starts}
+use Rattle.mt_import.specs.Readings.{Fact, is_line, is_match, shown_facts, starts}
 use Rattle.mt_import.specs.Shown.{context_behind, facts_from, facts_of_line, tells}
 use Rattle.mt_import.specs.Slot.{all_bits}
 use Rattle.mt_import.specs.Supplied.{Supplied}
 use Rattle.mt_import_laws.specs.Origins.{IsAmong}
-use Rattle.mt_import_laws.specs.FirstLine.{LinesTellFirst}
+use Rattle.mt_import_laws.specs.FirstLine.{takes}
 use Rattle.mt_import_laws.specs.Printed.{Key, TextReadsAs, dump_of_all, number_at, value_in}
 use Rattle.mt_import_laws.specs.PrintedByRdmsr.{SuitsRdmsrOfAll, all_calls, all_line, hex_text, rdmsr_all_lines}
+use Rattle.mt_import.specs.Census.{shows_register}
 use Rattle.mt_import_laws.proofs.AutoReads.{text_as}
+use Rattle.mt_import_laws.proofs.Taken.{StaysIn, all_stay, takes_printed}
 use Rattle.mt_import_laws.proofs.KeyLines.{all_keys, among_all, in_file, low}
 use Rattle.mt_import_laws.proofs.Keys.{IsKey, is_register_key}
 use Rattle.mt_import_laws.proofs.PrintedBack.{IsInFile, fits, key_in_file, lines_back}
@@ -204,10 +206,26 @@ module _ (files : ℕ → RegisterFile) (count : ℕ) (alike : AreAlike files co
       let own = inside key (inl refl) in
       (all_plain (number_at key) (low_number key own), values_plain key own 0 count (omega arith) (lines_by files count keys) (calls_plain keys (λ other among. inside other (inr among))))
 
--- the first call tells the format
-first_call : (files : List RegisterFile) → LinesTellFirst Rdmsr 1 (rdmsr_all_lines files)
+  -- ---- the format that is taken
+
+  values_stay : (key : Key) → ((k : ℕ) → k < count → IsInFile (files k) key) → (k n : ℕ) → k + n ≤ count → (rest : List (List ℕ)) → AllByRecursion (StaysIn Rdmsr) rest → AllByRecursion (StaysIn Rdmsr) (value_lines files key k n ++ rest)
+  values_stay key inside k zero within rest stay = stay
+  values_stay key inside k (suc n) within rest stay =
+      let less : k < count = omega (arith, within) in
+      (λ number. inl (ap is_match (value_said (value_in (files k) key) (fit k less key (inside k less)) number)), values_stay key inside (k + 1) n (omega (arith, within)) rest stay)
+
+  calls_stay : (keys : List Key) → ((key : Key) → IsAmong key keys → (k : ℕ) → k < count → IsInFile (files k) key) → AllByRecursion (StaysIn Rdmsr) (lines_by files count keys)
+  calls_stay [] inside = tt
+  calls_stay (key ∷ keys) inside =
+      let own = inside key (inl refl) in
+      (λ number. inl (ap is_match (all_said (number_at key) (low_number key own) number)), values_stay key own 0 count (omega arith) (lines_by files count keys) (calls_stay keys (λ other among. inside other (inr among))))
+
+-- The first call tells the format, and the lines behind it are of it.
+call_taken : (others : List (List ℕ)) → AllByRecursion (StaysIn Rdmsr) others → takes (all_line 0xfe ∷ others) ≡ Some Rdmsr
 unfolding tells digits
-first_call files = inl refl
+call_taken others stay =
+    let said = all_said 0xfe (lit< tt) 1 in
+    takes_printed Rdmsr refl (all_line 0xfe ∷ others) 1 (inl (refl, ap is_match said, ap shows_register said ∙ is_register_key None tt, all_stay Rdmsr 1 others stay))
 
 module _ (files : List RegisterFile) (supplied : Supplied) (suits : SuitsRdmsrOfAll files supplied) where
   abbrev keys : List Key
@@ -237,6 +255,6 @@ module _ (files : List RegisterFile) (supplied : Supplied) (suits : SuitsRdmsrOf
 
   pub reads : TextReadsAs Rdmsr (ended (rdmsr_all_lines files)) supplied (dump_of_all files)
   reads =
-      text_as Rdmsr supplied (dump_of_all files) (rdmsr_all_lines files) plain (first_call files)
+      text_as Rdmsr supplied (dump_of_all files) (rdmsr_all_lines files) plain (call_taken _ (subst (AllByRecursion (StaysIn Rdmsr)) (sym (same_lines files keys)) (calls_stay (file_at files) (length files) (are_alike files suits.is_dump) words keys inside)).1)
       (several_back Rdmsr any_bits supplied files suits.is_dump suits.has_words suits.agrees (rdmsr_all_lines files) (lines_back (rdmsr_all_lines files) plain) sound (inl suits.width) (λ k less. have k less None (inl refl))
       (λ k less key within. inl (have k less key (among_all (first_of files) key first_is (in_first files k suits.is_dump less key within)))))

@@ -1,5 +1,5 @@
 -- What a shell prints that calls rdmsr for each register reads back.
-use Rattle.std.proofs.Common.{◌≡◌, ◌+◌, ◌^◌, ◌<◌, ℕ, true, false, List, [], ◌∷◌, ◌++◌, Some, refl, sym, ap, subst, inl, inr, lit<}
+use Rattle.std.proofs.Common.{◌≡◌, ◌∙◌, ◌+◌, ◌^◌, ◌<◌, ℕ, true, false, List, [], ◌∷◌, ◌++◌, map, None, Some, refl, sym, ap, subst, inl, inr, lit<}
 use Rattle.std.specs.List.{AllByRecursion, list_all}
 use Rattle.std.specs.Fmt.{digits}
 use Rattle.mt_text.specs.declared.place.Place.{Place}
@@ -10,16 +10,19 @@ use Rattle.mt_import.specs.declared.format.Format.TheVariants.{Rdmsr}
 use Rattle.mt_import.specs.declared.reading.Context.{Context}
 use Rattle.mt_import.specs.declared.shape.Announced.{Announced}
 use Rattle.mt_import.specs.Pieces.{shown_as}
-use Rattle.mt_import.specs.Readings.{Fact, is_line, shown_facts, starts}
+use Rattle.mt_import.specs.Readings.{Fact, is_line, is_match, shown_facts, starts}
 use Rattle.mt_import.specs.Shown.{context_behind, facts_from, facts_of_line, shown, tells}
 use Rattle.mt_import.specs.Slot.{all_bits}
 use Rattle.mt_import.specs.Supplied.{Supplied}
 use Rattle.mt_import_laws.specs.Origins.{IsAmong}
-use Rattle.mt_import_laws.specs.FirstLine.{LinesTellFirst}
+use Rattle.mt_import_laws.specs.FirstLine.{takes}
 use Rattle.mt_import_laws.specs.Printed.{Key, TextReadsBack, number_at, value_in}
+use Rattle.mt_regs.specs.Registers.{writable}
 use Rattle.mt_import_laws.specs.PrintedByRdmsr.{SuitsRdmsr, call_line, calls, hex_text, rdmsr_lines, rdmsr_text}
 use Rattle.mt_import_laws.proofs.Among.{join_among_first, join_among_second}
+use Rattle.mt_import.specs.Census.{shows_register}
 use Rattle.mt_import_laws.proofs.AutoReads.{text_as}
+use Rattle.mt_import_laws.proofs.Taken.{StaysIn, all_stay, takes_printed}
 use Rattle.mt_dump.specs.Dumps.{dump_of}
 use Rattle.mt_import_laws.proofs.KeyLines.{all_keys, among_all, in_file, low}
 use Rattle.mt_import_laws.proofs.Keys.{IsKey, is_register_key}
@@ -147,10 +150,23 @@ module _ (file : RegisterFile) (is_file : IsRegisterFile file) (words : HasWords
       let within = inside key (inl refl) in
       (call_plain (number_at key) (small_key key within), (value_plain (value_in file key) (fits file key is_file words within), calls_plain keys (λ k among. inside k (inr among))))
 
--- the first call tells the format
-first_call : (file : RegisterFile) → LinesTellFirst Rdmsr 1 (rdmsr_lines file)
-unfolding tells digits
-first_call file = inl refl
+  -- ---- the format that is taken
+
+  calls_stay : (keys : List Key) → ((key : Key) → IsAmong key keys → IsInFile file key) → AllByRecursion (StaysIn Rdmsr) (calls file keys)
+  calls_stay [] inside = tt
+  calls_stay (key ∷ keys) inside =
+      let within = inside key (inl refl) in (
+        λ number. inl (ap is_match (call_said (number_at key) (small_key key within) number)),
+        (λ number. inl (ap is_match (value_said (value_in file key) (fits file key is_file words within) number)), calls_stay keys (λ k among. inside k (inr among))),
+      )
+
+  -- the first call tells the format
+  calls_taken : ((key : Key) → IsAmong key (all_keys file) → IsInFile file key) → takes (rdmsr_lines file) ≡ Some Rdmsr
+  unfolding tells digits
+  calls_taken inside =
+      let stay = calls_stay (all_keys file) inside in
+      let said = call_said 0xfe (lit< tt) 1 in
+      takes_printed Rdmsr refl (rdmsr_lines file) 1 (inl (refl, ap is_match said, ap shows_register said ∙ is_register_key None tt, all_stay Rdmsr 1 (hex_text file.capabilities ∷ calls file (map Some (writable file))) stay.1))
 
 pub own_text : (file : RegisterFile) (supplied : Supplied) → SuitsRdmsr file supplied → TextReadsBack Rdmsr (rdmsr_text file) supplied file
 own_text file supplied suits =
@@ -158,7 +174,7 @@ own_text file supplied suits =
     let plain = calls_plain file suits.is_file suits.has_words (all_keys file) inside in
     let lines = lines_back (rdmsr_lines file) plain in
     let facts : shown (Some Rdmsr) (rdmsr_text file) ≡ facts_from (starts (Some Rdmsr)) 1 (rdmsr_lines file) = ap (facts_from (starts (Some Rdmsr)) 1) lines in
-    text_as Rdmsr supplied (dump_of file) (rdmsr_lines file) plain (first_call file)
+    text_as Rdmsr supplied (dump_of file) (rdmsr_lines file) plain (calls_taken file suits.is_file suits.has_words inside)
     (facts_back file any_bits Rdmsr supplied suits.is_file suits.has_words suits.agrees (shown (Some Rdmsr) (rdmsr_text file)) (inl suits.width)
     (subst (AllByRecursion (IsSound (same_file file) 1 any_bits)) (sym facts) (calls_sound file suits.is_file suits.has_words (all_keys file) inside (starts (Some Rdmsr)) 1 refl))
     (λ key within. inl (subst (HasReading key all_bits) (sym facts) (calls_have file suits.is_file suits.has_words (all_keys file) inside (starts (Some Rdmsr)) 1 key refl (among_all file key suits.is_file within)))))

@@ -10,7 +10,8 @@ use Rattle.mt_import.specs.declared.shape.Warned.{Warned}
 use Rattle.mt_import.specs.declared.shape.Pick.{Pick}
 use Rattle.mt_import.specs.declared.shape.Tables.{Tables}
 use Rattle.mt_import.specs.LogTables.{facts_of_tables, has_picked, missing_table, tables_of}
-use Rattle.mt_import.specs.Shown.{format_of, is_auto}
+use Rattle.mt_import.specs.Census.{format_of}
+use Rattle.mt_import.specs.Shown.{is_auto}
 use Rattle.mt_import.specs.Supplied.{Supplied}
 use Rattle.mt_import.specs.Outcome.{Seen, Summary, Outcome, dump_outcome, ended, ended_by, facts_fault, findings_of, is_empty, nothing_seen, refusal, seen_after, summary_of, warned_till}
 use Rattle.mt_import.specs.Import.{answered, closed, failure, outcome_by, tables_outcome}
@@ -50,10 +51,10 @@ answered_alone pick tables warned None told alone not_done = alone not_done
 
 tables_alone : (choice : Choice) (supplied : Supplied) (text : List ℕ) → IsAlone (tables_outcome choice supplied text)
 tables_alone choice supplied text =
-    let tables = tables_of (format_of choice) text in
-    let facts = facts_of_tables supplied.table (format_of choice) text in
-    let seen = seen_after (nothing_seen (format_of choice)) facts in
-    answered_alone supplied.table tables (warned_till supplied (nothing_seen (format_of choice)) facts) (facts_fault supplied (nothing_seen (format_of choice)) facts) (closed (is_auto choice) supplied tables seen) (closed_alone (is_auto choice) supplied tables seen)
+    let tables = tables_of (format_of choice text) text in
+    let facts = facts_of_tables supplied.table (format_of choice text) text in
+    let seen = seen_after (nothing_seen (format_of choice text)) facts in
+    answered_alone supplied.table tables (warned_till supplied (nothing_seen (format_of choice text)) facts) (facts_fault supplied (nothing_seen (format_of choice text)) facts) (closed (is_auto choice) supplied tables seen) (closed_alone (is_auto choice) supplied tables seen)
 
 pub reasons_alone : (own : Option (List ℕ)) (command : Option (Choice × Supplied)) (bytes : List ℕ) → IsAlone (outcome_by own command bytes)
 reasons_alone (Some text) command bytes not_done = absurd (not_done refl)

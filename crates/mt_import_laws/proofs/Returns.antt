@@ -8,7 +8,6 @@ use Rattle.mt_import.specs.Warnings.{warning_in, warning_of}
 use Rattle.mt_import.specs.declared.format.Choice.{Choice}
 use Rattle.mt_import.specs.declared.format.Format.{Format}
 use Rattle.mt_import.specs.declared.format.Format.TheVariants.{Rdmsr, X86info, Inteltool, Coreboot, Edk2, Linux, Xen, Chipsec, Windbg, Plain}
-use Rattle.mt_import.specs.declared.reading.Context.{Context}
 use Rattle.mt_import.specs.declared.reading.LineSays.{LineSays}
 use Rattle.mt_import.specs.declared.reading.LineSays.TheVariants.{Nothing, Bad}
 use Rattle.mt_import.specs.Coreboot.{level_words, said_from as coreboot_from}
@@ -28,12 +27,12 @@ use Rattle.mt_import.specs.Pieces.{is_text}
 use Rattle.mt_import.specs.Rdmsr.{said_by_words as rdmsr_words}
 use Rattle.mt_import.specs.X86info.{sizes_by_words, sizes_said}
 use Rattle.mt_import.specs.declared.x86info.TheConstants.{X86INFO}
-use Rattle.mt_import.specs.Readings.{starts}
-use Rattle.mt_import.specs.Shown.{chosen, context_behind, first_said, format_of, is_telling, said_by_line, said_in, said_in_each, said_of, said_or_sizes, tells, unmarked, warns_or}
+use Rattle.mt_import.specs.declared.format.Choice.TheVariants.{Auto, Only}
+use Rattle.mt_import.specs.Shown.{first_said, format_told, is_telling, said_by_line, said_in, said_in_each, said_of, said_or_sizes, tells, unmarked, warns_or}
 use Rattle.mt_import.specs.Supplied.{Supplied}
 use Rattle.mt_import.specs.Import.{log_outcome}
 use Rattle.mt_import_laws.specs.Returns.{DifferInReturns, GetReturns, GetsReturn}
-use Rattle.mt_import_laws.proofs.Alike.{AllSaySame, SaySame, same_logs}
+use Rattle.mt_import_laws.proofs.Alike.{AllSameInEach, SameInEach, in_one, same_logs}
 
 -- a CR is taken off
 strips : (line : List ℕ) → without_ending 13 (line ++ 13 ∷ []) ≡ line
@@ -136,25 +135,23 @@ module _ (line : List ℕ) (without : without_return line ≡ line) (apart : len
   unfolding tells
   same_tells format number = ap is_telling (by_format (unmarked line) (unmarked longer) (unmarked_without line without) (unmarked_longer line) format number)
 
-  same_chosen : (format : Option Format) (number : ℕ) → chosen format number longer ≡ chosen format number line
-  same_chosen (Some format) number = refl
-  same_chosen None number =
+  same_told : (number : ℕ) → format_told number longer ≡ format_told number line
+  same_told number =
       rw (same_limit, same_tells Xen number, same_tells Linux number, same_tells Coreboot number, same_tells Edk2 number, same_tells Inteltool number, same_tells X86info number, same_tells Rdmsr number, same_tells Chipsec number, same_tells Windbg number, same_tells Plain number) refl
 
-  says_same : (context : Context) (number : ℕ) → SaySame context number line longer
-  says_same context number =
-      let one = sym (same_chosen context.format number) in
-      (one, ap (λ c. said_in c number line) one ∙ sym (same_in (chosen context.format number longer) number))
+  says_same : (number : ℕ) → SameInEach number line longer
+  says_same number = record { says = λ format. sym (same_in format number); tells = sym (same_told number); limit = sym same_limit }
 
-each_line : (context : Context) (number : ℕ) (x y : List ℕ) → (x ≡ y) ⊎ GetsReturn x y → SaySame context number x y
-each_line context number x y (inl same) = (ap (chosen context.format number) same, ap (λ l. said_in (chosen context.format number l) number l) same)
-each_line context number x y (inr gets) = rw gets.is (says_same x gets.ends_without gets.not_longest context number)
+each_line : (number : ℕ) (x y : List ℕ) → (x ≡ y) ⊎ GetsReturn x y → SameInEach number x y
+each_line number x y (inl same) = record { says = λ format. ap (said_in format number) same; tells = ap (format_told number) same; limit = ap is_too_long same }
+each_line number x y (inr gets) = rw gets.is (says_same x gets.ends_without gets.not_longest number)
 
-all_lines : (context : Context) (number : ℕ) (xs ys : List (List ℕ)) → GetReturns xs ys → AllSaySame context number xs ys
-all_lines context number [] [] get = tt
-all_lines context number [] (y ∷ ys) get = absurd get
-all_lines context number (x ∷ xs) [] get = absurd get
-all_lines context number (x ∷ xs) (y ∷ ys) get = (each_line context number x y get.0, all_lines (context_behind context number x) (number + 1) xs ys get.1)
+all_lines : (number : ℕ) (xs ys : List (List ℕ)) → GetReturns xs ys → AllSameInEach number xs ys
+all_lines number [] [] get = tt
+all_lines number [] (y ∷ ys) get = absurd get
+all_lines number (x ∷ xs) [] get = absurd get
+all_lines number (x ∷ xs) (y ∷ ys) get = (each_line number x y get.0, all_lines (number + 1) xs ys get.1)
 
 pub returns_logs : (choice : Choice) (supplied : Supplied) (a b : List ℕ) → DifferInReturns a b → log_outcome choice supplied a ≡ log_outcome choice supplied b
-returns_logs choice supplied a b differ = same_logs choice supplied a b (all_lines (starts (format_of choice)) 1 (lines_of a) (lines_of b) differ)
+returns_logs Auto supplied a b differ = same_logs Auto supplied a b (all_lines 1 (lines_of a) (lines_of b) differ)
+returns_logs (Only format) supplied a b differ = same_logs (Only format) supplied a b (in_one (Some format) 1 (lines_of a) (lines_of b) (all_lines 1 (lines_of a) (lines_of b) differ))

@@ -24,7 +24,7 @@ use Rattle.mt_import.specs.Rdmsr.{said_by_words}
 use Rattle.mt_import.specs.Shown.{format_told, is_telling, tells}
 use Rattle.mt_import.specs.Supplied.{Supplied}
 use Rattle.mt_import.specs.Tables.{rows_in}
-use Rattle.mt_import_laws.specs.FirstLine.{LinesTellFirst}
+use Rattle.mt_import_laws.specs.FirstLine.{takes}
 use Rattle.mt_import_laws.specs.PrintedByEdk2.{sixteen_digits}
 use Rattle.mt_import_laws.specs.PrintedByInteltool.{eight_digits}
 use Rattle.mt_import_laws.specs.PrintedByRdmsr.{SuitsRdmsr}
@@ -35,7 +35,7 @@ use Rattle.mt_import_laws.proofs.LineWords.{AreWords, IsWord, all_append, digits
 use Rattle.mt_import_laws.proofs.PrintedBack.{fits}
 use Rattle.mt_import_laws.proofs.PrintedDigits.{eight_all, eight_long, sixteen_all, sixteen_long}
 use Rattle.mt_import_laws.proofs.RowLines.{no_others, row_reads}
-use Rattle.mt_import_laws.proofs.RowTables.{chipsec_plain, chipsec_short, chipsec_tells, windbg_plain, windbg_short, windbg_tells}
+use Rattle.mt_import_laws.proofs.RowTables.{chipsec_plain, chipsec_prints, chipsec_short, chipsec_tells, rows_taken, windbg_plain, windbg_prints, windbg_short, windbg_tells}
 use Rattle.mt_import_laws.proofs.Tells.{coreboot_by, edk2_by, linux_by, xen_by}
 
 starts : (word rest : List ℕ) → 1 ≤ length word → list_all is_hex_digit word ≡ true → IsStart (word ++ rest)
@@ -207,8 +207,8 @@ module _ (value : ℕ) (small : value < 2 ^ 64) where
 
 -- ---- both
 
-pub windbg_first : (file : RegisterFile) (supplied : Supplied) → SuitsRdmsr file supplied → LinesTellFirst Windbg 1 (lines_by windbg_line file)
-windbg_first file supplied suits = inl (windbg_told file.capabilities (fits file None suits.is_file suits.has_words tt) 1)
+pub windbg_first : (file : RegisterFile) (supplied : Supplied) → SuitsRdmsr file supplied → takes (lines_by windbg_line file) ≡ Some Windbg
+windbg_first file supplied suits = rows_taken Windbg windbg_line windbg_prints file supplied suits refl (windbg_told file.capabilities (fits file None suits.is_file suits.has_words tt) 1)
 
-pub chipsec_first : (file : RegisterFile) (supplied : Supplied) → SuitsRdmsr file supplied → LinesTellFirst Chipsec 1 (lines_by chipsec_line file)
-chipsec_first file supplied suits = inl (chipsec_told file.capabilities (fits file None suits.is_file suits.has_words tt) 1)
+pub chipsec_first : (file : RegisterFile) (supplied : Supplied) → SuitsRdmsr file supplied → takes (lines_by chipsec_line file) ≡ Some Chipsec
+chipsec_first file supplied suits = rows_taken Chipsec chipsec_line chipsec_prints file supplied suits refl (chipsec_told file.capabilities (fits file None suits.is_file suits.has_words tt) 1)

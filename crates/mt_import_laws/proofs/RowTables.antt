@@ -1,5 +1,5 @@
 -- What is printed by a line for each register reads back, if a row of its format reads the line.
-use Rattle.std.proofs.Common.{◌≡◌, ◌∙◌, ◌+◌, ◌*◌, ◌/◌, ◌%◌, ◌^◌, ◌<◌, ◌≤◌, nat_lt, ℕ, true, false, List, [], ◌∷◌, ◌++◌, length, drop, get_or, Option, None, Some, refl, ap, arith, inl, unwrap_or, append-nil, length-append, codes}
+use Rattle.std.proofs.Common.{◌≡◌, ◌∙◌, ◌+◌, ◌*◌, ◌/◌, ◌%◌, ◌^◌, ◌<◌, ◌≤◌, nat_lt, ℕ, true, false, List, [], ◌∷◌, ◌++◌, length, drop, get_or, ◌==◌, Option, None, Some, refl, ap, arith, inl, unwrap_or, append-nil, length-append, codes}
 use Rattle.std.specs.List.{list_all}
 use Rattle.std.proofs.lemmas.Bool.Decides.{nat_tests}
 use Rattle.hex.specs.Hex.{lower_digits, upper_digits}
@@ -28,7 +28,11 @@ use Rattle.mt_import_laws.specs.PrintedByRdmsr.{SuitsRdmsr, hex_text}
 use Rattle.mt_import_laws.specs.PrintedByRows.{chipsec_line, lines_by, low_digits, windbg_line}
 use Rattle.mt_import_laws.proofs.Among.{all_map}
 use Rattle.mt_import_laws.proofs.HexDigits.{hex_alone, hex_digits, hex_short, hex_some}
-use Rattle.mt_import_laws.proofs.KeyLines.{ShowsAlone, all_keys, among_all, has_line, in_file, lines_true, low}
+use Rattle.mt_import.specs.Census.{place_of}
+use Rattle.mt_import.specs.Shown.{format_told}
+use Rattle.mt_import_laws.specs.FirstLine.{takes}
+use Rattle.mt_import_laws.proofs.Taken.{all_stay, takes_printed}
+use Rattle.mt_import_laws.proofs.KeyLines.{keys_show, keys_stay, ShowsAlone, all_keys, among_all, has_line, in_file, lines_true, low}
 use Rattle.mt_import_laws.proofs.Keys.{IsKey}
 use Rattle.mt_import_laws.proofs.LineWords.{all_append}
 use Rattle.mt_import_laws.proofs.PrintedBack.{IsInFile, fits, key_in_file, table_back}
@@ -38,7 +42,7 @@ use Rattle.mt_import_laws.proofs.RowLines.{IsHexOf, first_says, row_reads, small
 -- ---- any format
 
 -- A line of a format shows a register of processor 0.
-record PrintsOne (format : Format) (register value : ℕ) (line : List ℕ) : Type 0 where
+pub record PrintsOne (format : Format) (register value : ℕ) (line : List ℕ) : Type 0 where
   plain : list_all is_plain line ≡ true
   processor : Option ℕ
   own : unwrap_or processor 0 ≡ 0
@@ -87,6 +91,12 @@ module _ (format : Format) (line_of : ℕ → ℕ → List ℕ) (each : (registe
         all = λ key there. inl (has_line 0 file format line_at (all_keys file) are_keys all_fit shows key (among_all file key suits.is_file there));
       })
       (all_map (λ line. list_all is_plain line ≡ true) line_at (all_keys file) (λ key among. (one key among).plain))
+
+  pub rows_taken : (place_of format == 9) ≡ false → format_told 1 (line_at None) ≡ Some format → takes (lines_by line_of file) ≡ Some format
+  rows_taken last told =
+      let show = keys_show 0 file format line_at (all_keys file) are_keys all_fit shows None (inl refl) 1 in
+      let stay = keys_stay 0 file format line_at (all_keys file) are_keys all_fit shows in
+      takes_printed format last (lines_by line_of file) 1 (inl (told, show.0, show.1, all_stay format 1 _ stay.1))
 
 -- ---- digits
 
@@ -196,7 +206,7 @@ module _ (register value : ℕ) (small : register < 0x1000) (fits : value < 2 ^ 
       ap is_telling (first_says [] windbg_row (drop 1 (rows_in WINDBG)) number windbg (shown (length windbg) (items windbg_row.0) texts [] no_fields) refl read
       ∙ windbg_says (length windbg) register high rest number _ _ _ [] a b c small high_fits rest_fits)
 
-  windbg_prints : PrintsOne Windbg register value windbg
+  pub windbg_prints : PrintsOne Windbg register value windbg
   windbg_prints = record {
     plain = windbg_plain;
     processor = None;
@@ -276,7 +286,7 @@ module _ (register value : ℕ) (small : register < 0x1000) (fits : value < 2 ^ 
       ap is_telling (first_says [] chipsec_row (drop 1 (rows_in CHIPSEC)) number chipsec (shown (length chipsec) (items chipsec_row.0) texts tail no_fields) refl read
       ∙ chipsec_says (length chipsec) register value number _ _ tail a b small)
 
-  chipsec_prints : PrintsOne Chipsec register value chipsec
+  pub chipsec_prints : PrintsOne Chipsec register value chipsec
   chipsec_prints = record {
     plain = chipsec_plain;
     processor = Some 0;

@@ -1,5 +1,5 @@
 -- What lines warn of is told.
-use Rattle.std.proofs.Common.{◌≡◌, ◌+◌, ℕ, Bool, true, false, List, [], ◌∷◌, ◌++◌, length, Option, Some, None, refl, sym, ◌∙◌, ap, subst, inl, inr, arith}
+use Rattle.std.proofs.Common.{◌≡◌, ◌+◌, ℕ, Bool, true, false, List, [], ◌∷◌, ◌++◌, length, Option, Some, None, refl, sym, ◌∙◌, ap, subst, inl, inr, arith, append_assoc}
 use Rattle.std.specs.Prelude.{◌⊎◌, if◌then◌else◌, is_some, IsSome}
 use Rattle.std.specs.Option.{option_or}
 use Rattle.std.proofs.lemmas.List.{append-nil}
@@ -15,13 +15,14 @@ use Rattle.mt_import.specs.declared.shape.Warned.{Warned}
 use Rattle.mt_import.specs.declared.shape.Warning.{Warning}
 use Rattle.mt_import.specs.declared.shape.Warning.TheVariants.{Unlike, WrongMask, LostMemory, TopOfMemory, Syscfg, MemoryBits}
 use Rattle.mt_import.specs.Readings.{Fact, is_fault, is_line, is_register_value, is_warning, is_width, said_facts, starts}
-use Rattle.mt_import.specs.Shown.{chosen, context_behind, facts_from, facts_of_line, format_of, is_auto, said_in, shown, unmarked}
+use Rattle.mt_import.specs.Census.{format_of, front_of}
+use Rattle.mt_import.specs.Shown.{context_behind, facts_from, facts_of_line, is_auto, said_in, shown, unmarked}
 use Rattle.mt_import.specs.Supplied.{Supplied}
-use Rattle.mt_import.specs.Outcome.{Seen, Summary, Outcome, advice_of, count_line, dump_outcome, ended, fact_fault, facts_fault, fault_line, findings_of, is_empty, missing_of, nothing_seen, refusal, seen_after, seen_with, summary_of, unless, warned_till}
+use Rattle.mt_import.specs.Outcome.{Seen, Summary, Outcome, advice_of, facts_outcome, count_line, dump_outcome, ended, fact_fault, facts_fault, fault_line, findings_of, is_empty, missing_of, nothing_seen, refusal, seen_after, seen_with, summary_of, unless, warned_till}
 use Rattle.mt_import.specs.Warnings.{has_memory_bits, line_warned, warned_with, warning_lines, warning_of}
 use Rattle.mt_import_laws.specs.Origins.{IsAmong, context_after_lines, seen_of}
-use Rattle.mt_import.specs.Import.{log_outcome}
 use Rattle.mt_import_laws.specs.Warnings.{AreAround, AreWarning, HasWarning, IsWarned, SaysNothing, TellsWarnings, beside_dump, beside_fault, beside_missing, by_register, by_words, facts_read, read_of}
+use Rattle.mt_import_laws.proofs.Alike.{keeps_format}
 use Rattle.mt_import_laws.proofs.Among.{join_among_first, join_among_second}
 use Rattle.mt_import_laws.proofs.Faults.{fault_of, till_of}
 
@@ -44,10 +45,11 @@ of_lines (first ∷ before) context number line others fact among =
 
 pub warned_of : (choice : Choice) (text : List ℕ) (warning : Warning) (has : HasWarning choice text warning) → IsWarned choice text warning (1 + length has.before)
 warned_of choice text warning has =
-    let start = starts (format_of choice) in
+    let start = starts (format_of choice text) in
     let context = context_after_lines start 1 has.before in
     let number = 1 + length has.before in
-    let said = says_warns (chosen context.format number has.line) number has.line warning has.warns has.short has.alone in
+    let said : said_in context.format number has.line ≡ Warns warning number =
+    subst (λ o. said_in o number has.line ≡ Warns warning number) (sym (keeps_format has.before start 1)) (says_warns (format_of choice text) number has.line warning has.warns has.short has.alone) in
     let here : IsAmong (is_warning warning number) (facts_of_line context number has.line) = inr (subst (λ s. IsAmong (is_warning warning number) (said_facts context s)) (sym said) (inl refl)) in
     by_words (subst (λ lines. IsAmong (is_warning warning number) (facts_from start 1 lines)) (sym has.lines) (of_lines has.before start 1 has.line has.others (is_warning warning number) here))
 
@@ -237,49 +239,55 @@ module _ (auto : Bool) (supplied : Supplied) (seen : Seen) where
 
 module _ (choice : Choice) (supplied : Supplied) (text : List ℕ) where
   abbrev facts : List Fact
-  facts = shown (format_of choice) text
+  facts = shown (format_of choice text) text
 
   abbrev start : Seen
-  start = nothing_seen (format_of choice)
+  start = nothing_seen (format_of choice text)
 
   abbrev read : List Fact
   read = facts_read choice supplied text
 
   only_read : (warned : Warned) → warned ≡ (seen_after start read).tally.warned → (warning : Warning) (number : ℕ) → line_warned warned warning ≡ Some number → AreWarning read warning number
-  only_read warned same warning number is = none_first warning number read (format_of choice) (only_after warning number read start (ap (λ w. line_warned w warning) (sym same) ∙ is))
+  only_read warned same warning number is = none_first warning number read (format_of choice text) (only_after warning number read start (ap (λ w. line_warned w warning) (sym same) ∙ is))
 
   each_read : (warned : Warned) → warned ≡ (seen_after start read).tally.warned → (warning : Warning) (number : ℕ) → AreWarning read warning number → IsSome (line_warned warned warning)
   each_read warned same warning number are = subst (λ w. IsSome (line_warned w warning)) (sym same) (now_warned read start warning number are)
 
-  around_end : (end_of : Outcome) (before others : List ℕ) → log_outcome choice supplied text ≡ end_of → AreAroundEnd (is_auto choice) supplied (seen_of choice text) end_of before others → AreAround choice supplied text before others
-  around_end end_of before others is (by_dump status front back) = beside_dump (ap (λ (o : Outcome). o.status) is ∙ status) front back
-  around_end end_of before others is (by_missing status front advice back which) = beside_missing (ap (λ (o : Outcome). o.status) is ∙ status) front advice back which
+  -- what is told but for the lines that are passed over
+  abbrev told_in : Outcome
+  told_in = facts_outcome (is_auto choice) supplied start facts
+
+  around_end : (end_of : Outcome) (before others : List ℕ) → told_in ≡ end_of → AreAroundEnd (is_auto choice) supplied (seen_of choice text) end_of before others → AreAround choice supplied text (front_of choice text ++ before) others
+  around_end end_of before others is (by_dump status front back) = beside_dump (ap (λ (o : Outcome). o.status) is ∙ status) (ap (λ (t : List ℕ). front_of choice text ++ t) front) back
+  around_end end_of before others is (by_missing status front advice back which) = beside_missing (ap (λ (o : Outcome). o.status) is ∙ status) (ap (λ (t : List ℕ). front_of choice text ++ t) front) advice back which
 
   by_fault : (fault : Option ImportFault) → fault_of choice supplied text ≡ fault → TellsWarnings choice supplied text
   by_fault (Some fault) found =
-      let is : log_outcome choice supplied text ≡ unless (Some fault) (till_of choice supplied text) (ended (is_auto choice) supplied (seen_of choice text)) =
+      let is : told_in ≡ unless (Some fault) (till_of choice supplied text) (ended (is_auto choice) supplied (seen_of choice text)) =
       ap (λ f. unless f (till_of choice supplied text) (ended (is_auto choice) supplied (seen_of choice text))) found in
       record {
         warned = till_of choice supplied text;
-        before = [];
+        before = front_of choice text;
         others = fault_line fault;
-        reasons_are = ap (λ (o : Outcome). o.reasons) is;
+        reasons_are = ap (λ (o : Outcome). front_of choice text ++ o.reasons) is;
         around = beside_fault (ap (λ (o : Outcome). o.status) is) refl fault found refl;
         only = only_read (till_of choice supplied text) (read_till supplied start facts);
         each = each_read (till_of choice supplied text) (read_till supplied start facts);
         all = λ fine. absurd (fine (ap (λ (o : Outcome). o.status) is));
       }
   by_fault None found =
-      let is : log_outcome choice supplied text ≡ ended (is_auto choice) supplied (seen_of choice text) =
+      let is : told_in ≡ ended (is_auto choice) supplied (seen_of choice text) =
       ap (λ f. unless f (till_of choice supplied text) (ended (is_auto choice) supplied (seen_of choice text))) found in
       let within = end_told (is_auto choice) supplied (seen_of choice text) in
       let all : read ≡ facts = read_all supplied start facts found in
       let same : (seen_of choice text).tally.warned ≡ (seen_after start read).tally.warned = ap (λ fs. (seen_after start fs).tally.warned) (sym all) in
       record {
         warned = (seen_of choice text).tally.warned;
-        before = within.before;
+        before = front_of choice text ++ within.before;
         others = within.others;
-        reasons_are = ap (λ (o : Outcome). o.reasons) is ∙ within.whole_is;
+        reasons_are =
+            ap (λ (o : Outcome). front_of choice text ++ o.reasons) is ∙ ap (λ (t : List ℕ). front_of choice text ++ t) within.whole_is
+            ∙ sym (append_assoc (front_of choice text) within.before (warning_lines (seen_of choice text).tally.warned ++ within.others));
         around = around_end (ended (is_auto choice) supplied (seen_of choice text)) within.before within.others is within.around;
         only = only_read (seen_of choice text).tally.warned same;
         each = each_read (seen_of choice text).tally.warned same;

@@ -8,7 +8,8 @@ use Rattle.mt_import.specs.declared.fault.ImportFault.TheVariants.{BadWidth}
 use Rattle.mt_import.specs.declared.fault.Rival.TheVariants.{Line, Word}
 use Rattle.mt_import.specs.declared.format.Choice.{Choice}
 use Rattle.mt_import.specs.Readings.{Fact, is_fault, is_line, is_register_value, is_warning, is_width}
-use Rattle.mt_import.specs.Shown.{format_of, is_auto, shown}
+use Rattle.mt_import.specs.Census.{format_of}
+use Rattle.mt_import.specs.Shown.{is_auto, shown}
 use Rattle.mt_import.specs.Supplied.{Supplied, differs}
 use Rattle.mt_import.specs.Values.{assumed_width, or_supplied}
 use Rattle.mt_import.specs.Outcome.{Seen, ended, fact_fault, facts_fault, is_fit_width, nothing_seen, seen_after, seen_with, slot_shown, width_contradiction, width_fault}
@@ -43,7 +44,7 @@ module _ (choice : Choice) (supplied : Supplied) (text : List ℕ) (width : ℕ)
   abbrev masks : Option ℕ
   masks = assumed_width supplied (slot_shown (readings_of choice text) 0)
 
-  from_shown : IsShownWidth (shown (format_of choice) text) width ⊎ (◌≡◌ {A = Option ℕ} None (Some width)) → WidthOrigin choice supplied text width
+  from_shown : IsShownWidth (shown (format_of choice text) text) width ⊎ (◌≡◌ {A = Option ℕ} None (Some width)) → WidthOrigin choice supplied text width
   from_shown (inl found) = width_by_line found.place (fact_of_line choice text (is_width width found.place) found.among)
   from_shown (inr none) = cc none
 
@@ -52,7 +53,7 @@ module _ (choice : Choice) (supplied : Supplied) (text : List ℕ) (width : ℕ)
   from_word none None is_given is = width_by_masks none is_given is
 
   from_lines : (seen : Option ℕ) → (seen_of choice text).width ≡ seen → or_supplied (or_supplied seen supplied.width) masks ≡ Some width → WidthOrigin choice supplied text width
-  from_lines (Some other) is_seen is = from_shown (gathered (shown (format_of choice) text) (nothing_seen (format_of choice)) width (is_seen ∙ is))
+  from_lines (Some other) is_seen is = from_shown (gathered (shown (format_of choice text) text) (nothing_seen (format_of choice text)) width (is_seen ∙ is))
   from_lines None is_seen is = from_word is_seen supplied.width refl is
 
 pub width_origin : (choice : Choice) (supplied : Supplied) (text : List ℕ) (origins : HasOrigins supplied (seen_of choice text) (log_outcome choice supplied text)) → WidthOrigin choice supplied text origins.width
@@ -105,17 +106,17 @@ module _ (supplied : Supplied) where
   as_word (fact ∷ facts) seen width word place none (inr later) given =
       as_word facts (seen_with seen fact) width word place (both_none (fact_fault supplied seen fact) (facts_fault supplied (seen_with seen fact) facts) none).1 later given
 
-pub widths_differ : (choice : Choice) (supplied : Supplied) (text : List ℕ) (a b : ℕ) (p q : Place) → IsAmong (is_width a p) (shown (format_of choice) text) → IsAmong (is_width b q) (shown (format_of choice) text) → a ≢ b
+pub widths_differ : (choice : Choice) (supplied : Supplied) (text : List ℕ) (a b : ℕ) (p q : Place) → IsAmong (is_width a p) (shown (format_of choice text) text) → IsAmong (is_width b q) (shown (format_of choice text) text) → a ≢ b
     → (log_outcome choice supplied text).status ≡ BadText
 widths_differ choice supplied text a b p q first second differ =
     faulty (fault_of choice supplied text) (till_of choice supplied text) (ended (is_auto choice) supplied (seen_of choice text)) (λ none.
-    let one = at_end supplied (shown (format_of choice) text) (nothing_seen (format_of choice)) a p none first in
-    let two = at_end supplied (shown (format_of choice) text) (nothing_seen (format_of choice)) b q none second in
+    let one = at_end supplied (shown (format_of choice text) text) (nothing_seen (format_of choice text)) a p none first in
+    let two = at_end supplied (shown (format_of choice text) text) (nothing_seen (format_of choice text)) b q none second in
     let e : Some a ≡ Some b = sym one ∙ two in
     differ (cc e))
 
-pub width_differs : (choice : Choice) (supplied : Supplied) (text : List ℕ) (a word : ℕ) (p : Place) → IsAmong (is_width a p) (shown (format_of choice) text) → supplied.width ≡ Some word → word ≢ a
+pub width_differs : (choice : Choice) (supplied : Supplied) (text : List ℕ) (a word : ℕ) (p : Place) → IsAmong (is_width a p) (shown (format_of choice text) text) → supplied.width ≡ Some word → word ≢ a
     → (log_outcome choice supplied text).status ≡ BadText
 width_differs choice supplied text a word p first given differ =
     faulty (fault_of choice supplied text) (till_of choice supplied text) (ended (is_auto choice) supplied (seen_of choice text)) (λ none.
-    differ (as_word supplied (shown (format_of choice) text) (nothing_seen (format_of choice)) a word p none first given))
+    differ (as_word supplied (shown (format_of choice text) text) (nothing_seen (format_of choice text)) a word p none first given))

@@ -14,14 +14,15 @@ use Rattle.mt_import.specs.declared.format.Format.TheVariants.{X86info}
 use Rattle.mt_import.specs.declared.reading.Context.{Context}
 use Rattle.mt_import.specs.declared.reading.LineSays.TheVariants.{Turns}
 use Rattle.mt_import.specs.declared.reading.Turn.TheVariants.{To}
-use Rattle.mt_import.specs.Readings.{Fact, is_line, is_width, starts}
+use Rattle.mt_import.specs.Readings.{Fact, is_line, is_match, is_width, starts}
 use Rattle.mt_import.specs.Shown.{context_behind, facts_from, facts_of_line, said_of}
 use Rattle.mt_import.specs.Slot.{all_bits}
 use Rattle.mt_import.specs.Supplied.{Supplied}
 use Rattle.mt_import.specs.Import.{log_outcome}
+use Rattle.mt_import_laws.specs.FirstLine.{IsOfNoHost, takes}
 use Rattle.mt_import_laws.specs.Origins.{IsAmong, context_after_lines}
 use Rattle.mt_import_laws.specs.Printed.{Agrees, Key, ReadsAs, dump_of_all}
-use Rattle.mt_import_laws.specs.PrintedByX86info.{Print, SuitsX86info, SuitsX86infoOfAll, cpu_line, cpu_lines, files_in, x86info_lines}
+use Rattle.mt_import_laws.specs.PrintedByX86info.{Print, SuitsX86info, SuitsX86infoOfAll, cpu_line, cpu_lines, files_in, line_of, x86info_lines}
 use Rattle.mt_import_laws.proofs.Among.{join_among_first, join_among_second}
 use Rattle.mt_import_laws.proofs.Back.{HasWidth}
 use Rattle.mt_import_laws.proofs.Below.{passes}
@@ -30,7 +31,7 @@ use Rattle.mt_import_laws.proofs.PrintedBack.{HasLine, IsGiven, IsInFile, IsOneL
 use Rattle.mt_import_laws.proofs.Several.{are_alike, file_at, first_at, several_back}
 use Rattle.mt_import_laws.proofs.TableLines.{HasOwn, IsTrueSaid, all_join, facts_split, lines_format, lines_have_own, lines_show_width, lines_true, next_format, own_first, own_later}
 use Rattle.mt_import_laws.proofs.Whole.{AreAlike, IsSound, any_bits}
-use Rattle.mt_import_laws.proofs.X86infoTable.{capability_line, each_key, table_plain, table_true, width}
+use Rattle.mt_import_laws.proofs.X86infoTable.{all_told_first, capability_line, each_key, table_plain, table_true, width}
 
 -- ---- `CPU #1:`
 
@@ -253,3 +254,12 @@ module _ (cpus : List (Print × RegisterFile)) (supplied : Supplied) (suits : Su
     where
       first_line : (k : ℕ) → k < length files → HasLine X86info (x86info_lines (print_at cpus k) (file_at files k)) None
       first_line k less = capability_line k (print_at cpus k) (file_at files k) supplied (each k less)
+
+-- Of several processors too `auto` takes the format.
+pub several_taken : (print : Print) (file : RegisterFile) (cpus : List (Print × RegisterFile)) (supplied : Supplied) → SuitsX86infoOfAll ((print, file) ∷ cpus) supplied → IsOfNoHost (line_of print file None)
+    → takes (cpu_lines 0 ((print, file) ∷ cpus)) ≡ Some X86info
+several_taken print file cpus supplied suits host =
+    let alike = are_alike (files_in ((print, file) ∷ cpus)) suits.is_dump in
+    let count = long ((print, file) ∷ cpus) in
+    let few = alike.few in
+    all_told_first print file cpus supplied suits.each (λ j number less. ap is_match (turns j number (omega (arith, less, count, few)))) host

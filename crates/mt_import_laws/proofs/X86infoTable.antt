@@ -1,5 +1,5 @@
 -- What x86info prints reads back.
-use Rattle.std.proofs.Common.{◌≡◌, ◌∙◌, ◌+◌, ◌-◌, ◌*◌, ◌^◌, ◌<◌, ◌≤◌, ℕ, zero, suc, Bool, true, false, List, [], ◌∷◌, ◌++◌, length, map, Option, Some, None, refl, sym, ap, subst, arith, inl, inr, lit<, lit≤, length-append, ◌==◌, codes}
+use Rattle.std.proofs.Common.{◌≡◌, ◌∙◌, ◌+◌, ◌-◌, ◌*◌, ◌^◌, ◌<◌, ◌≤◌, ℕ, zero, suc, Bool, true, false, List, [], ◌∷◌, ◌++◌, length, map, Option, Some, None, refl, sym, ap, subst, arith, inl, inr, lit<, lit≤, length-append, append-nil, ◌==◌, codes}
 use Rattle.std.specs.Fmt.{digits}
 use Rattle.std.specs.Prelude.{◌⊎◌}
 use Rattle.std.specs.List.{AllByRecursion, list_all}
@@ -9,19 +9,22 @@ use Rattle.mt_regs.specs.declared.registers.Register.{Register}
 use Rattle.mt_regs.specs.declared.registers.Register.TheVariants.{PhysBase, PhysMask, FixedRange, Pat, DefaultType}
 use Rattle.mt_regs.specs.RegisterFile.{RegisterFile, has_fixed}
 use Rattle.mt_regs.specs.Registers.{IsWithin, pair_registers}
+use Rattle.mt_import.specs.declared.format.Format.{Format}
 use Rattle.mt_import.specs.declared.format.Format.TheVariants.{X86info}
+use Rattle.mt_import.specs.Readings.{is_match}
 use Rattle.mt_import.specs.Pieces.{shows_one}
 use Rattle.mt_import.specs.Shown.{said_of, tells}
 use Rattle.mt_import.specs.Supplied.{Supplied}
-use Rattle.mt_import_laws.specs.FirstLine.{IsOfNoHost, LinesTellFirst, only_turns, says_same}
+use Rattle.mt_import_laws.specs.FirstLine.{IsOfNoHost, takes}
 use Rattle.mt_import_laws.specs.Origins.{IsAmong}
 use Rattle.mt_import_laws.specs.Printed.{Key, TableReadsBack, number_at, value_in}
-use Rattle.mt_import_laws.specs.PrintedByX86info.{Print, SuitsX86info, cpu_lines, first_behind, last_keys, later_fixed, line_behind, line_of, read_count, read_pairs, register_lines, size_line, size_lines, unread, unread_pairs, x86info_lines}
+use Rattle.mt_import_laws.specs.PrintedByX86info.{Print, SuitsX86info, cpu_line, cpu_lines, first_behind, last_keys, later_fixed, line_behind, line_of, read_count, read_pairs, register_lines, size_line, size_lines, unread, unread_pairs, x86info_lines}
 use Rattle.mt_import_laws.proofs.Among.{all_map, among_join, among_map, each_among, join_among_first, join_among_second, map_among}
-use Rattle.mt_import_laws.proofs.KeyLines.{ShowsAlone, alone_shows, alone_true, has_line, lines_true}
+use Rattle.mt_import_laws.proofs.KeyLines.{ShowsAlone, alone_shows_in, keys_stay, alone_shows, alone_true, has_line, lines_true}
 use Rattle.mt_import_laws.proofs.Keys.{IsKey}
 use Rattle.mt_import_laws.proofs.PrintedBack.{HasLine, IsGiven, IsInFile, WidthLine, fits, key_in_file, table_back}
 use Rattle.mt_import_laws.proofs.TableLines.{IsTrueSaid, all_join}
+use Rattle.mt_import_laws.proofs.Taken.{AreOf, Balanced, BalancedTo, ShowsIn, StaysIn, takes_printed}
 use Rattle.mt_import_laws.proofs.Whole.{any_bits}
 use Rattle.mt_import_laws.proofs.X86infoLines.{nothing_said, register_said, size_place, size_plain, size_said, text_plain, told}
 
@@ -398,19 +401,97 @@ reads print file supplied suits =
     table_back file X86info (x86info_lines print file) supplied suits.is_file suits.has_words suits.agrees (width 0 print file supplied suits print.virtual refl)
     (record { each = table_true 0 print file supplied suits; all = each_key 0 print file supplied suits }) (table_plain 0 print file supplied suits)
 
--- The line of 0FEH is the first behind the heading, and tells the format.
-told_lines : (print : Print) (file : RegisterFile) (supplied : Supplied) (number : ℕ) (others : List (List ℕ)) → SuitsX86info print file supplied → IsOfNoHost (line_of print file None)
-    → LinesTellFirst X86info number (codes "MTRR registers:" ∷ line_of print file None ∷ others)
-unfolding tells
-told_lines print file supplied number others suits host =
-    let fields = suits.are_fields None in
-    inr (record { none = refl; alike = says_same refl }, inl (told print.names suits.are_names file.capabilities (print.fields None) fields.0 fields.1 fields.2 (number + 1) (fits file None suits.is_file suits.has_words tt) host))
+-- ---- the format that is taken
 
-pub told_first : (print : Print) (file : RegisterFile) (supplied : Supplied) → SuitsX86info print file supplied → IsOfNoHost (line_of print file None) → LinesTellFirst X86info 1 (x86info_lines print file)
-told_first print file supplied suits host = told_lines print file supplied 1 _ suits host
+-- Balanced lines, and behind them some that stay.
+balanced_on : (format : Format) (more left : ℕ) (lines others : List (List ℕ)) → BalancedTo format more left lines → Balanced format left others → Balanced format more (lines ++ others)
+balanced_on format more left [] others is rest = subst (λ m. Balanced format m others) (sym is) rest
+balanced_on format more left (line ∷ lines) others (inl stays) rest = inl (stays.0, balanced_on format more left lines others stays.1 rest)
+balanced_on format more left (line ∷ lines) others (inr (inl shows)) rest = inr (inl (shows.0, balanced_on format (more + 1) left lines others shows.1 rest))
+balanced_on format more left (line ∷ lines) others (inr (inr strays)) rest = inr (inr (strays.0, balanced_on format (more - 1) left lines others strays.1 rest))
+
+stay_to : (format : Format) (more left : ℕ) (lines others : List (List ℕ)) → AllByRecursion (StaysIn format) lines → BalancedTo format more left others → BalancedTo format more left (lines ++ others)
+stay_to format more left [] others all rest = rest
+stay_to format more left (line ∷ lines) others all rest = inl (all.0, stay_to format more left lines others all.1 rest)
+
+all_to : (format : Format) (more left : ℕ) (lines : List (List ℕ)) → more ≡ left → AllByRecursion (StaysIn format) lines → BalancedTo format more left lines
+all_to format more left [] is all = is
+all_to format more left (line ∷ lines) is all = inl (all.0, all_to format more left lines is all.1)
+
+module _ (print : Print) (file : RegisterFile) (supplied : Supplied) (suits : SuitsX86info print file supplied) where
+  keys_stay_at : (keys : List Key) → ((key : Key) → IsAmong key keys → IsInFile file key) → AllByRecursion (StaysIn X86info) (map (line_of print file) keys)
+  keys_stay_at keys within =
+      keys_stay 0 file X86info (line_of print file) keys (λ key among. is_key 0 print file supplied suits key (within key among)) (λ key among. fit 0 print file supplied suits key (within key among))
+      (λ key among. shows 0 print file supplied suits [] tt (lit≤ tt) key (within key among))
+
+  first_shows : ShowsIn X86info (line_of print file None)
+  first_shows = alone_shows_in 0 file X86info None (line_of print file None) tt (shows 0 print file supplied suits [] tt (lit≤ tt) None tt)
+
+  sizes_stay : (virtual : Option ℕ) → print.virtual ≡ virtual → AllByRecursion (StaysIn X86info) (size_lines file virtual)
+  sizes_stay None is = tt
+  sizes_stay (Some virtual) is = (λ number. inl (ap is_match (size_said file.width virtual (wide 0 print file supplied suits) (few_bits 0 print file supplied suits virtual is) number)), tt)
+
+  -- Behind the line of 0FEH at most one line strays, where registers can't be read.
+  behind_first : (fixed : Bool) → has_fixed file ≡ fixed → (more left : ℕ) → 0 < more → more - 1 ≡ left
+      → BalancedTo X86info more left ((map (line_of print file) (map Some (read_pairs file)) ++ line_behind print file (unread fixed file) (first_behind fixed) ∷ map (line_of print file) (last_keys fixed)) ++ size_lines file print.virtual)
+  behind_first fixed is more left some next =
+      to_end more left (map (line_of print file) (map Some (read_pairs file)) ++ line_behind print file (unread fixed file) (first_behind fixed) ∷ map (line_of print file) (last_keys fixed)) (size_lines file print.virtual)
+      (stay_to X86info more left (map (line_of print file) (map Some (read_pairs file))) _ (keys_stay_at (None ∷ map Some (read_pairs file)) (first_in 0 print file supplied suits)).1
+      (inr (inr (some, all_to X86info (more - 1) left (map (line_of print file) (last_keys fixed)) next (keys_stay_at (last_keys fixed) (last_in 0 print file supplied suits fixed is))))))
+      (sizes_stay print.virtual refl)
+    where
+      to_end : (more left : ℕ) (lines others : List (List ℕ)) → BalancedTo X86info more left lines → AllByRecursion (StaysIn X86info) others → BalancedTo X86info more left (lines ++ others)
+      to_end more left [] others is all = all_to X86info more left others is all
+      to_end more left (line ∷ lines) others (inl stays) all = inl (stays.0, to_end more left lines others stays.1 all)
+      to_end more left (line ∷ lines) others (inr (inl shows)) all = inr (inl (shows.0, to_end (more + 1) left lines others shows.1 all))
+      to_end more left (line ∷ lines) others (inr (inr strays)) all = inr (inr (strays.0, to_end (more - 1) left lines others strays.1 all))
+
+  abbrev rest_lines : List (List ℕ)
+  rest_lines =
+      (map (line_of print file) (map Some (read_pairs file)) ++ line_behind print file (unread (has_fixed file) file) (first_behind (has_fixed file)) ∷ map (line_of print file) (last_keys (has_fixed file)))
+      ++ size_lines file print.virtual
+
+  -- The line of 0FEH is the first behind the heading, and tells the format.
+  told_lines : (number : ℕ) (others : List (List ℕ)) → IsOfNoHost (line_of print file None) → Balanced X86info 0 others → AreOf X86info number (codes "MTRR registers:" ∷ line_of print file None ∷ (rest_lines ++ others))
+  unfolding tells
+  told_lines number others host rest =
+      let fields = suits.are_fields None in
+      let first = told print.names suits.are_names file.capabilities (print.fields None) fields.0 fields.1 fields.2 (number + 1) (fits file None suits.is_file suits.has_words tt) host in
+      let show = first_shows (number + 1) in
+      inr (refl, refl, inl (first, show.0, show.1, balanced_on X86info 1 0 rest_lines others (behind_first (has_fixed file) refl 1 0 (lit< tt) refl) rest))
+
+  heading_stays : StaysIn X86info (codes "MTRR registers:")
+  unfolding tells
+  heading_stays number = inr refl
+
+  -- all lines, behind others of the format
+  pub lines_to : (more : ℕ) → BalancedTo X86info more more (x86info_lines print file)
+  lines_to more =
+      let next : more + 1 - 1 ≡ more = omega arith in
+      let some : 0 < more + 1 = omega arith in
+      inl (heading_stays, inr (inl (first_shows, behind_first (has_fixed file) refl (more + 1) more some next)))
+
+pub told_first : (print : Print) (file : RegisterFile) (supplied : Supplied) → SuitsX86info print file supplied → IsOfNoHost (line_of print file None) → takes (x86info_lines print file) ≡ Some X86info
+told_first print file supplied suits host =
+    takes_printed X86info refl (x86info_lines print file) 1
+    (subst (λ ls. AreOf X86info 1 (codes "MTRR registers:" ∷ line_of print file None ∷ ls)) (append-nil (rest_lines print file supplied suits)) (told_lines print file supplied suits 1 [] host tt))
+
+-- of several processors, of which the first has this number
+pub cpus_balanced : (supplied : Supplied) (cpus : List (Print × RegisterFile)) (k : ℕ) → ((j number : ℕ) → j < k + length cpus → is_match (said_of X86info number (cpu_line j)) ≡ true)
+    → AllByRecursion (λ (cpu : Print × RegisterFile). SuitsX86info cpu.0 cpu.1 supplied) cpus → (more : ℕ) → Balanced X86info more (cpu_lines k cpus)
+cpus_balanced supplied [] k turn suits more = tt
+cpus_balanced supplied (cpu ∷ cpus) k turn suits more =
+    inl (
+      λ number. inl (turn k number (omega arith)),
+      balanced_on X86info more more (x86info_lines cpu.0 cpu.1) (cpu_lines (k + 1) cpus) (lines_to cpu.0 cpu.1 supplied suits.0 more)
+          (cpus_balanced supplied cpus (k + 1) (λ j number less. turn j number (omega (arith, less))) suits.1 more),
+    )
 
 -- Of several processors the line in front says that processor 0's lines follow.
-pub all_told_first : (print : Print) (file : RegisterFile) (cpus : List (Print × RegisterFile)) (supplied : Supplied) → SuitsX86info print file supplied → IsOfNoHost (line_of print file None)
-    → LinesTellFirst X86info 1 (cpu_lines 0 ((print, file) ∷ cpus))
+pub all_told_first : (print : Print) (file : RegisterFile) (cpus : List (Print × RegisterFile)) (supplied : Supplied)
+    → AllByRecursion (λ (cpu : Print × RegisterFile). SuitsX86info cpu.0 cpu.1 supplied) ((print, file) ∷ cpus) → ((j number : ℕ) → j < 1 + length cpus → is_match (said_of X86info number (cpu_line j)) ≡ true)
+    → IsOfNoHost (line_of print file None) → takes (cpu_lines 0 ((print, file) ∷ cpus)) ≡ Some X86info
 unfolding digits tells
-all_told_first print file cpus supplied suits host = inr (record { none = refl; alike = only_turns refl refl }, told_lines print file supplied 2 _ suits host)
+all_told_first print file cpus supplied suits turn host =
+    takes_printed X86info refl (cpu_lines 0 ((print, file) ∷ cpus)) 1
+    (inr (refl, refl, told_lines print file supplied suits.0 2 (cpu_lines 1 cpus) host (cpus_balanced supplied cpus 1 turn suits.1 0)))

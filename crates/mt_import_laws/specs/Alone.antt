@@ -6,7 +6,7 @@ use Rattle.mt_import.specs.declared.format.Format.{Format}
 use Rattle.mt_import.specs.declared.shape.Pick.{Pick}
 use Rattle.mt_import.specs.Import.{log_outcome, tables_outcome}
 use Rattle.mt_import.specs.LogTables.{has_picked, is_all, is_read, lines_alone, tables_of, way_from}
-use Rattle.mt_import.specs.Shown.{format_of}
+use Rattle.mt_import.specs.Census.{format_of}
 use Rattle.mt_import.specs.Supplied.{Supplied}
 use Rattle.mt_import_laws.specs.FirstLine.{ComeToSame}
 
@@ -19,4 +19,4 @@ pub record HasAlone (pick : Pick) (format : Format) (text alone : List ℕ) : Ty
 -- All tables are read. Only behind a fault more may be told, if there are several.
 pub record ReadsAll (choice : Choice) (supplied : Supplied) (text : List ℕ) : Type 0 where
   pub same : ComeToSame (tables_outcome choice supplied text) (log_outcome choice supplied text)
-  pub one : nat_lt 1 (tables_of (format_of choice) text).count ≡ false → tables_outcome choice supplied text ≡ log_outcome choice supplied text
+  pub one : nat_lt 1 (tables_of (format_of choice text) text).count ≡ false → tables_outcome choice supplied text ≡ log_outcome choice supplied text

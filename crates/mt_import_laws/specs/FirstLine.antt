@@ -1,34 +1,29 @@
--- Logs whose first line that tells a format tells this one (own).
---     TellsFirst format text      so it is of a text
+-- The format that `auto` takes, and outcomes that differ in their reasons alone (own).
+--     TakesMost text      no more lines of another format than of the one that is taken show registers
+--     takes lines      the format that is taken of a text of these lines
 --     ComeToSame a b      two outcomes agree but for their reasons
 --     IsOfNoHost line      journalctl or syslog didn't write the line
-use Rattle.std.specs.Prelude.{ℕ, ◌≡◌, ◌⊎◌, ◌+◌, codes, false, List, [], ◌∷◌, Some, None}
-use Rattle.mt_text.specs.Text.{lines_of, words_of}
+use Rattle.std.specs.Prelude.{ℕ, ◌≡◌, ◌≢◌, ◌≤◌, codes, false, List, Option, Some, None}
+use Rattle.mt_text.specs.Text.{words_of}
 use Rattle.mt_text.specs.Words.{text_of}
+use Rattle.mt_import.specs.declared.format.Choice.TheVariants.{Auto}
 use Rattle.mt_import.specs.declared.format.Format.{Format}
-use Rattle.mt_import.specs.declared.reading.LineSays.{LineSays}
-use Rattle.mt_import.specs.declared.reading.LineSays.TheVariants.{Nothing, Turns}
-use Rattle.mt_import.specs.declared.reading.Turn.TheVariants.{To}
+use Rattle.mt_import.specs.declared.format.Format.TheVariants.{Plain}
+use Rattle.mt_import.specs.Census.{census_after, census_of, format_of, lines_in, no_census, taken}
 use Rattle.mt_import.specs.Outcome.{Outcome}
 use Rattle.mt_import.specs.Pieces.{is_text}
-use Rattle.mt_import.specs.Shown.{format_told, said_in, said_of}
 
--- What a line says without a format and within one: the same, or there only that it turns to processor 0.
-pub data SaysAlike (without within : LineSays) : Type 0 where
-  says_same : within ≡ without → SaysAlike without within
-  only_turns : without ≡ Nothing → within ≡ Turns (To 0) → SaysAlike without within
+-- how many lines of a log are of this format and show registers
+abbrev pub lines_of_format : List ℕ → Format → ℕ
+lines_of_format text format = lines_in (census_of text) format
 
-pub record TellsNone (format : Format) (number : ℕ) (line : List ℕ) : Type 0 where
-  pub none : format_told number line ≡ None
-  pub alike : SaysAlike (said_in None number line) (said_of format number line)
+-- No more lines of another format than of the one that is taken show registers, `plain` aside. If none is taken, no line of another shows one.
+pub record TakesMost (text : List ℕ) : Type 0 where
+  pub most : (format other : Format) → format_of Auto text ≡ Some format → other ≢ Plain → lines_of_format text other ≤ lines_of_format text format
+  pub untold : (other : Format) → format_of Auto text ≡ None → other ≢ Plain → lines_of_format text other ≡ 0
 
--- of lines, of which the first has this number
-abbrev pub LinesTellFirst : Format → ℕ → List (List ℕ) → Type 0
-LinesTellFirst format number [] = ⊥
-LinesTellFirst format number (line ∷ lines) = (format_told number line ≡ Some format) ⊎ (TellsNone format number line × LinesTellFirst format (number + 1) lines)
-
-abbrev pub TellsFirst : Format → List ℕ → Type 0
-TellsFirst format text = LinesTellFirst format 1 (lines_of text)
+abbrev pub takes : List (List ℕ) → Option Format
+takes lines = taken (census_after no_census 1 lines)
 
 pub record ComeToSame (a b : Outcome) : Type 0 where
   pub notes : a.notes ≡ b.notes

@@ -15,7 +15,8 @@ use Rattle.mt_import.specs.declared.reading.LineSays.{LineSays}
 use Rattle.mt_import.specs.declared.reading.LineSays.TheVariants.{Nothing, Announces, Value, Turns, Shows, Lists, Begins, FixedRanges, VariableRanges, Width, Warns, Bad}
 use Rattle.mt_import.specs.declared.shape.Reading.{Reading}
 use Rattle.mt_import.specs.Readings.{Fact, is_register_value, is_width, starts}
-use Rattle.mt_import.specs.Shown.{chosen, context_behind, facts_of_line, format_of, said_in, shown}
+use Rattle.mt_import.specs.Census.{format_of}
+use Rattle.mt_import.specs.Shown.{context_behind, facts_of_line, said_in, shown}
 use Rattle.mt_import.specs.Supplied.{Supplied, supplied_value}
 use Rattle.mt_import.specs.Slot.{whole_value}
 use Rattle.mt_import.specs.Values.{assumed_of, assumed_value, is_pair_number, assumed_width, mask_of, width_by}
@@ -27,7 +28,7 @@ IsAmong x (y ∷ ys) = (y ≡ x) ⊎ IsAmong x ys
 
 -- what the lines of a log lead to
 abbrev pub seen_of : Choice → List ℕ → Seen
-seen_of choice text = seen_after (nothing_seen (format_of choice)) (shown (format_of choice) text)
+seen_of choice text = seen_after (nothing_seen (format_of choice text)) (shown (format_of choice text) text)
 
 abbrev pub readings_of : Choice → List ℕ → List Reading
 readings_of choice text = (seen_of choice text).readings
@@ -44,7 +45,7 @@ pub record IsOfLine (choice : Choice) (text : List ℕ) (fact : Fact) : Type 0 w
   pub line : List ℕ
   pub others : List (List ℕ)
   pub lines : lines_of text ≡ before ++ line ∷ others
-  pub shows : IsAmong fact (facts_of_line (context_after_lines (starts (format_of choice)) 1 before) (1 + length before) line)
+  pub shows : IsAmong fact (facts_of_line (context_after_lines (starts (format_of choice text)) 1 before) (1 + length before) line)
 
 -- ---- tables
 
@@ -64,7 +65,7 @@ is_heading (Lists processor shown) = false
 is_heading (Bad why place) = false
 
 abbrev pub heads : Context → ℕ → List ℕ → Bool
-heads context number line = is_heading (said_in (chosen context.format number line) number line)
+heads context number line = is_heading (said_in context.format number line)
 
 -- how many tables have begun behind lines, of which the first has this number
 abbrev pub tables_behind : Context → ℕ → List (List ℕ) → ℕ → ℕ
@@ -74,7 +75,7 @@ tables_behind context number (line ∷ lines) tables = tables_behind (context_be
 -- A line shows this. It is of the table that the last heading begins, up to the line itself.
 pub record IsRead (choice : Choice) (text : List ℕ) (reading : Reading) : Type 0 where
   pub of_line : IsOfLine choice text (is_register_value reading)
-  pub table : reading.table ≡ tables_behind (starts (format_of choice)) 1 (of_line.before ++ of_line.line ∷ []) 0
+  pub table : reading.table ≡ tables_behind (starts (format_of choice text)) 1 (of_line.before ++ of_line.line ∷ []) 0
 
 -- ---- one register
 
@@ -171,10 +172,10 @@ SaysFixed (Bad why place) on = ⊥
 abbrev pub LinesSayFixed : Context → ℕ → List (List ℕ) → Bool → Type 0
 LinesSayFixed context number [] on = ⊥
 LinesSayFixed context number (line ∷ lines) on =
-    SaysFixed (said_in (chosen context.format number line) number line) on ⊎ LinesSayFixed (context_behind context number line) (number + 1) lines on
+    SaysFixed (said_in context.format number line) on ⊎ LinesSayFixed (context_behind context number line) (number + 1) lines on
 
 abbrev pub LogSaysFixed : Choice → List ℕ → Bool → Type 0
-LogSaysFixed choice text on = LinesSayFixed (starts (format_of choice)) 1 (lines_of text) on
+LogSaysFixed choice text on = LinesSayFixed (starts (format_of choice text)) 1 (lines_of text) on
 
 -- ---- the width
 

@@ -18,7 +18,8 @@ use Rattle.mt_import.specs.declared.shape.Warned.{Warned}
 use Rattle.mt_import.specs.Outcome.{Outcome, count_line, fault_line}
 use Rattle.mt_import.specs.Readings.{starts}
 use Rattle.mt_import.specs.Warnings.{warning_lines}
-use Rattle.mt_import.specs.Shown.{chosen, format_of, said_in}
+use Rattle.mt_import.specs.Census.{format_of}
+use Rattle.mt_import.specs.Shown.{said_in}
 use Rattle.mt_import_laws.specs.Alike.{MatchesNothing}
 use Rattle.mt_import_laws.specs.FirstLine.{ComeToSame}
 use Rattle.mt_import_laws.specs.Origins.{context_after_lines}
@@ -28,7 +29,7 @@ use Rattle.mt_import_laws.specs.Origins.{context_after_lines}
 -- the first of these lines isn't a value alone
 abbrev pub NoValueFirst : Context → ℕ → List (List ℕ) → Type 0
 NoValueFirst context number [] = ⊤
-NoValueFirst context number (line ∷ lines) = (value : ℕ) (place : Place) → said_in (chosen context.format number line) number line ≢ Value value place
+NoValueFirst context number (line ∷ lines) = (value : ℕ) (place : Place) → said_in context.format number line ≢ Value value place
 
 -- No call waits for its value, or no value comes next: any line between them takes the call back.
 pub data TakesNoneBack (context : Context) (number : ℕ) (others : List (List ℕ)) : Type 0 where
@@ -42,8 +43,8 @@ pub record HasSpareLine (choice : Choice) (longer shorter : List ℕ) : Type 0 w
   pub others : List (List ℕ)
   pub longer_lines : lines_of longer ≡ before ++ line ∷ others
   pub shorter_lines : lines_of shorter ≡ before ++ others
-  pub spare : MatchesNothing (context_after_lines (starts (format_of choice)) 1 before) (1 + length before) line
-  pub takes_none_back : TakesNoneBack (context_after_lines (starts (format_of choice)) 1 before) (1 + length before + 1) others
+  pub spare : MatchesNothing choice (1 + length before) line
+  pub takes_none_back : TakesNoneBack (context_after_lines (starts (format_of choice longer)) 1 before) (1 + length before + 1) others
 
 -- ---- the outcomes
 
@@ -100,6 +101,12 @@ pub data AreMovedReasons (auto : Bool) (status : Status) (at : ℕ) (longer shor
       → shorter ≡ count_line (one_line_less at tally) ++ (warning_lines (one_line_less at tally).warned ++ others)
       → AreMovedReasons auto status at longer shorter
 
+-- They stand behind the same text.
 pub record ComeToSameWithout (auto : Bool) (at : ℕ) (longer shorter : Outcome) : Type 0 where
   pub same : ComeToSame longer shorter
-  pub reasons : AreMovedReasons auto longer.status at longer.reasons shorter.reasons
+  pub front : List ℕ
+  pub longer_reasons : List ℕ
+  pub shorter_reasons : List ℕ
+  pub longer_are : longer.reasons ≡ front ++ longer_reasons
+  pub shorter_are : shorter.reasons ≡ front ++ shorter_reasons
+  pub moved : AreMovedReasons auto longer.status at longer_reasons shorter_reasons

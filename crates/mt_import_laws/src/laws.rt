@@ -11,12 +11,13 @@ ghost use Rattle.mt_import.specs.declared.shape.Warning.{Warning};
 ghost use Rattle.mt_import.specs.Import.{log_outcome, outcome_of, tables_outcome};
 ghost use Rattle.mt_import.specs.Outcome.{Seen, Outcome, shows_fixed, shows_no_fix, slot_shown};
 ghost use Rattle.mt_import.specs.Readings.{is_width};
-ghost use Rattle.mt_import.specs.Shown.{format_of, is_auto, shown};
+ghost use Rattle.mt_import.specs.Census.{format_of};
+ghost use Rattle.mt_import.specs.Shown.{is_auto, shown};
 ghost use Rattle.mt_import.specs.Supplied.{Supplied, supplied_value};
 ghost use Rattle.mt_import_laws.specs.Alike.{AreAlikeLogs};
 ghost use Rattle.mt_import_laws.specs.Alone.{HasAlone, ReadsAll};
 ghost use Rattle.mt_import_laws.specs.Assumptions.{IsNamedValue};
-ghost use Rattle.mt_import_laws.specs.FirstLine.{ComeToSame, TellsFirst};
+ghost use Rattle.mt_import_laws.specs.FirstLine.{ComeToSame, TakesMost};
 ghost use Rattle.mt_import_laws.specs.Missing.{NamesMissing, NamesValues};
 ghost use Rattle.mt_import_laws.specs.Notes.{AreNoted};
 ghost use Rattle.mt_import_laws.specs.Origins.{Contradict, ContradictInCapabilities, ContradictsWord, CountsPair, HasOrigins, IsAmong, IsAssumed, IsRead, LogSaysFixed, WidthOrigin, readings_of, seen_of};
@@ -94,13 +95,13 @@ pub fn words_that_contradict_are_faults()
 
 /// Two lines that show different widths are a fault.
 pub fn widths_that_differ_are_faults()
-    ensures { (choice : Choice) (supplied : Supplied) (text : List ℕ) (a b : ℕ) (p q : Place) → IsAmong (is_width a p) (shown (format_of choice) text)
-        → IsAmong (is_width b q) (shown (format_of choice) text) → a ≢ b → (log_outcome choice supplied text).status ≡ BadText }
+    ensures { (choice : Choice) (supplied : Supplied) (text : List ℕ) (a b : ℕ) (p q : Place) → IsAmong (is_width a p) (shown (format_of choice text) text)
+        → IsAmong (is_width b q) (shown (format_of choice text) text) → a ≢ b → (log_outcome choice supplied text).status ≡ BadText }
 {}
 
 /// A line that shows another width than a word is a fault.
 pub fn a_width_that_contradicts_a_word_is_a_fault()
-    ensures { (choice : Choice) (supplied : Supplied) (text : List ℕ) (a word : ℕ) (p : Place) → IsAmong (is_width a p) (shown (format_of choice) text)
+    ensures { (choice : Choice) (supplied : Supplied) (text : List ℕ) (a word : ℕ) (p : Place) → IsAmong (is_width a p) (shown (format_of choice text) text)
         → supplied.width ≡ Some word → word ≢ a → (log_outcome choice supplied text).status ≡ BadText }
 {}
 
@@ -146,10 +147,19 @@ pub fn returns_change_nothing()
     ensures { (choice : Choice) (supplied : Supplied) (a b : List ℕ) → DifferInReturns a b → log_outcome choice supplied a ≡ log_outcome choice supplied b }
 {}
 
-/// If the first line of a log that tells a format tells this one, `auto` comes to the same dump, comments and status as this format.
-pub fn auto_takes_the_first_format()
-    ensures { (format : Format) (supplied : Supplied) (text : List ℕ) → TellsFirst format text
+/// For all logs: no more lines of another format than of the one that `auto` takes show registers, `plain` aside. If it takes none, no
+/// line of another format shows one. `plain` is the last resort. Each line is of one format: of the first one that a line tells, if it
+/// says something in it, or else of the first that it tells itself.
+pub fn auto_takes_the_most()
+    ensures { (text : List ℕ) → TakesMost text }
+{}
+
+/// By `auto` a log comes to the same dump, comments and status as by the format that is taken, of all its tables and of one.
+pub fn auto_comes_to_that_format()
+    ensures all { (format : Format) (supplied : Supplied) (text : List ℕ) → format_of Auto text ≡ Some format
         → ComeToSame (log_outcome Auto supplied text) (log_outcome (Only format) supplied text) }
+    ensures tables { (format : Format) (supplied : Supplied) (text : List ℕ) → format_of Auto text ≡ Some format
+        → ComeToSame (tables_outcome Auto supplied text) (tables_outcome (Only format) supplied text) }
 {}
 
 /// If a word asks for one table of a log, by its number or as the last one, the log comes to what another log comes to. This has the

@@ -9,13 +9,13 @@ mod worked;
 pub use laws::{
     a_table_is_read_alone, a_width_that_contradicts_a_word_is_a_fault,
     a_word_without_fix_is_a_fault, all_tables_are_read_without_the_word, assumed_values_are_named,
-    assumed_values_are_noted, auto_takes_the_first_format, capabilities_that_contradict_are_faults,
-    contradictions_are_faults, enabled_pairs_are_counted, fixed_ranges_without_fix_are_faults,
-    lines_on_fixed_ranges_agree, lines_that_match_nothing_change_nothing,
-    lines_that_match_nothing_may_be_left_out, readings_come_from_lines, reasons_come_alone,
-    returns_change_nothing, values_have_origins, warnings_are_told, what_is_missing_is_named,
-    what_is_tried_gives_the_others, widths_have_origins, widths_that_differ_are_faults,
-    words_that_contradict_are_faults,
+    assumed_values_are_noted, auto_comes_to_that_format, auto_takes_the_most,
+    capabilities_that_contradict_are_faults, contradictions_are_faults, enabled_pairs_are_counted,
+    fixed_ranges_without_fix_are_faults, lines_on_fixed_ranges_agree,
+    lines_that_match_nothing_change_nothing, lines_that_match_nothing_may_be_left_out,
+    readings_come_from_lines, reasons_come_alone, returns_change_nothing, values_have_origins,
+    warnings_are_told, what_is_missing_is_named, what_is_tried_gives_the_others,
+    widths_have_origins, widths_that_differ_are_faults, words_that_contradict_are_faults,
 };
 pub use printers::{
     auto_takes_what_is_printed, what_chipsec_prints_reads_back, what_coreboot_displays_reads_back,

@@ -6,7 +6,7 @@ ghost use Rattle.mt_import.specs.declared.format.Format.TheVariants.{Chipsec, Co
 ghost use Rattle.mt_dump.specs.Canon.{ended};
 ghost use Rattle.mt_import.specs.Import.{log_outcome};
 ghost use Rattle.mt_import.specs.Supplied.{Supplied, command_of};
-ghost use Rattle.mt_import_laws.specs.FirstLine.{IsOfNoHost, LinesTellFirst};
+ghost use Rattle.mt_import_laws.specs.FirstLine.{IsOfNoHost, takes};
 ghost use Rattle.mt_import_laws.specs.Printed.{ReadsAs, TableReadsBack, TableReadsInOrder, TellsNoMore, TextReadsAs, TextReadsBack, dump_of_all};
 ghost use Rattle.mt_import_laws.specs.PrintedByCoreboot.{SuitsCoreboot, Tails, coreboot_lines, line_of as coreboot_line};
 ghost use Rattle.mt_import_laws.specs.PrintedByEdk2.{SuitsEdk2, edk2_lines, pair_line};
@@ -96,35 +96,28 @@ pub fn what_linux_prints_reads_back()
     ensures { (log : Log) (file : RegisterFile) (supplied : Supplied) → SuitsLinux log file supplied → TableReadsInOrder Linux (linux_lines log file) supplied file }
 {}
 
-/// The format of what inteltool, EDK2, coreboot, x86info, WinDbg and chipsec print of a register file is told by its first line that tells one, so that
-/// `auto` takes it. Of coreboot and x86info the line of 0FEH may not have `kernel:` where journalctl and syslog have it.
+/// `auto` takes the format of what inteltool, EDK2, coreboot, x86info, WinDbg and chipsec print of a register file. Of coreboot and x86info
+/// the line of 0FEH may not have `kernel:` where journalctl and syslog have it.
 pub fn auto_takes_what_is_printed()
-    ensures inteltool { (names : Names) (file : RegisterFile) (supplied : Supplied) → SuitsInteltool names file supplied → LinesTellFirst Inteltool 1 (inteltool_lines names file) }
-    ensures edk2 { (file : RegisterFile) (supplied : Supplied) → SuitsEdk2 file supplied → LinesTellFirst Edk2 1 (edk2_lines file) }
-    ensures windbg { (file : RegisterFile) (supplied : Supplied) → SuitsRdmsr file supplied → LinesTellFirst Windbg 1 (lines_by windbg_line file) }
-    ensures chipsec { (file : RegisterFile) (supplied : Supplied) → SuitsRdmsr file supplied → LinesTellFirst Chipsec 1 (lines_by chipsec_line file) }
+    ensures inteltool { (names : Names) (file : RegisterFile) (supplied : Supplied) → SuitsInteltool names file supplied → takes (inteltool_lines names file) ≡ Some Inteltool }
+    ensures edk2 { (file : RegisterFile) (supplied : Supplied) → SuitsEdk2 file supplied → takes (edk2_lines file) ≡ Some Edk2 }
+    ensures windbg { (file : RegisterFile) (supplied : Supplied) → SuitsRdmsr file supplied → takes (lines_by windbg_line file) ≡ Some Windbg }
+    ensures chipsec { (file : RegisterFile) (supplied : Supplied) → SuitsRdmsr file supplied → takes (lines_by chipsec_line file) ≡ Some Chipsec }
     ensures coreboot { (leveled : Bool) (tails : Tails) (file : RegisterFile) (supplied : Supplied) → SuitsCoreboot tails file supplied
-        → IsOfNoHost (coreboot_line leveled tails file None) → LinesTellFirst Coreboot 1 (coreboot_lines leveled tails file) }
+        → IsOfNoHost (coreboot_line leveled tails file None) → takes (coreboot_lines leveled tails file) ≡ Some Coreboot }
     ensures x86info { (print : Print) (file : RegisterFile) (supplied : Supplied) → SuitsX86info print file supplied
-        → IsOfNoHost (x86info_line print file None) → LinesTellFirst X86info 1 (x86info_lines print file) }
+        → IsOfNoHost (x86info_line print file None) → takes (x86info_lines print file) ≡ Some X86info }
     ensures several { (print : Print) (file : RegisterFile) (cpus : List (Print × RegisterFile)) (supplied : Supplied)
         → SuitsX86infoOfAll ((print, file) ∷ cpus) supplied → IsOfNoHost (x86info_line print file None)
-        → LinesTellFirst X86info 1 (cpu_lines 0 ((print, file) ∷ cpus)) }
+        → takes (cpu_lines 0 ((print, file) ∷ cpus)) ≡ Some X86info }
 {}
 
-/// What each program prints of an ordinary PC is an instance of `auto_takes_the_first_format`. Of coreboot and x86info it is one of
-/// `auto_takes_what_is_printed`.
+/// Lines of Linux and then more of Xen, of which `auto` takes Xen's, and the other way round. What coreboot and x86info print of an ordinary
+/// PC is an instance of `auto_takes_what_is_printed`.
 pub fn worked_formats()
-    ensures rdmsr { LinesTellFirst Rdmsr 1 (rdmsr_lines ordinary_pc) }
-    ensures inteltool { LinesTellFirst Inteltool 1 (inteltool_lines model_names ordinary_pc) }
-    ensures x86info { LinesTellFirst X86info 1 (x86info_lines x86info_print ordinary_pc) }
-    ensures coreboot { LinesTellFirst Coreboot 1 (coreboot_lines true some_tails ordinary_pc) }
-    ensures edk2 { LinesTellFirst Edk2 1 (edk2_lines ordinary_pc) }
-    ensures xen { LinesTellFirst Xen 1 (xen_lines ordinary_pc) }
-    ensures windbg { LinesTellFirst Windbg 1 (lines_by windbg_line ordinary_pc) }
-    ensures chipsec { LinesTellFirst Chipsec 1 (lines_by chipsec_line ordinary_pc) }
-    ensures linux { LinesTellFirst Linux 1 (linux_lines early_log ordinary_pc) }
-    ensures other { LinesTellFirst Linux 1 (xen_lines ordinary_pc) → ⊥ }
+    ensures xen { takes (codes "MTRR default type: uncachable" ∷ xen_log) ≡ Some Xen }
+    ensures linux { takes (codes "(XEN) MTRR default type: uncachable" ∷ linux_log) ≡ Some Linux }
+    ensures none { takes (codes "0 of 5" ∷ []) ≡ None }
     ensures of_coreboot { IsOfNoHost (coreboot_line true some_tails ordinary_pc None) }
     ensures of_x86info { IsOfNoHost (x86info_line x86info_print ordinary_pc None) }
     ensures of_host { IsOfNoHost (codes "Nov 28 05:45:01 host kernel: MTRR default type: uncachable") → ⊥ }

@@ -1,0 +1,5 @@
+use Rattle.mt_import.proofs.Settling.{begins_each}
+use Rattle.mt_import.proofs.readers.Readers.new.Goals as goal
+
+pub returns : goal.returns
+returns c = begins_each _ _ _ _ _ _ _ _ _ _ _ c.new.ensures c.new-2.ensures c.new-3.ensures c.new-4.ensures c.new-5.ensures c.new-6.ensures c.new-7.ensures c.new-8.ensures c.new-9.ensures c.new-10.ensures c.new-11.ensures
