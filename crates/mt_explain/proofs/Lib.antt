@@ -4,6 +4,8 @@ pub mod Walked
 pub mod Marks
 pub mod Equal
 pub mod Grouped
+pub mod Grouping
+pub mod Unfaulted
 pub mod EqualRegisters
 pub mod Ruled
 pub mod Noted

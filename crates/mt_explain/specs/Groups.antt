@@ -1,8 +1,10 @@
 -- Groups of equal files (own).
 --     AreGroups files groups          the numbers of equal files, in a list for each group
 --     IsFirstEqual files k first      the least number of a file that is equal to file k
+--     IsGrouping files groups         each file is in one group, and just equal ones are in one
 --     switches file                   E and FE
-use Rattle.std.specs.Prelude.{◌≡◌, ℕ, ◌<◌, ◌≤◌, ◌==◌, Bool, List, length, map, slice_get, slice_index}
+use Rattle.std.specs.Prelude.{◌≡◌, ◌↔◌, ℕ, ◌<◌, ◌≤◌, ◌==◌, ◌&&◌, Bool, true, List, length, map, slice_get, slice_index}
+use Rattle.std.specs.List.{filter, list_any}
 use Rattle.arrayvec.specs.ArrayVec.{ArrayVec}
 use Rattle.mt_regs.specs.declared.registers.Register.{Register}
 use Rattle.mt_regs.specs.Registers.{IsWithin, value_of}
@@ -37,6 +39,18 @@ pub record AreGroups (files : List RegisterFile) (groups : List (ArrayVec ℕ)) 
   pub firsts : List ℕ
   pub equal : AreFirstEqual files firsts
   pub are : groups ≡ map (λ k. numbers (members firsts k)) (leaders firsts)
+
+-- a group has the number
+abbrev pub has : ℕ → ArrayVec ℕ → Bool
+has k group = list_any (λ n. n == k) group.items
+
+-- Each file is in exactly one group. Two are in one group if and only if they are equal.
+pub record IsGrouping (files : List RegisterFile) (groups : List (ArrayVec ℕ)) : Type 0 where
+  pub one : (k : ℕ) → k < length files → length (filter (has k) groups) ≡ 1
+  pub equal : (j k : ℕ) → j < length files → k < length files → (list_any (λ group. has j group && has k group) groups ≡ true) ↔ AreEqualAt files j k
+
+abbrev pub GroupsAreOfEqualFiles : Type 0
+GroupsAreOfEqualFiles = (files : List RegisterFile) (groups : List (ArrayVec ℕ)) → AreGroups files groups → IsGrouping files groups
 
 -- each writable register of one file has the same value in the other
 abbrev pub HaveEqualRegisters : RegisterFile → RegisterFile → Type 0

@@ -7,9 +7,10 @@ ghost use Rattle.mt_explain.specs.declared.field_fault.Defect.TheVariants.{Gap, 
 ghost use Rattle.mt_regs.specs.StartFiles.{SameKind};
 ghost use Rattle.mt_explain.specs.declared.note.Note.{Note};
 ghost use Rattle.mt_explain.specs.declared.rule.Rule.{Rule};
+ghost use Rattle.mt_explain.specs.Clashes.{NothingIsFound};
 ghost use Rattle.mt_explain.specs.Deciders.{decider_of, named_by};
 ghost use Rattle.mt_explain.specs.FieldFaults.{faults_at, is_of};
-ghost use Rattle.mt_explain.specs.Groups.{AreEqualAt, HaveEqualRegisters, IsFirstEqual};
+ghost use Rattle.mt_explain.specs.Groups.{AreEqualAt, GroupsAreOfEqualFiles, HaveEqualRegisters, IsFirstEqual};
 ghost use Rattle.mt_explain.specs.Notes.{is_note, notes};
 ghost use Rattle.mt_explain.specs.Pairs.{matching_pairs};
 ghost use Rattle.mt_explain.specs.Rules.{Decides};
@@ -22,9 +23,16 @@ pub fn field_faults_are_those_of_the_definitions()
     ensures masks { (f : RegisterFile) (r : Register) (v : ℕ) → list_any (is_of Gap) (faults_at f r v) ≡ has_broken_mask f r v }
 {}
 
-/// Two files have the same first equal one if and only if they are equal.
+/// Nothing is found in a file if and only if it is accepted: no field at fault, and no run of pages with no defined type.
+pub fn nothing_is_found_in_accepted_files()
+    ensures found { NothingIsFound }
+{}
+
+/// Two files have the same first equal one if and only if they are equal. So each file is in exactly one of the groups, and two are in
+/// one group if and only if they are equal.
 pub fn groups_are_of_equal_files()
     ensures same { (files : List RegisterFile) (i j a b : ℕ) → IsFirstEqual files i a → IsFirstEqual files j b → (a ≡ b) ↔ AreEqualAt files i j }
+    ensures grouping { GroupsAreOfEqualFiles }
 {}
 
 /// Files of one width and equal capabilities are equal if and only if their writable registers are.

@@ -49,7 +49,7 @@ pub use groups::{Cpus, are_equal, first_equal, groups_of, have_equal_switches};
 pub use laws::{
     deciders_are_those_of_the_rule, equal_types_are_not_counted,
     field_faults_are_those_of_the_definitions, files_of_equal_registers_are_equal,
-    groups_are_of_equal_files, notes_are_those_that_hold,
+    groups_are_of_equal_files, notes_are_those_that_hold, nothing_is_found_in_accepted_files,
 };
 pub use mapped::{are_in_order, misfits};
 pub use memory::Misfit;

@@ -22,10 +22,10 @@ is_under range byte low = grind (arith, nat_tests, low)
 pub is_over : (range : MemoryRange) (byte : ℕ) → range.last < byte → has range byte ≡ false
 is_over range byte high = grind (arith, nat_tests, high)
 
-less : (a b : ℕ) → a < b → nat_lt a b ≡ true
+pub less : (a b : ℕ) → a < b → nat_lt a b ≡ true
 less a b order = grind (arith, nat_tests, order)
 
-not_less : (a b : ℕ) → b ≤ a → nat_lt a b ≡ false
+pub not_less : (a b : ℕ) → b ≤ a → nat_lt a b ≡ false
 not_less a b order = grind (arith, nat_tests, order)
 
 -- ---- kinds of bytes

@@ -4,5 +4,8 @@ pub mod Laid
 pub mod MapReads
 pub mod Origins
 pub mod Paged
+pub mod Settles
 pub mod Spare
 pub mod Told
+pub mod Written
+pub mod Fewer

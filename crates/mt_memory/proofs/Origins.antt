@@ -1,100 +1,34 @@
 -- The map of a log is the one that is wanted of those that its lines show.
-use Rattle.std.proofs.Common.{◌≡◌, ◌∙◌, ◌≤◌, ◌<◌, ◌+◌, ◌-◌, ◌==◌, ◌&&◌, ◌||◌, ◌^◌, ℕ, Bool, true, false, nat_le, nat_lt, List, [], ◌∷◌, ◌++◌, drop, length, Option, Some, None, Ok, Err, refl, sym, ap, subst, arith, inl, inr, length-append}
-use Rattle.std.specs.Prelude.{if◌then◌else◌, ⊤}
-use Rattle.std.proofs.lemmas.Bool.{cases_Bool}
+use Rattle.std.proofs.Common.{◌≡◌, ◌∙◌, ◌≤◌, ◌<◌, ◌+◌, ◌-◌, ◌==◌, ◌&&◌, ◌||◌, ◌^◌, ℕ, Bool, true, false, nat_le, nat_lt, List, [], ◌∷◌, ◌++◌, length, map, Option, Some, None, Ok, Err, refl, sym, ap, subst, arith, inl, inr, length-append, append_assoc}
+use Rattle.std.specs.Prelude.{if◌then◌else◌}
+use Rattle.std.specs.List.{AllByRecursion, filter_map}
+use Rattle.std.proofs.lemmas.Bool.{cases_Bool, cases_lt}
 use Rattle.std.proofs.lemmas.Bool.Decides.{nat_tests}
+use Rattle.std.proofs.lemmas.List.{append-nil}
 use Rattle.mt_ports.specs.Causes.{one_more}
-use Rattle.mt_rows.specs.declared.row.Fields.{Fields}
-use Rattle.mt_text.specs.Text.{end_of, is_too_long, lines_of, past_limit, without_return}
+use Rattle.mt_text.specs.Text.{end_of, is_too_long, lines_of, past_limit}
 use Rattle.mt_text.specs.declared.place.Place.{Place}
 use Rattle.mt_memory.specs.declared.format.Claim.{Claim}
 use Rattle.mt_memory.specs.declared.format.Format.{Format}
 use Rattle.mt_memory.specs.declared.format.Format.TheVariants as formats
 use Rattle.mt_memory.specs.declared.format.MapFault.{MapFault}
-use Rattle.mt_memory.specs.declared.format.MapFault.TheVariants.{Backward, Hidden, TooManyRanges, LongLine, SeveralMaps}
+use Rattle.mt_memory.specs.declared.format.MapFault.TheVariants.{LongLine, SeveralMaps}
+use Rattle.mt_memory.specs.declared.format.MapsBegun.{MapsBegun}
 use Rattle.mt_memory.specs.declared.format.MemoryMap.{MemoryMap}
 use Rattle.mt_memory.specs.declared.format.Shown.{Shown}
 use Rattle.mt_memory.specs.declared.format.Shown.TheVariants.{Nothing, Range, Fault}
-use Rattle.mt_memory.specs.declared.format.UnderWay.{UnderWay}
-use Rattle.mt_memory.specs.declared.format.UnderWay.TheVariants.{Between, Other, Wanted}
 use Rattle.mt_memory.specs.declared.format.WhichMap.{WhichMap}
 use Rattle.mt_memory.specs.declared.format.WhichMap.TheVariants as which_map
-use Rattle.mt_memory_kinds.specs.declared.kind.MemoryKind.{MemoryKind}
-use Rattle.mt_memory.specs.declared.table.Ends.{Ends}
-use Rattle.mt_memory.specs.declared.table.Ends.TheVariants.{Last, LastBeforeSize, LastOrHidden, Behind}
-use Rattle.mt_memory.specs.Finding.{Form, Name, stands, named}
-use Rattle.mt_memory.specs.Laying.{joined, laid, overlapped, ranges_of}
-use Rattle.mt_memory.specs.Log.{Settled, State, begun_at, begun_with, finished, finished_by, headed, is_between, is_last, is_sole, is_wanted, log_from, map_of_pieces, nothing_settled, number_of, opened, overlap_or, settled_by, settled_with, starts, taken_in, taken_shown, with_shown}
-use Rattle.mt_memory.specs.Maps.{Cut, MapsAreShown, added, cut_at, cut_line, cut_lines, cut_with, kind_shown, last_of, log_format, map_at, maps_in, nothing_cut, picked}
-use Rattle.mt_memory_kinds.specs.Ranges.{AreAscending, has, kind_at}
-use Rattle.mt_memory.specs.Showing.{behind_front, begins_map, bounded, chosen, closed, format_told, front_at, half_open, in_range, is_shown, named_range, numbers_of, place_at, range_shown, shown_by, shown_by_form, shown_in, shown_or, table_of, told_in}
+use Rattle.mt_memory_kinds.specs.declared.kind.MemoryRange.{MemoryRange}
+use Rattle.mt_memory.specs.Laying.{joined, laid, overlapped, part_of, ranges_of}
+use Rattle.mt_memory.specs.Log.{Settled, State, begun_at, begun_behind, finished, finished_by, headed, is_last, is_sole, log_from, map_of_pieces, nothing_settled, number_of, opened, settled_from, settled_with, starts, taken_in, taken_shown, with_shown}
+use Rattle.mt_memory.specs.Maps.{Cut, MapsAreGiven, MapsAreShown, added, breaks_in, cut_at, cut_line, cut_lines, cut_shown, first_broken, last_of, log_format, map_at, maps_in, nothing_cut, picked}
+use Rattle.mt_memory_kinds.specs.Ranges.{AreAscending, kind_at}
+use Rattle.mt_memory.specs.Showing.{begins_map, breaks_off, chosen, format_told, has_title, is_shown, shown_in, told_in}
 use Rattle.mt_memory.specs.Steps.{and_then}
 use Rattle.mt_memory.proofs.Joined.{joined_is_same, joined_longest, joined_order}
-use Rattle.mt_memory.proofs.Laid.{laid_order, later_counts}
-
--- ---- a range that a line shows ends at or behind its beginning
-
-abbrev pub IsOrdered : Shown → Type 0
-IsOrdered Nothing = ⊤
-IsOrdered (Range claim) = claim.range.first ≤ claim.range.last
-IsOrdered (Fault fault) = ⊤
-
-at_most : (a b : ℕ) → nat_le a b ≡ true → a ≤ b
-at_most a b test = grind (arith, nat_tests, test)
-
-before_end : (a b : ℕ) → nat_lt a b ≡ true → a ≤ b - 1
-before_end a b test = grind (arith, nat_tests, test)
-
-closed_order : (first last : ℕ) (kind : MemoryKind) (place : Place) → IsOrdered (closed first last kind place)
-closed_order first last kind place = by (nat_le first last) refl (first - last == 1)
-  where
-    by : (test : Bool) → nat_le first last ≡ test → (one : Bool) → IsOrdered (if test then range_shown first last kind place else if one then Nothing else Fault (Backward place))
-    by true is one = at_most first last is
-    by false is true = tt
-    by false is false = tt
-
-half_open_order : (first end : ℕ) (kind : MemoryKind) (place : Place) → IsOrdered (half_open first end kind place)
-half_open_order first end kind place = by (nat_lt first end) refl (first == end)
-  where
-    by : (test : Bool) → nat_lt first end ≡ test → (same : Bool) → IsOrdered (if test then range_shown first (end - 1) kind place else if same then Nothing else Fault (Backward place))
-    by true is same = before_end first end is
-    by false is true = tt
-    by false is false = tt
-
-bounded_order : (ends : Ends) (first second : ℕ) (kind : MemoryKind) (place : Place) → IsOrdered (bounded ends first second kind place)
-bounded_order Last first second kind place = closed_order first second kind place
-bounded_order LastBeforeSize first second kind place = closed_order first second kind place
-bounded_order Behind first second kind place = half_open_order first second kind place
-bounded_order LastOrHidden first second kind place = by (second == 0)
-  where
-    by : (test : Bool) → IsOrdered (if test then Fault (Hidden place) else closed first second kind place)
-    by true = tt
-    by false = closed_order first second kind place
-
-named_order : (ends : Ends) (fields : Fields) (kind : Option MemoryKind) (place : Place) → IsOrdered (named_range ends fields kind place)
-named_order ends fields (Some kind) place = bounded_order ends (numbers_of ends fields).0 (numbers_of ends fields).1 kind place
-named_order ends fields None place = tt
-
-in_range_order : (ends : Ends) (names : List Name) (number before : ℕ) (rest : List ℕ) (found : Option (ℕ × Fields)) → IsOrdered (in_range ends names number before rest found)
-in_range_order ends names number before rest (Some found) = named_order ends found.1 (named names rest) (place_at number (before + found.0))
-in_range_order ends names number before rest None = tt
-
-front_order : (form : Form) (names : List Name) (number : ℕ) (line : List ℕ) (before : Option ℕ) → IsOrdered (behind_front form names number line before)
-front_order form names number line (Some before) = in_range_order form.3 names number before (drop before line) (stands form.2 (drop before line))
-front_order form names number line None = tt
-
-or_order : (first others : Shown) → IsOrdered first → IsOrdered others → IsOrdered (shown_or first others)
-or_order Nothing others a b = b
-or_order (Range claim) others a b = a
-or_order (Fault fault) others a b = tt
-
-forms_order : (forms : List Form) (names : List Name) (number : ℕ) (line : List ℕ) → IsOrdered (shown_by forms names number line)
-forms_order [] names number line = tt
-forms_order (form ∷ forms) names number line =
-    or_order (shown_by_form form names number line) (shown_by forms names number line) (front_order form names number line (front_at form.1 form.0 line)) (forms_order forms names number line)
-
-shown_order : (format : Format) (number : ℕ) (line : List ℕ) → IsOrdered (shown_in format number line)
-shown_order format number line = forms_order (table_of format).forms (table_of format).names number (without_return line)
+use Rattle.mt_memory.proofs.Laid.{less, not_less}
+use Rattle.mt_memory.proofs.Settles.{Holds, IsOrdered, holds_more, holds_nothing, shown_order}
 
 -- ---- maps by their numbers
 
@@ -132,62 +66,56 @@ last_snoc [] map = refl
 last_snoc (x ∷ []) map = refl
 last_snoc (x ∷ y ∷ maps) map = last_snoc (y ∷ maps) map
 
--- ---- what the lines of one map come to
-
-pub kind_append : (known : Option MemoryKind) (xs ys : List Shown) (byte : ℕ) → kind_shown known (xs ++ ys) byte ≡ kind_shown (kind_shown known xs byte) ys byte
-kind_append known [] ys byte = refl
-kind_append known (Nothing ∷ xs) ys byte = kind_append known xs ys byte
-kind_append known (Range claim ∷ xs) ys byte = kind_append (if has claim.range byte then Some claim.range.kind else known) xs ys byte
-kind_append known (Fault fault ∷ xs) ys byte = kind_append known xs ys byte
-
-pub record IsSettled (s : Settled) (shown : List Shown) : Type 0 where
-  pub ascending : AreAscending 0 (ranges_of s.pieces)
-  pub kinds : s.fault ≡ None → (byte : ℕ) → kind_at (ranges_of s.pieces) byte ≡ kind_shown None shown byte
-
-pub settles_nothing : IsSettled nothing_settled []
-settles_nothing = record { ascending = tt; kinds = λ none byte. refl }
+-- ---- the map that is picked
 
 none_some : {A : Type 0} {x : A} {found : Option A} → found ≡ None → found ≡ Some x → ⊥
 none_some none some = cc (none, some)
 
-module _ (s : Settled) (shown : List Shown) (good : IsSettled s shown) where
-  settles_claim : (claim : Claim) → claim.range.first ≤ claim.range.last → s.fault ≡ None → IsSettled (settled_by None s (Range claim)) (shown ++ Range claim ∷ [])
-  settles_claim claim order is = by (nat_lt 512 (length (laid claim s.pieces)))
-    where
-      by : (many : Bool) → IsSettled (if many then record s { fault = Some (TooManyRanges claim.place) } else record s { pieces = laid claim s.pieces; overlap = overlap_or s.overlap (overlapped claim s.pieces) })
-          (shown ++ Range claim ∷ [])
-      by true = record { ascending = good.ascending; kinds = λ none byte. absurd (none_some none refl) }
-      by false = record {
-        ascending = laid_order claim s.pieces order good.ascending;
-        kinds = λ none byte.
-            later_counts claim s.pieces byte order ∙ ap (λ known. if has claim.range byte then Some claim.range.kind else known) (good.kinds is byte)
-            ∙ sym (kind_append None shown (Range claim ∷ []) byte);
-      }
+if_true : {A : Type 0} (b : Bool) (x y : A) → b ≡ true → (if b then x else y) ≡ x
+if_true b x y is = rw is refl
 
-  pub settles_more : (next : Shown) → IsOrdered next → IsSettled (settled_with s next) (shown ++ next ∷ [])
-  settles_more next order = by s.fault refl next order
-    where
-      by : (fault : Option MapFault) → s.fault ≡ fault → (next : Shown) → IsOrdered next → IsSettled (settled_by fault s next) (shown ++ next ∷ [])
-      by (Some fault) is next order = record { ascending = good.ascending; kinds = λ none byte. absurd (none_some none is) }
-      by None is Nothing order = record { ascending = good.ascending; kinds = λ none byte. good.kinds none byte ∙ sym (kind_append None shown (Nothing ∷ []) byte) }
-      by None is (Range claim) order = settles_claim claim order is
-      by None is (Fault fault) order = record { ascending = good.ascending; kinds = λ none byte. absurd (none_some none refl) }
+if_false : {A : Type 0} (b : Bool) (x y : A) → b ≡ false → (if b then x else y) ≡ y
+if_false b x y is = rw is refl
+
+-- the map behind so many is the one that is wanted
+abbrev is_here : WhichMap → ℕ → Bool
+is_here which size = is_last which || number_of which == size + 1
+
+abbrev pick : WhichMap → List (List Shown) → List Shown
+pick which maps = if is_last which then last_of maps else map_at (number_of which) maps
+
+picked_is : (which : WhichMap) (maps : List (List Shown)) → pick which maps ≡ picked which maps
+picked_is which_map.Sole maps = refl
+picked_is which_map.Last maps = refl
+picked_is (which_map.Number number) maps = refl
+
+pick_snoc : (which : WhichMap) (maps : List (List Shown)) (map : List Shown) → pick which (maps ++ map ∷ []) ≡ (if is_here which (length maps) then map else pick which maps)
+pick_snoc which maps map = by (is_last which)
+  where
+    by : (last : Bool) → (if last then last_of (maps ++ map ∷ []) else map_at (number_of which) (maps ++ map ∷ []))
+        ≡ (if (last || number_of which == length maps + 1) then map else (if last then last_of maps else map_at (number_of which) maps))
+    by true = last_snoc maps map
+    by false = map_at_snoc (number_of which) maps map
+
+snoc_size : {A : Type 0} (xs : List A) (x : A) → length (xs ++ x ∷ []) ≡ length xs + 1
+snoc_size xs x = let size = length-append xs (x ∷ []) in omega (arith, size)
+
+added_snoc : (done : List (List Shown)) (now : List Shown) (next : Shown) → added done (now ++ next ∷ []) ≡ done ++ (now ++ next ∷ []) ∷ []
+added_snoc done [] next = refl
+added_snoc done (x ∷ xs) next = refl
 
 -- ---- a reader and the maps that lines show
 
-abbrev way_by : Bool → Bool → UnderWay
-way_by true here = Wanted
-way_by false here = if here then Wanted else Other
+abbrev is_none : List Shown → Bool
+is_none [] = true
+is_none (shown ∷ more) = false
 
-abbrev way_of : Bool → ℕ → List (List Shown) → List Shown → UnderWay
-way_of last number done [] = Between
-way_of last number done (shown ∷ more) = way_by last (number == length done + 1)
+none_snoc : (now : List Shown) (next : Shown) → is_none (now ++ next ∷ []) ≡ false
+none_snoc [] next = refl
+none_snoc (x ∷ xs) next = refl
 
-abbrev pick : Bool → ℕ → List (List Shown) → List Shown
-pick last number maps = if last then last_of maps else map_at number maps
-
-few_begun : (count size : ℕ) → (count ≤ 1 → size ≤ count) → one_more count ≤ 1 → size + 1 ≤ one_more count
-few_begun count size few more = elim (cases_Bool (nat_lt count (2 ^ 64 - 1))) [
+count_few : (count size : ℕ) → (count ≤ 1 → size ≤ count) → one_more count ≤ 1 → size + 1 ≤ one_more count
+count_few count size few more = elim (cases_Bool (nat_lt count (2 ^ 64 - 1))) [
   | inl below ↦ let e : one_more count ≡ count + 1 = rw below refl in let le = few (omega (arith, e, more)) in omega (arith, e, more, le)
   | inr full ↦ let e : one_more count ≡ count = rw full refl in absurd (high count full (omega (arith, e, more)))
 ]
@@ -195,155 +123,215 @@ few_begun count size few more = elim (cases_Bool (nat_lt count (2 ^ 64 - 1))) [
     high : (n : ℕ) → nat_lt n (2 ^ 64 - 1) ≡ false → n ≤ 1 → ⊥
     high n full less = grind (arith, nat_tests, full, less)
 
+count_most : (count size : ℕ) → count ≤ size → one_more count ≤ size + 1
+count_most count size most = elim (cases_Bool (nat_lt count (2 ^ 64 - 1))) [
+  | inl below ↦ let e : one_more count ≡ count + 1 = rw below refl in omega (arith, e, most)
+  | inr full ↦ let e : one_more count ≡ count = rw full refl in omega (arith, e, most)
+]
+
+ahead_behind : (number size count ahead : ℕ) → ahead ≡ number - (size - 1) → (count ≤ 1 → size ≤ count) → count ≤ size → (if nat_lt 0 count then ahead - 1 else ahead) ≡ number - size
+ahead_behind number size count ahead is few most = elim (cases_lt 0 count) [
+  | inl some ↦ rw (less 0 count some) (omega (arith, is, most, some))
+  | inr none ↦ let empty = few (omega (arith, none)) in rw (not_less 0 count none) (omega (arith, is, empty, none))
+]
+
 module _ (which : WhichMap) where
-  -- a reader behind lines that show these maps before the last heading, and this since
+  -- a reader behind lines that show these maps before the last place where one begins, and this since
   record Reads (done : List (List Shown)) (now : List Shown) (s : State) : Type 0 where
     which_is : s.which ≡ which
-    way : s.under_way ≡ way_of (is_last which) (number_of which) done now
-    ahead : is_last which ≡ false → s.ahead ≡ number_of which - length (added done now)
-    wanted : IsSettled s.wanted (pick (is_last which) (number_of which) (added done now))
+    between : s.between ≡ is_none now
+    ahead : s.ahead ≡ number_of which - (length (added done now) - 1)
+    wanted : Holds s.wanted (pick which (added done now))
     few : s.begun.count ≤ 1 → length (added done now) ≤ s.begun.count
+    most : s.begun.count ≤ length (added done now)
 
-  snoc_size : (done : List (List Shown)) (now : List Shown) → length (done ++ now ∷ []) ≡ length done + 1
-  snoc_size done now = omega (arith, length-append done (now ∷ []))
+  -- the same with a map under way, of which lines show this
+  record GoesOn (done : List (List Shown)) (now : List Shown) (s : State) : Type 0 where
+    which_is : s.which ≡ which
+    between : s.between ≡ false
+    ahead : s.ahead ≡ number_of which - length done
+    here : is_here which (length done) ≡ true → Holds s.wanted now
+    away : is_here which (length done) ≡ false → Holds s.wanted (pick which done)
+    few : s.begun.count ≤ 1 → length done + 1 ≤ s.begun.count
+    most : s.begun.count ≤ length done + 1
 
-  -- a map begins
-  module _ (done : List (List Shown)) (s : State) (next : Shown) (line : ℕ) (order : IsOrdered next) (good : Reads done [] s) where
-    began : begun_at s line ≡ opened s line
-    began = rw good.way refl
+  opens : (done : List (List Shown)) (s : State) (line : ℕ) → Reads done [] s → GoesOn done [] (opened s line)
+  opens done s line good = record {
+    which_is = good.which_is;
+    between = refl;
+    ahead = ahead_behind (number_of which) (length done) s.begun.count s.ahead good.ahead good.few good.most;
+    here = λ here. elim (cases_Bool (is_last which)) [
+      | inl is ↦ rw (good.which_is, is) holds_nothing
+      | inr is ↦
+          let at : (number_of which == length done + 1) ≡ true = rw is at here in
+          rw (good.which_is, is) (rw (is, map_at_beyond (number_of which) done (beyond (number_of which) (length done) at)) at good.wanted)
+    ];
+    away = λ away. elim (cases_Bool (is_last which)) [
+      | inl is ↦ let e : true ≡ false = rw is at away in cc e
+      | inr is ↦ rw (good.which_is, is) (rw is at good.wanted)
+    ];
+    few = count_few s.begun.count (length done) good.few;
+    most = count_most s.begun.count (length done) good.most;
+  }
+    where
+      beyond : (number size : ℕ) → (number == size + 1) ≡ true → size < number
+      beyond number size here = grind (arith, nat_tests, here)
 
-    first_few : one_more s.begun.count ≤ 1 → length (done ++ (next ∷ []) ∷ []) ≤ one_more s.begun.count
-    first_few more = rw (snoc_size done (next ∷ [])) (few_begun s.begun.count (length done) good.few more)
+  goes_on : (done : List (List Shown)) (x : Shown) (xs : List Shown) (s : State) → Reads done (x ∷ xs) s → GoesOn done (x ∷ xs) s
+  goes_on done x xs s good = record {
+    which_is = good.which_is;
+    between = good.between;
+    ahead = omega (arith, good.ahead, snoc_size done (x ∷ xs));
+    here = λ here. subst (Holds s.wanted) (pick_snoc which done (x ∷ xs) ∙ if_true (is_here which (length done)) (x ∷ xs) (pick which done) here) good.wanted;
+    away = λ away. subst (Holds s.wanted) (pick_snoc which done (x ∷ xs) ∙ if_false (is_here which (length done)) (x ∷ xs) (pick which done) away) good.wanted;
+    few = λ less. let le = good.few less in omega (arith, le, snoc_size done (x ∷ xs));
+    most = omega (arith, good.most, snoc_size done (x ∷ xs));
+  }
 
-    first_ahead : is_last which ≡ false → s.ahead - 1 ≡ number_of which - length (done ++ (next ∷ []) ∷ [])
-    first_ahead is = let e = good.ahead is in rw (snoc_size done (next ∷ [])) (omega (arith, e))
+  begun_goes_on : (done : List (List Shown)) (now : List Shown) (s : State) (line : ℕ) → Reads done now s → GoesOn done now (begun_at s line)
+  begun_goes_on done [] s line good = subst (GoesOn done []) (sym (if_true s.between (opened s line) s good.between)) (opens done s line good)
+  begun_goes_on done (x ∷ xs) s line good = subst (GoesOn done (x ∷ xs)) (sym (if_false s.between (opened s line) s good.between)) (goes_on done x xs s good)
 
-    begins_last : is_last which ≡ true → Reads done (next ∷ []) (with_shown (begun_at s line) next)
-    begins_last is =
-        let e : with_shown (begun_at s line) next ≡ record s { begun = begun_with s.begun line; under_way = Wanted; wanted = settled_with nothing_settled next } = rw (began, good.which_is, is) refl in
-        subst (Reads done (next ∷ [])) (sym e) (record {
-          which_is = good.which_is;
-          way = rw is refl;
-          ahead = λ other. absurd (true_false (sym is ∙ other));
-          wanted = rw (is, last_snoc done (next ∷ [])) (settles_more nothing_settled [] settles_nothing next order);
-          few = first_few;
-        })
+  -- what a line shows of the map under way
+  module _ (done : List (List Shown)) (now : List Shown) (s : State) (next : Shown) (order : IsOrdered next) (good : GoesOn done now s) where
+    same_test : (is_last s.which || s.ahead == 1) ≡ is_here which (length done)
+    same_test = ap (λ w. is_last w || s.ahead == 1) good.which_is ∙ ap (λ n. is_last which || n == 1) good.ahead ∙ ap (λ b. is_last which || b) (one_left (number_of which) (length done))
       where
-        true_false : true ≡ false → ⊥
-        true_false e = cc e
+        one_left : (number size : ℕ) → (number - size == 1) ≡ (number == size + 1)
+        one_left number size = elim (cases_Bool (number == size + 1)) [
+          | inl hit ↦ let e : (number - size == 1) ≡ true = grind (arith, nat_tests, hit) in e ∙ sym hit
+          | inr miss ↦ let e : (number - size == 1) ≡ false = grind (arith, nat_tests, miss) in e ∙ sym miss
+        ]
 
-    begins_here : is_last which ≡ false → (number_of which == length done + 1) ≡ true → Reads done (next ∷ []) (with_shown (begun_at s line) next)
-    begins_here is here =
-        let one : (s.ahead == 1) ≡ true = rw (good.ahead is) (ahead_one (number_of which) (length done) here) in
-        let e : with_shown (begun_at s line) next ≡ record s { begun = begun_with s.begun line; under_way = Wanted; ahead = s.ahead - 1; wanted = settled_with s.wanted next } = rw (began, good.which_is, is, one) refl in
-        let empty : IsSettled s.wanted [] = rw (is, map_at_beyond (number_of which) done (beyond (number_of which) (length done) here)) at good.wanted in
-        subst (Reads done (next ∷ [])) (sym e) (record {
-          which_is = good.which_is;
-          way = rw (is, here) refl;
-          ahead = first_ahead;
-          wanted = rw (is, map_at_snoc (number_of which) done (next ∷ []), here) (settles_more s.wanted [] empty next order);
-          few = first_few;
-        })
-      where
-        ahead_one : (number size : ℕ) → (number == size + 1) ≡ true → (number - size == 1) ≡ true
-        ahead_one number size here = grind (arith, nat_tests, here)
+    size : length (added done (now ++ next ∷ [])) ≡ length done + 1
+    size = ap length (added_snoc done now next) ∙ snoc_size done (now ++ next ∷ [])
 
-        beyond : (number size : ℕ) → (number == size + 1) ≡ true → size < number
-        beyond number size here = grind (arith, nat_tests, here)
+    -- a reader in which just what the wanted map's lines come to has changed
+    behind : (settled : Settled) → Holds settled (pick which (added done (now ++ next ∷ []))) → Reads done (now ++ next ∷ []) (record s { wanted = settled })
+    behind settled holds = record {
+      which_is = good.which_is;
+      between = good.between ∙ sym (none_snoc now next);
+      ahead = omega (arith, good.ahead, size);
+      wanted = holds;
+      few = λ less. let le = good.few less in omega (arith, le, size);
+      most = omega (arith, good.most, size);
+    }
 
-    begins_other : is_last which ≡ false → (number_of which == length done + 1) ≡ false → Reads done (next ∷ []) (with_shown (begun_at s line) next)
-    begins_other is away =
-        let none : (s.ahead == 1) ≡ false = rw (good.ahead is) (ahead_none (number_of which) (length done) away) in
-        let e : with_shown (begun_at s line) next ≡ record s { begun = begun_with s.begun line; under_way = Other; ahead = s.ahead - 1 } = rw (began, good.which_is, is, none) refl in
-        let old : IsSettled s.wanted (map_at (number_of which) done) = rw is at good.wanted in
-        subst (Reads done (next ∷ [])) (sym e) (record {
-          which_is = good.which_is;
-          way = rw (is, away) refl;
-          ahead = first_ahead;
-          wanted = rw (is, map_at_snoc (number_of which) done (next ∷ []), away) old;
-          few = first_few;
-        })
-      where
-        ahead_none : (number size : ℕ) → (number == size + 1) ≡ false → (number - size == 1) ≡ false
-        ahead_none number size away = grind (arith, nat_tests, away)
+    picks : pick which (added done (now ++ next ∷ [])) ≡ (if is_here which (length done) then now ++ next ∷ [] else pick which done)
+    picks = ap (pick which) (added_snoc done now next) ∙ pick_snoc which done (now ++ next ∷ [])
 
-    begins_map_of : Reads done (next ∷ []) (with_shown (begun_at s line) next)
-    begins_map_of = elim (cases_Bool (is_last which)) [
-      | inl is ↦ begins_last is
-      | inr is ↦ elim (cases_Bool (number_of which == length done + 1)) [
-        | inl here ↦ begins_here is here
-        | inr away ↦ begins_other is away
-      ]
+    shown_reads : Reads done (now ++ next ∷ []) (with_shown s next)
+    shown_reads = elim (cases_Bool (is_here which (length done))) [
+      | inl here ↦
+          let holds = holds_more s.wanted now next order (good.here here) in
+          let at = picks ∙ if_true (is_here which (length done)) (now ++ next ∷ []) (pick which done) here in
+          subst (Reads done (now ++ next ∷ [])) (sym (if_true (is_last s.which || s.ahead == 1) (record s { wanted = settled_with s.wanted next }) s (same_test ∙ here)))
+          (behind (settled_with s.wanted next) (subst (Holds (settled_with s.wanted next)) (sym at) holds))
+      | inr away ↦
+          let at = picks ∙ if_false (is_here which (length done)) (now ++ next ∷ []) (pick which done) away in
+          subst (Reads done (now ++ next ∷ [])) (sym (if_false (is_last s.which || s.ahead == 1) (record s { wanted = settled_with s.wanted next }) s (same_test ∙ away)))
+          (behind s.wanted (subst (Holds s.wanted) (sym at) (good.away away)))
     ]
-
-  -- a map goes on
-  module _ (done : List (List Shown)) (first : Shown) (now : List Shown) (s : State) (next : Shown) (line : ℕ) (order : IsOrdered next) (good : Reads done (first ∷ now) s) where
-    same_size : length (done ++ (first ∷ now ++ next ∷ []) ∷ []) ≡ length (done ++ (first ∷ now) ∷ [])
-    same_size = snoc_size done (first ∷ now ++ next ∷ []) ∙ sym (snoc_size done (first ∷ now))
-
-    -- it is wanted, or not
-    goes_wanted : s.under_way ≡ Wanted → IsSettled s.wanted (first ∷ now) → pick (is_last which) (number_of which) (done ++ (first ∷ now ++ next ∷ []) ∷ []) ≡ first ∷ now ++ next ∷ []
-        → Reads done (first ∷ now ++ next ∷ []) (with_shown (begun_at s line) next)
-    goes_wanted is settled picks =
-        let e : with_shown (begun_at s line) next ≡ record s { wanted = settled_with s.wanted next } = rw is refl in
-        subst (Reads done (first ∷ now ++ next ∷ [])) (sym e) (record {
-          which_is = good.which_is;
-          way = good.way;
-          ahead = λ other. good.ahead other ∙ ap (λ n. number_of which - n) (sym same_size);
-          wanted = rw picks (settles_more s.wanted (first ∷ now) settled next order);
-          few = λ less. rw same_size (good.few less);
-        })
-
-    goes_other : s.under_way ≡ Other → pick (is_last which) (number_of which) (done ++ (first ∷ now) ∷ []) ≡ pick (is_last which) (number_of which) (done ++ (first ∷ now ++ next ∷ []) ∷ [])
-        → Reads done (first ∷ now ++ next ∷ []) (with_shown (begun_at s line) next)
-    goes_other is same =
-        let e : with_shown (begun_at s line) next ≡ s = rw is refl in
-        subst (Reads done (first ∷ now ++ next ∷ [])) (sym e) (record {
-          which_is = good.which_is;
-          way = good.way;
-          ahead = λ other. good.ahead other ∙ ap (λ n. number_of which - n) (sym same_size);
-          wanted = subst (IsSettled s.wanted) same good.wanted;
-          few = λ less. rw same_size (good.few less);
-        })
-
-    goes_on_map : Reads done (first ∷ now ++ next ∷ []) (with_shown (begun_at s line) next)
-    goes_on_map = elim (cases_Bool (is_last which)) [
-      | inl is ↦
-          let old : IsSettled s.wanted (first ∷ now) = rw (is, last_snoc done (first ∷ now)) at good.wanted in
-          goes_wanted (good.way ∙ rw is refl) old (rw is (last_snoc done (first ∷ now ++ next ∷ [])))
-      | inr is ↦ elim (cases_Bool (number_of which == length done + 1)) [
-        | inl here ↦
-            let old : IsSettled s.wanted (first ∷ now) = rw (is, map_at_snoc (number_of which) done (first ∷ now), here) at good.wanted in
-            goes_wanted (good.way ∙ rw (is, here) refl) old (rw (is, map_at_snoc (number_of which) done (first ∷ now ++ next ∷ []), here) refl)
-        | inr away ↦
-            goes_other (good.way ∙ rw (is, away) refl)
-            (rw (is, map_at_snoc (number_of which) done (first ∷ now), map_at_snoc (number_of which) done (first ∷ now ++ next ∷ []), away) refl)
-      ]
-    ]
-
-  entry_reads : (done : List (List Shown)) (now : List Shown) (s : State) (next : Shown) (line : ℕ) → IsOrdered next → Reads done now s
-      → Reads done (now ++ next ∷ []) (with_shown (begun_at s line) next)
-  entry_reads done [] s next line order good = begins_map_of done s next line order good
-  entry_reads done (first ∷ now) s next line order good = goes_on_map done first now s next line order good
 
   -- ---- lines
 
-  abbrev ReadsCut : Cut → State → Type 0
-  ReadsCut cut s = Reads cut.done cut.now s
+  record ReadsCut (cut : Cut) (s : State) : Type 0 where
+    reads : Reads cut.done cut.now s
+    low : s.low ≡ cut.low
 
-  headed_reads : (cut : Cut) (s : State) (format : Format) (begins : Bool) → ReadsCut cut s → ReadsCut (cut_at begins cut) (headed s format begins)
-  headed_reads cut s format true good = record { which_is = good.which_is; way = refl; ahead = good.ahead; wanted = good.wanted; few = good.few }
-  headed_reads cut s format false good = record { which_is = good.which_is; way = good.way; ahead = good.ahead; wanted = good.wanted; few = good.few }
+  headed_count : (begun : MapsBegun) (format : Format) (number : ℕ) (line : List ℕ) → (begun_behind begun format number line).count ≡ begun.count
+  headed_count begun format number line = by (begun.broken == 0 && breaks_off format line)
+    where
+      by : (test : Bool) → (if test then record begun { broken = number } else begun).count ≡ begun.count
+      by true = refl
+      by false = refl
 
-  shown_reads : (cut : Cut) (s : State) (shown : Shown) (number : ℕ) → IsOrdered shown → ReadsCut cut s → ReadsCut (cut_with cut shown) (taken_shown s shown number)
-  shown_reads cut s Nothing number order good = good
-  shown_reads cut s (Range claim) number order good = entry_reads cut.done cut.now s (Range claim) number order good
-  shown_reads cut s (Fault fault) number order good = entry_reads cut.done cut.now s (Fault fault) number order good
+  headed_reads : (cut : Cut) (s : State) (format : Format) (number : ℕ) (line : List ℕ) (shown : Shown) → ReadsCut cut s
+      → Reads (cut_at (begins_map format cut.low line shown) cut).done (cut_at (begins_map format cut.low line shown) cut).now (headed s format number line shown)
+  headed_reads cut s format number line shown good = by (begins_map format cut.low line shown) (ap (λ low. begins_map format low line shown) good.low)
+    where
+      reads : Reads cut.done cut.now s
+      reads = good.reads
 
-  line_reads : (format : Format) (cut : Cut) (s : State) (number : ℕ) (line : List ℕ) → ReadsCut cut s → ReadsCut (cut_line format cut number line) (taken_in s (Some format) number line)
-  line_reads format cut s number line good =
-      shown_reads (cut_at (begins_map format line) cut) (headed s format (begins_map format line)) (shown_in format number line) number (shown_order format number line)
-      (headed_reads cut s format (begins_map format line) good)
+      count : (begun_behind s.begun format number line).count ≡ s.begun.count
+      count = headed_count s.begun format number line
+
+      few : (begun_behind s.begun format number line).count ≤ 1 → length (added cut.done cut.now) ≤ (begun_behind s.begun format number line).count
+      few less = subst (λ n. length (added cut.done cut.now) ≤ n) (sym count) (reads.few (subst (λ n. n ≤ 1) count less))
+
+      most : (begun_behind s.begun format number line).count ≤ length (added cut.done cut.now)
+      most = subst (λ n. n ≤ length (added cut.done cut.now)) (sym count) reads.most
+
+      by : (begins : Bool) → begins_map format s.low line shown ≡ begins → Reads (cut_at begins cut).done (cut_at begins cut).now (headed s format number line shown)
+      by true is = record {
+        which_is = reads.which_is;
+        between = rw is refl;
+        ahead = reads.ahead;
+        wanted = reads.wanted;
+        few = few;
+        most = most;
+      }
+      by false is = record {
+        which_is = reads.which_is;
+        between = rw is reads.between;
+        ahead = reads.ahead;
+        wanted = reads.wanted;
+        few = few;
+        most = most;
+      }
+
+-- what a shown range leaves as it is
+record Keeps (old new : State) : Type 0 where
+  format : new.format ≡ old.format
+  low : new.low ≡ old.low
+  broken : new.begun.broken ≡ old.begun.broken
+
+begun_keeps : (s : State) (line : ℕ) → Keeps s (begun_at s line)
+begun_keeps s line = by s.between
+  where
+    by : (between : Bool) → Keeps s (if between then opened s line else s)
+    by true = record { format = refl; low = refl; broken = refl }
+    by false = record { format = refl; low = refl; broken = refl }
+
+entry_keeps : (s : State) (line : ℕ) (shown : Shown) → Keeps s (with_shown (begun_at s line) shown)
+entry_keeps s line shown = by (is_last (begun_at s line).which || (begun_at s line).ahead == 1) (begun_keeps s line)
+  where
+    by : (wanted : Bool) → Keeps s (begun_at s line) → Keeps s (if wanted then record (begun_at s line) { wanted = settled_with (begun_at s line).wanted shown } else begun_at s line)
+    by true keeps = record { format = keeps.format; low = keeps.low; broken = keeps.broken }
+    by false keeps = keeps
+
+shown_keeps : (s : State) (shown : Shown) (line : ℕ) → Keeps s (taken_shown s shown line)
+shown_keeps s Nothing line = record { format = refl; low = refl; broken = refl }
+shown_keeps s (Range claim) line = entry_keeps s line (Range claim)
+shown_keeps s (Fault fault) line = entry_keeps s line (Fault fault)
+
+cut_low : (begins : Bool) (cut : Cut) → (cut_at begins cut).low ≡ cut.low
+cut_low true cut = refl
+cut_low false cut = refl
+
+line_reads : (which : WhichMap) (format : Format) (cut : Cut) (s : State) (number : ℕ) (line : List ℕ) → ReadsCut which cut s → ReadsCut which (cut_line format cut number line) (taken_in s (Some format) number line)
+line_reads which format cut s number line good = by (shown_in format number line) (shown_order format number line)
+  where
+    by : (shown : Shown) → IsOrdered shown → ReadsCut which (cut_shown format cut line shown) (taken_shown (headed s format number line shown) shown number)
+    by Nothing order = record { reads = headed_reads which cut s format number line Nothing good; low = good.low ∙ sym (cut_low (begins_map format cut.low line Nothing) cut) }
+    by (Range claim) order =
+        let at = cut_at (begins_map format cut.low line (Range claim)) cut in
+        let s = headed s format number line (Range claim) in
+        record {
+          reads =
+              shown_reads which at.done at.now (begun_at s number) (Range claim) order
+              (begun_goes_on which at.done at.now s number (headed_reads which cut _ format number line (Range claim) good));
+          low = (entry_keeps s number (Range claim)).low;
+        }
+    by (Fault fault) order =
+        let at = cut_at (begins_map format cut.low line (Fault fault)) cut in
+        let s = headed s format number line (Fault fault) in
+        record {
+          reads =
+              shown_reads which at.done at.now (begun_at s number) (Fault fault) order
+              (begun_goes_on which at.done at.now s number (headed_reads which cut _ format number line (Fault fault) good));
+          low = (entry_keeps s number (Fault fault)).low ∙ good.low ∙ sym (cut_low (begins_map format cut.low line (Fault fault)) cut);
+        }
 
 -- ---- formats
 
@@ -379,49 +367,114 @@ not_shown (Fault fault) is = cc is
 untold_cut : (f : Format) (cut : Cut) (number : ℕ) (line : List ℕ) → format_told number line ≡ None → cut_line f cut number line ≡ cut
 unfolding told_in
 untold_cut f cut number line none =
-    let parts = neither (begins_map f line) (is_shown (shown_in f number line)) (untold f number line none) in
-    rw (parts.0, not_shown (shown_in f number line) parts.1) refl
+    let parts = neither (has_title f line) (is_shown (shown_in f number line)) (untold f number line none) in
+    ap (cut_shown f cut line) (not_shown (shown_in f number line) parts.1) ∙ (rw parts.0 refl)
 
 known_stays : (f : Format) (number : ℕ) (lines : List (List ℕ)) → log_format (Some f) number lines ≡ Some f
 known_stays f number [] = refl
 known_stays f number (line ∷ lines) = known_stays f (number + 1) lines
-
-begun_format : (s : State) (number : ℕ) → (begun_at s number).format ≡ s.format
-begun_format s number = by (is_between s.under_way) (is_last s.which)
-  where
-    by : (between last : Bool)
-        → (if between
-        then (if last then record s { begun = begun_with s.begun number; under_way = Wanted; wanted = nothing_settled }
-        else record s { begun = begun_with s.begun number; under_way = if s.ahead == 1 then Wanted else Other; ahead = s.ahead - 1 })
-        else s).format ≡ s.format
-    by true true = refl
-    by true false = refl
-    by false last = refl
-
-entry_format : (s : State) (shown : Shown) → (with_shown s shown).format ≡ s.format
-entry_format s shown = by (is_wanted s.under_way)
-  where
-    by : (wanted : Bool) → (if wanted then record s { wanted = settled_with s.wanted shown } else s).format ≡ s.format
-    by true = refl
-    by false = refl
-
-shown_format : (s : State) (shown : Shown) (number : ℕ) → (taken_shown s shown number).format ≡ s.format
-shown_format s Nothing number = refl
-shown_format s (Range claim) number = entry_format (begun_at s number) (Range claim) ∙ begun_format s number
-shown_format s (Fault fault) number = entry_format (begun_at s number) (Fault fault) ∙ begun_format s number
-
-line_format : (s : State) (format : Format) (number : ℕ) (line : List ℕ) → (taken_in s (Some format) number line).format ≡ Some format
-line_format s format number line = shown_format (headed s format (begins_map format line)) (shown_in format number line) number
 
 -- a line that tells no format was read without one
 untold_none : (known : Option Format) (number : ℕ) (line : List ℕ) → chosen known number line ≡ None → (known ≡ None) × (format_told number line ≡ None)
 untold_none None number line is = (refl, is)
 untold_none (Some f) number line is = absurd (none_some is refl)
 
--- ---- the end
+-- ---- a reader behind lines
 
-abbrev map_in : Format → Settled → MemoryMap
-map_in f s = record { format = f; ranges = record { items = joined (ranges_of s.pieces) }; overlap = s.overlap }
+abbrev AreShort : List (List ℕ) → Type 0
+AreShort lines = AllByRecursion (λ line. is_too_long line ≡ false) lines
+
+abbrev after : State → ℕ → List (List ℕ) → State
+after s number [] = s
+after s number (line ∷ lines) = after (taken_in s (chosen s.format number line) number line) (number + 1) lines
+
+module _ (end : Place) where
+  ends_short : (lines : List (List ℕ)) (number : ℕ) (s : State) (found : MemoryMap) → log_from s number lines end ≡ Ok found → AreShort lines
+  ends_short [] number s found is = tt
+  ends_short (line ∷ lines) number s found is = by (is_too_long line) refl is (λ e. ends_short lines (number + 1) (taken_in s (chosen s.format number line) number line) found e)
+    where
+      by : (long : Bool) → is_too_long line ≡ long
+          → and_then (if long then Err (LongLine (past_limit number)) else Ok (taken_in s (chosen s.format number line) number line)) (λ n. log_from n (number + 1) lines end) ≡ Ok found
+          → (log_from (taken_in s (chosen s.format number line) number line) (number + 1) lines end ≡ Ok found → AreShort lines) → (is_too_long line ≡ false) × AreShort lines
+      by true long e go = cc e
+      by false short e go = (short, go e)
+
+  ends_at : (lines : List (List ℕ)) (number : ℕ) (s : State) → AreShort lines → log_from s number lines end ≡ finished (after s number lines)
+  ends_at [] number s short = refl
+  ends_at (line ∷ lines) number s short =
+      let next = taken_in s (chosen s.format number line) number line in
+      let first : log_from s number (line ∷ lines) end ≡ log_from next (number + 1) lines end = rw short.0 refl in
+      first ∙ ends_at lines (number + 1) next short.1
+
+next_format : (s : State) (number : ℕ) (line : List ℕ) → (taken_in s (chosen s.format number line) number line).format ≡ chosen s.format number line
+next_format s number line = by (chosen s.format number line) refl
+  where
+    by : (known : Option Format) → chosen s.format number line ≡ known → (taken_in s known number line).format ≡ known
+    by None chose = (untold_none s.format number line chose).0
+    by (Some f) chose = (shown_keeps (headed s f number line (shown_in f number line)) (shown_in f number line) number).format
+
+after_format : (lines : List (List ℕ)) (number : ℕ) (s : State) → (after s number lines).format ≡ log_format s.format number lines
+after_format [] number s = refl
+after_format (line ∷ lines) number s =
+    after_format lines (number + 1) (taken_in s (chosen s.format number line) number line) ∙ ap (λ known. log_format known (number + 1) lines) (next_format s number line)
+
+after_reads : (which : WhichMap) (f : Format) (lines : List (List ℕ)) (number : ℕ) (cut : Cut) (s : State) → log_format s.format number lines ≡ Some f → ReadsCut which cut s
+    → ReadsCut which (cut_lines f cut number lines) (after s number lines)
+after_reads which f [] number cut s told good = good
+after_reads which f (line ∷ lines) number cut s told good =
+    after_reads which f lines (number + 1) (cut_line f cut number line) (taken_in s (chosen s.format number line) number line)
+    (ap (λ known. log_format known (number + 1) lines) (next_format s number line) ∙ told) (by (chosen s.format number line) refl told)
+  where
+    by : (known : Option Format) → chosen s.format number line ≡ known → log_format known (number + 1) lines ≡ Some f → ReadsCut which (cut_line f cut number line) (taken_in s known number line)
+    by None chose told = subst (λ c. ReadsCut which c s) (sym (untold_cut f cut number line (untold_none s.format number line chose).1)) good
+    by (Some g) chose told =
+        let stays = known_stays g (number + 1) lines in
+        let same : g ≡ f = cc (stays, told) in
+        subst (λ h. ReadsCut which (cut_line f cut number line) (taken_in s (Some h) number line)) (sym same) (line_reads which f cut s number line good)
+
+after_broken : (lines : List (List ℕ)) (number : ℕ) (s : State) → 1 ≤ number → (after s number lines).begun.broken ≡ (if s.begun.broken == 0 then first_broken s.format number lines else s.begun.broken)
+after_broken [] number s some = kept s.begun.broken
+  where
+    kept : (n : ℕ) → n ≡ (if n == 0 then 0 else n)
+    kept n = elim (cases_Bool (n == 0)) [
+      | inl zero ↦ rw zero (eq n zero)
+      | inr more ↦ rw more refl
+    ]
+      where
+        eq : (n : ℕ) → (n == 0) ≡ true → n ≡ 0
+        eq n is = grind (arith, nat_tests, is)
+after_broken (line ∷ lines) number s some =
+    let next = taken_in s (chosen s.format number line) number line in
+    let rest = after_broken lines (number + 1) next (omega arith) in
+    rest ∙ ap (λ known. if next.begun.broken == 0 then first_broken known (number + 1) lines else next.begun.broken) (next_format s number line)
+    ∙ ap (λ n. if n == 0 then first_broken (chosen s.format number line) (number + 1) lines else n) (told (chosen s.format number line) refl)
+    ∙ by (s.begun.broken == 0) refl (breaks_in (chosen s.format number line) line)
+  where
+    told : (known : Option Format) → chosen s.format number line ≡ known → (taken_in s known number line).begun.broken ≡ (if s.begun.broken == 0 && breaks_in known line then number else s.begun.broken)
+    told None chose = none (s.begun.broken == 0)
+      where
+        none : (b : Bool) → s.begun.broken ≡ (if b && false then number else s.begun.broken)
+        none true = refl
+        none false = refl
+    told (Some f) chose = (shown_keeps (headed s f number line (shown_in f number line)) (shown_in f number line) number).broken ∙ on (s.begun.broken == 0 && breaks_off f line)
+      where
+        on : (b : Bool) → (if b then record s.begun { broken = number } else s.begun).broken ≡ (if b then number else s.begun.broken)
+        on true = refl
+        on false = refl
+
+    later : ℕ
+    later = first_broken (chosen s.format number line) (number + 1) lines
+
+    not_zero : (n : ℕ) → 1 ≤ n → (n == 0) ≡ false
+    not_zero n some = grind (arith, nat_tests, some)
+
+    by : (zero : Bool) → (s.begun.broken == 0) ≡ zero → (breaks : Bool)
+        → (if (if zero && breaks then number else s.begun.broken) == 0 then later else (if zero && breaks then number else s.begun.broken)) ≡ (if zero then (if breaks then number else later) else s.begun.broken)
+    by true is true = rw (not_zero number some) refl
+    by true is false = rw is refl
+    by false is breaks = rw is refl
+
+-- ---- the end
 
 -- what a reader finished with
 record Finishes (s : State) (found : MemoryMap) : Type 0 where
@@ -429,6 +482,11 @@ record Finishes (s : State) (found : MemoryMap) : Type 0 where
   sole : (is_sole s.which && nat_lt 1 s.begun.count) ≡ false
   is_format : s.format ≡ Some found.format
   ranges : found.ranges.items ≡ joined (ranges_of s.wanted.pieces)
+  overlap : found.overlap ≡ s.wanted.overlap
+  broken : found.broken ≡ s.begun.broken
+
+abbrev map_in : State → Format → MemoryMap
+map_in s f = record { format = f; ranges = record { items = joined (ranges_of s.wanted.pieces) }; overlap = s.wanted.overlap; broken = s.begun.broken }
 
 finishes : (s : State) (found : MemoryMap) → finished s ≡ Ok found → Finishes s found
 finishes s found is = by s.wanted.fault refl is
@@ -438,12 +496,14 @@ finishes s found is = by s.wanted.fault refl is
     last None known none size clean sole e = cc e
     last (Some f) known true size clean sole e = let wrong = rw size at e in cc wrong
     last (Some f) known false size clean sole e =
-        let same : map_in f s.wanted ≡ found = let here = rw size at e in cc here in
+        let same : map_in s f ≡ found = let here = rw size at e in cc here in
         record {
           clean = clean;
           sole = sole;
           is_format = known ∙ ap (λ (m : MemoryMap). Some m.format) same;
           ranges = ap (λ (m : MemoryMap). m.ranges.items) (sym same);
+          overlap = ap (λ (m : MemoryMap). m.overlap) (sym same);
+          broken = ap (λ (m : MemoryMap). m.broken) (sym same);
         }
 
     more : (several : Bool) → (is_sole s.which && nat_lt 1 s.begun.count) ≡ several → s.wanted.fault ≡ None
@@ -455,87 +515,152 @@ finishes s found is = by s.wanted.fault refl is
     by (Some fault) clean e = cc e
     by None clean e = more (is_sole s.which && nat_lt 1 s.begun.count) refl clean e
 
--- the lines lead a reader to one that finishes
-module _ (which : WhichMap) (end : Place) (found : MemoryMap) where
-  ends_format : (lines : List (List ℕ)) (number : ℕ) (s : State) → log_from s number lines end ≡ Ok found → log_format s.format number lines ≡ Some found.format
-  ends_format [] number s is = (finishes s found is).is_format
-  ends_format (line ∷ lines) number s is = by (is_too_long line) (chosen s.format number line) refl is (λ next e. ends_format lines (number + 1) next e)
-    where
-      by : (long : Bool) (known : Option Format) → chosen s.format number line ≡ known
-          → and_then (if long then Err (LongLine (past_limit number)) else Ok (taken_in s known number line)) (λ next. log_from next (number + 1) lines end) ≡ Ok found
-          → ((next : State) → log_from next (number + 1) lines end ≡ Ok found → log_format next.format (number + 1) lines ≡ Some found.format) → log_format known (number + 1) lines ≡ Some found.format
-      by true known chose e go = cc e
-      by false None chose e go = subst (λ k. log_format k (number + 1) lines ≡ Some found.format) (untold_none s.format number line chose).0 (go s e)
-      by false (Some f) chose e go = subst (λ k. log_format k (number + 1) lines ≡ Some found.format) (line_format s f number line) (go (taken_in s (Some f) number line) e)
+starting : (named : Option Format) (which : WhichMap) → ReadsCut which nothing_cut (starts named which)
+starting named which = record {
+  reads = record {
+    which_is = refl;
+    between = refl;
+    ahead = omega arith;
+    wanted = subst (Holds nothing_settled) (nothing_picked (is_last which)) holds_nothing;
+    few = λ less. omega arith;
+    most = omega arith;
+  };
+  low = refl;
+}
+  where
+    nothing_picked : (last : Bool) → [] ≡ (if last then last_of [] else map_at (number_of which) [])
+    nothing_picked true = refl
+    nothing_picked false = refl
 
-  -- the last state, behind lines of which this is what they show
-  record LastState (cut : Cut) : Type 0 where
-    s : State
-    reads : ReadsCut which cut s
-    ends : Finishes s found
+-- a reader behind all lines of a log, of which this is the format
+module _ (named : Option Format) (which : WhichMap) (lines : List (List ℕ)) (format : Format) (told : log_format named 1 lines ≡ Some format) where
+  abbrev last : State
+  last = after (starts named which) 1 lines
 
-  ends_reads : (lines : List (List ℕ)) (number : ℕ) (cut : Cut) (s : State) → log_format s.format number lines ≡ Some found.format → log_from s number lines end ≡ Ok found
-      → ReadsCut which cut s → LastState (cut_lines found.format cut number lines)
-  ends_reads [] number cut s told is good = record { s = s; reads = good; ends = finishes s found is }
-  ends_reads (line ∷ lines) number cut s told is good =
-      by (is_too_long line) (chosen s.format number line) refl is told (λ next behind known e reads. ends_reads lines (number + 1) behind next known e reads)
-    where
-      by : (long : Bool) (known : Option Format) → chosen s.format number line ≡ known
-          → and_then (if long then Err (LongLine (past_limit number)) else Ok (taken_in s known number line)) (λ next. log_from next (number + 1) lines end) ≡ Ok found
-          → log_format known (number + 1) lines ≡ Some found.format
-          → ((next : State) (behind : Cut) → log_format next.format (number + 1) lines ≡ Some found.format → log_from next (number + 1) lines end ≡ Ok found
-          → ReadsCut which behind next → LastState (cut_lines found.format behind (number + 1) lines))
-          → LastState (cut_lines found.format (cut_line found.format cut number line) (number + 1) lines)
-      by true known chose e told go = cc e
-      by false None chose e told go =
-          let none = untold_none s.format number line chose in
-          subst (λ c. LastState (cut_lines found.format c (number + 1) lines)) (sym (untold_cut found.format cut number line none.1))
-          (go s cut (subst (λ k. log_format k (number + 1) lines ≡ Some found.format) (sym none.0) told) e good)
-      by false (Some f) chose e told go =
-          let stays = known_stays f (number + 1) lines in
-          let same : f ≡ found.format = cc (stays, told) in
-          let reads : ReadsCut which (cut_line found.format cut number line) (taken_in s (Some f) number line) =
-          subst (λ g. ReadsCut which (cut_line found.format cut number line) (taken_in s (Some g) number line)) (sym same) (line_reads which found.format cut s number line good) in
-          go (taken_in s (Some f) number line) (cut_line found.format cut number line) (subst (λ k. log_format k (number + 1) lines ≡ Some found.format) (sym (line_format s f number line)) told) e reads
+  last_reads : ReadsCut which (cut_lines format nothing_cut 1 lines) last
+  last_reads = after_reads which format lines 1 nothing_cut (starts named which) told (starting named which)
 
-picked_is : (which : WhichMap) (maps : List (List Shown)) → pick (is_last which) (number_of which) maps ≡ picked which maps
-picked_is which_map.Sole maps = refl
-picked_is which_map.Last maps = refl
-picked_is (which_map.Number number) maps = refl
+  abbrev maps : List (List Shown)
+  maps = maps_in (cut_lines format nothing_cut 1 lines)
+
+  last_holds : Holds last.wanted (picked which maps)
+  last_holds = subst (Holds last.wanted) (picked_is which maps) last_reads.reads.wanted
 
 pub maps_are_shown : MapsAreShown
 maps_are_shown named which text found is =
-    let told = ends_format which (end_of text) found (lines_of text) 1 (starts named which) is in
-    let last = ends_reads which (end_of text) found (lines_of text) 1 nothing_cut (starts named which) told is starting in
-    let cut = cut_lines found.format nothing_cut 1 (lines_of text) in
-    let good = last.reads in
-    let ends = last.ends in
-    let ascending = good.wanted.ascending in
+    let lines = lines_of text in
+    let s = after (starts named which) 1 lines in
+    let short = ends_short (end_of text) lines 1 (starts named which) found is in
+    let ends = finishes s found (sym (ends_at (end_of text) lines 1 (starts named which) short) ∙ is) in
+    let told = sym (after_format lines 1 (starts named which)) ∙ ends.is_format in
+    let reads = (last_reads named which lines found.format told).reads in
+    let settled = (last_holds named which lines found.format told).settled in
+    let clean = settled.clean ends.clean in
     record {
-      ascending = rw ends.ranges (joined_order (ranges_of last.s.wanted.pieces) ascending);
-      longest = rw ends.ranges (joined_longest (ranges_of last.s.wanted.pieces));
+      short = short;
       format = told;
-      sole = λ same. one_map last.s.begun.count (length (maps_in cut)) good.few (one_begun last.s (good.which_is ∙ same) ends.sole);
-      kinds = λ byte.
-          ap (λ ranges. kind_at ranges byte) ends.ranges ∙ joined_is_same (ranges_of last.s.wanted.pieces) byte ascending
-          ∙ good.wanted.kinds ends.clean byte ∙ ap (λ shown. kind_shown None shown byte) (picked_is which (maps_in cut));
+      sole = λ same.
+          one_map s.begun.count (length (maps_in (cut_lines found.format nothing_cut 1 lines))) reads.few (one_begun s (reads.which_is ∙ same) ends.sole);
+      settled = record {
+        no_fault = clean.no_fault;
+        ascending = rw ends.ranges (joined_order (ranges_of s.wanted.pieces) settled.ascending);
+        longest = rw ends.ranges (joined_longest (ranges_of s.wanted.pieces));
+        kinds = λ byte. ap (λ ranges. kind_at ranges byte) ends.ranges ∙ joined_is_same (ranges_of s.wanted.pieces) byte settled.ascending ∙ clean.kinds byte;
+        overlap = rw ends.overlap clean.overlap;
+      };
+      broken = ends.broken ∙ after_broken lines 1 (starts named which) (omega arith);
     }
   where
-    starting : ReadsCut which nothing_cut (starts named which)
-    starting = record {
-      which_is = refl;
-      way = refl;
-      ahead = λ other. omega arith;
-      wanted = subst (IsSettled nothing_settled) (nothing_picked (is_last which)) settles_nothing;
-      few = λ less. omega arith;
-    }
-      where
-        nothing_picked : (last : Bool) → [] ≡ pick last (number_of which) []
-        nothing_picked true = refl
-        nothing_picked false = refl
-
     one_begun : (s : State) → s.which ≡ which_map.Sole → (is_sole s.which && nat_lt 1 s.begun.count) ≡ false → s.begun.count ≤ 1
     one_begun s sole test = let e : nat_lt 1 s.begun.count ≡ false = rw sole at test in grind (arith, nat_tests, e)
 
     one_map : (count size : ℕ) → (count ≤ 1 → size ≤ count) → count ≤ 1 → size ≤ 1
     one_map count size bound less = let le = bound less in omega (arith, le, less)
+
+-- ---- ranges in ascending order
+
+-- pieces that lie below a range stay as they are
+laid_above : (claim : Claim) (pieces : List Claim) (low : ℕ) → AreAscending low (ranges_of (pieces ++ claim ∷ [])) → (laid claim pieces ≡ pieces ++ claim ∷ []) × (overlapped claim pieces ≡ None)
+laid_above claim pieces low are = (
+  ap (λ xs. xs ++ claim ∷ filter_map (part_of true claim.range) pieces) (all_below pieces low are) ∙ ap (λ xs. pieces ++ claim ∷ xs) (none_above pieces low are),
+  apart pieces low are,
+)
+  where
+    -- a piece ends below the range
+    under : (piece : Claim) (pieces : List Claim) → AreAscending (piece.range.last + 1) (ranges_of (pieces ++ claim ∷ [])) → piece.range.last < claim.range.first
+    under piece [] are = omega (arith, are.0)
+    under piece (next ∷ pieces) are = let less = under next pieces are.2 in omega (arith, less, are.0, are.1)
+
+    all_below : (pieces : List Claim) (low : ℕ) → AreAscending low (ranges_of (pieces ++ claim ∷ [])) → filter_map (part_of false claim.range) pieces ≡ pieces
+    all_below [] low are = refl
+    all_below (piece ∷ pieces) low are =
+        let end = under piece pieces are.2 in
+        rw (less piece.range.first claim.range.first (omega (arith, end, are.1)), less piece.range.last claim.range.first end, all_below pieces (piece.range.last + 1) are.2) refl
+
+    ends : (pieces : List Claim) (low : ℕ) → AreAscending low (ranges_of (pieces ++ claim ∷ [])) → claim.range.first ≤ claim.range.last
+    ends [] low are = are.1
+    ends (piece ∷ pieces) low are = ends pieces (piece.range.last + 1) are.2
+
+    none_above : (pieces : List Claim) (low : ℕ) → AreAscending low (ranges_of (pieces ++ claim ∷ [])) → filter_map (part_of true claim.range) pieces ≡ []
+    none_above [] low are = refl
+    none_above (piece ∷ pieces) low are =
+        let end = under piece pieces are.2 in
+        let order = ends pieces (piece.range.last + 1) are.2 in
+        rw (not_less claim.range.last piece.range.last (omega (arith, end, order)), none_above pieces (piece.range.last + 1) are.2) refl
+
+    apart : (pieces : List Claim) (low : ℕ) → AreAscending low (ranges_of (pieces ++ claim ∷ [])) → overlapped claim pieces ≡ None
+    apart [] low are = refl
+    apart (piece ∷ pieces) low are =
+        let test = misses claim.range piece.range (under piece pieces are.2) in
+        rw (test, apart pieces (piece.range.last + 1) are.2) refl
+      where
+        misses : (range other : MemoryRange) → other.last < range.first → (nat_le other.first range.last && nat_le range.first other.last) ≡ false
+        misses range other end = grind (arith, nat_tests, end)
+
+-- the first ranges of a list in order are in order
+first_ascend : (xs : List Claim) (x : Claim) (ys : List Claim) (low : ℕ) → AreAscending low (ranges_of (xs ++ x ∷ ys)) → AreAscending low (ranges_of (xs ++ x ∷ []))
+first_ascend [] x ys low are = (are.0, are.1, tt)
+first_ascend (y ∷ xs) x ys low are = (are.0, are.1, first_ascend xs x ys (y.range.last + 1) are.2)
+
+abbrev clean_with : List Claim → Settled
+clean_with pieces = record { pieces = pieces; overlap = None; fault = None }
+
+settles_in_order : (claims pieces : List Claim) → AreAscending 0 (ranges_of (pieces ++ claims)) → length pieces + length claims ≤ 512
+    → settled_from (clean_with pieces) (map Range claims) ≡ clean_with (pieces ++ claims)
+settles_in_order [] pieces are few = ap clean_with (sym (append-nil pieces))
+settles_in_order (claim ∷ claims) pieces are few =
+    let above = laid_above claim pieces 0 (first_ascend pieces claim claims 0 are) in
+    let size = snoc_size pieces claim in
+    let room : nat_lt 512 (length (laid claim pieces)) ≡ false = not_less 512 (length (laid claim pieces)) (rw above.0 (omega (arith, size, few))) in
+    let next : settled_with (clean_with pieces) (Range claim) ≡ clean_with (pieces ++ claim ∷ []) = rw (room, above.0, above.1) refl in
+    let same : pieces ++ claim ∷ claims ≡ (pieces ++ claim ∷ []) ++ claims = sym (append_assoc pieces (claim ∷ []) claims) in
+    ap (λ s. settled_from s (map Range claims)) next
+    ∙ settles_in_order claims (pieces ++ claim ∷ []) (subst (λ cs. AreAscending 0 (ranges_of cs)) same are) (omega (arith, size, few)) ∙ ap clean_with (sym same)
+
+finished_clean : (s : State) (format : Format) (claims : List Claim) → s.wanted ≡ clean_with claims → (is_sole s.which && nat_lt 1 s.begun.count) ≡ false → s.format ≡ Some format → (length claims == 0) ≡ false
+    → finished s ≡ Ok (record { format = format; ranges = record { items = joined (ranges_of claims) }; overlap = None; broken = s.begun.broken })
+finished_clean s format claims wanted sole known some = rw (wanted, sole, known, some) refl
+
+pub maps_are_given : MapsAreGiven
+maps_are_given named which text format claims given =
+    let lines = lines_of text in
+    let s = after (starts named which) 1 lines in
+    let reads = (last_reads named which lines format given.is_format).reads in
+    let holds = last_holds named which lines format given.is_format in
+    let wanted = holds.equal ∙ ap (settled_from nothing_settled) given.shown ∙ settles_in_order claims [] given.ascending (omega (arith, given.few)) in
+    let known = after_format lines 1 (starts named which) ∙ given.is_format in
+    let sole = one (is_sole s.which) s.begun.count (λ is. let few = given.sole (sym reads.which_is ∙ is_one s.which is) in omega (arith, few, reads.most)) in
+    ends_at (end_of text) lines 1 (starts named which) given.short ∙ finished_clean s format claims wanted sole known (some (length claims) given.some)
+    ∙ ap (λ n. Ok (record { format = format; ranges = record { items = joined (ranges_of claims) }; overlap = None; broken = n })) (after_broken lines 1 (starts named which) (omega arith))
+  where
+    some : (n : ℕ) → 1 ≤ n → (n == 0) ≡ false
+    some n more = grind (arith, nat_tests, more)
+
+    is_one : (w : WhichMap) → is_sole w ≡ true → w ≡ which_map.Sole
+    is_one which_map.Sole is = refl
+    is_one which_map.Last is = cc is
+    is_one (which_map.Number number) is = cc is
+
+    one : (sole : Bool) (count : ℕ) → (sole ≡ true → count ≤ 1) → (sole && nat_lt 1 count) ≡ false
+    one true count few = not_less 1 count (few refl)
+    one false count few = refl

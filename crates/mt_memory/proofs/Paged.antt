@@ -11,13 +11,13 @@ use Rattle.mt_memory_kinds.specs.declared.kind.MemoryKind.{MemoryKind}
 use Rattle.mt_memory_kinds.specs.declared.kind.MemoryKind.TheVariants.{Ram, Reserved, Device, Acpi, Nvs, Unusable}
 use Rattle.mt_memory_kinds.specs.declared.kind.MemoryRange.{MemoryRange}
 use Rattle.mt_memory.specs.Laying.{goes_on, joined, ranges_of}
-use Rattle.mt_memory.specs.Log.{Settled, nothing_settled, settled_with}
+use Rattle.mt_memory.specs.Log.{Settled, nothing_settled, settled_from, settled_with}
 use Rattle.mt_memory.specs.Maps.{AreLongest, kind_shown}
 use Rattle.mt_memory_kinds.specs.Ranges.{AreAscending, has, is_kind, kind_at, kind_number}
-use Rattle.mt_memory.specs.Pages.{ArePagesOf, IsFirst, IsPageOf, PagesAreOfKinds, Touches, claim_of, claims_of, counted, counted_as, kinds_from, pages_between, ranges_if, settled_from, settled_kinds, shown_pages, touched, weakest_first, whole}
+use Rattle.mt_memory.specs.Pages.{ArePagesOf, IsFirst, IsPageOf, PagesAreOfKinds, Touches, claim_of, claims_of, counted, counted_as, kinds_from, pages_between, ranges_if, settled_kinds, shown_pages, touched, weakest_first, whole}
 use Rattle.mt_memory.proofs.Joined.{joined_is_same, joined_longest, joined_order, same_kind}
 use Rattle.mt_memory.proofs.Laid.{is_over, is_under, is_within}
-use Rattle.mt_memory.proofs.Origins.{IsOrdered, IsSettled, kind_append, settles_more, settles_nothing}
+use Rattle.mt_memory.proofs.Settles.{IsOrdered, IsSettled, kind_append, settles_more, settles_nothing}
 
 -- ---- tests
 
@@ -532,7 +532,7 @@ pages_are_of_kinds ranges pages are is = by settled.fault refl is
     order = joined_order ranges are
 
     is_at : settled.fault ≡ None → (page : ℕ) → kind_at (joined (ranges_of settled.pieces)) page ≡ best (joined ranges) page 0 order (joined_longest ranges)
-    is_at clean page = joined_is_same (ranges_of settled.pieces) page good.ascending ∙ good.kinds clean page ∙ picks weakest_first (joined ranges) None page
+    is_at clean page = joined_is_same (ranges_of settled.pieces) page good.ascending ∙ (good.clean clean).kinds page ∙ picks weakest_first (joined ranges) None page
 
     by : (fault : Option MapFault) → settled.fault ≡ fault → ranges_if fault settled ≡ Some pages → ArePagesOf ranges pages
     by (Some fault) clean e = absurd (none_is_some e)

@@ -1,15 +1,28 @@
 -- Lines that change nothing.
-use Rattle.std.proofs.Common.{◌≡◌, ◌∙◌, ◌≤◌, ℕ, false, nat_lt, List, [], ◌∷◌, ◌++◌, length, Option, Some, None, Ok, refl, sym, ap, arith, length-append}
+use Rattle.std.proofs.Common.{◌≡◌, ◌∙◌, ◌≤◌, ℕ, Bool, true, false, nat_lt, List, [], ◌∷◌, ◌++◌, length, Option, Some, None, Ok, refl, sym, ap, arith, length-append}
 use Rattle.std.proofs.lemmas.Bool.Decides.{nat_tests}
+use Rattle.std.specs.Prelude.{if◌then◌else◌, ◌==◌, ◌&&◌, ◌||◌}
 use Rattle.mt_text.specs.Text.{is_too_long, without_return}
 use Rattle.mt_memory.specs.declared.format.Format.{Format}
 use Rattle.mt_memory.specs.declared.format.Format.TheVariants as format
-use Rattle.mt_memory.specs.Log.{State, taken_in}
+use Rattle.mt_memory.specs.declared.format.Shown.TheVariants.{Nothing}
+use Rattle.mt_memory.specs.Log.{State, headed, taken, taken_in, taken_shown}
 use Rattle.mt_memory.specs.Maps.{ReturnsChangeNothing, SpareHeads, SpareLines}
-use Rattle.mt_memory.specs.Showing.{chosen, told_in}
+use Rattle.mt_memory.specs.Showing.{breaks_off, chosen, has_title, told_in}
 
 pub spare_lines : SpareLines
-spare_lines s format number line known short begins shows = rw (short, known, begins, shows) refl
+spare_lines s format number line known short title shows breaks =
+    let first : taken s number line ≡ Ok (taken_in s (Some format) number line) = rw (short, known) refl in
+    first ∙ ap (λ shown. Ok (taken_shown (headed s format number line shown) shown number)) shows ∙ ap (λ next. Ok next) same
+  where
+    begun : (broken none : Bool) → broken ≡ false → (if none && broken then record s.begun { broken = number } else s.begun) ≡ s.begun
+    begun broken true is = rw is refl
+    begun broken false is = refl
+
+    same : headed s format number line Nothing ≡ s
+    same =
+        ap (λ begun. record s { format = Some format; begun = begun; between = (has_title format line || false) || s.between }) (begun (breaks_off format line) (s.begun.broken == 0) breaks)
+        ∙ ap (λ test. record s { format = Some format; between = (test || false) || s.between }) title ∙ ap (λ f. record s { format = f }) (sym known)
 
 pub spare_heads : SpareHeads
 spare_heads s number line short none = rw (short, none) refl

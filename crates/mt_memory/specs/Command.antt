@@ -43,10 +43,18 @@ asked_by None which = None
 asked_by (Some format) None = None
 asked_by (Some format) (Some which) = Some (record { format = format; which = which })
 
+abbrev pub asked_or : Option Asked → Option Asked → Option Asked
+asked_or (Some asked) others = Some asked
+asked_or None others = others
+
+-- a format, or one of a log's maps
+abbrev pub asked_by_word : List ℕ → Option Asked
+asked_by_word word = asked_or (asked_by (format_named word) (Some Sole)) (asked_by (Some None) (which_named word))
+
 -- what the words behind `memory` ask for
 abbrev pub asked_of : List (List ℕ) → Option Asked
 asked_of [] = asked_by (Some None) (Some Sole)
-asked_of (format ∷ []) = asked_by (format_named format) (Some Sole)
+asked_of (word ∷ []) = asked_by_word word
 asked_of (format ∷ table ∷ []) = asked_by (format_named format) (which_named table)
 asked_of (format ∷ table ∷ next ∷ words) = None
 

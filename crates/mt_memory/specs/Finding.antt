@@ -1,6 +1,7 @@
 -- Where rows read a line, and what a table holds (own).
 --     stands parts line      how many bytes stand in front of the first word from which a row reads a line, and the numbers behind them
---     named names line      the kind that is named at the first word at which one is
+--     next_word text      the next word, and what stands behind it
+--     first_named names text      the kind that the first of these names that reads a text has
 --     has_heading headings line      one of these rows reads the line from some word on
 use Rattle.std.specs.Prelude.{ℕ, ◌+◌, ◌&&◌, ◌||◌, not, Bool, true, false, List, [], ◌∷◌, if◌then◌else◌, Option, Some, None, is_some}
 use Rattle.std.specs.Borrow.{Bor}
@@ -11,20 +12,23 @@ use Rattle.mt_text.specs.Text.{is_blank}
 use Rattle.mt_memory_kinds.specs.declared.kind.MemoryKind.{MemoryKind}
 use Rattle.mt_memory.specs.declared.table.Ends.{Ends}
 use Rattle.mt_memory.specs.declared.table.Front.{Front}
+use Rattle.mt_memory.specs.declared.table.Named.{Named}
 
 -- ---- tables
 
 abbrev pub Form : Type 0
-Form = List Part × Front × List Part × Ends
+Form = List Part × Front × List Part × Ends × Named
 
 abbrev pub Name : Type 0
 Name = List Part × MemoryKind
 
--- The lines of a format: forms of ranges, names of kinds, and what stands in the lines that begin a map.
+-- The lines of a format: forms of ranges, names of kinds, what stands in the lines that begin a map, and whether the source lists ranges in
+-- ascending order.
 pub record Table : Type 0 where
   pub forms : List Form
   pub names : List Name
   pub headings : List (List Part)
+  pub ascends : Bool
 
 -- parts behind references, and those of a constant
 abbrev pub Lent : Type 0
@@ -33,10 +37,17 @@ Lent = Bor (List (Bor (List ℕ) × Run))
 abbrev pub Kept : Type 0
 Kept = Held (List (Held (List ℕ) × Run))
 
-abbrev pub form_at : Lent × Front × Lent × Ends → Form
-form_at form = (parts_at form.0.now, form.1, parts_at form.2.now, form.3)
+-- a form, and the same of a constant
+abbrev pub LentForm : Type 0
+LentForm = Lent × Front × Lent × Ends × Named
 
-abbrev pub forms_at : List (Lent × Front × Lent × Ends) → List Form
+abbrev pub KeptForm : Type 0
+KeptForm = Kept × Front × Kept × Ends × Named
+
+abbrev pub form_at : LentForm → Form
+form_at form = (parts_at form.0.now, form.1, parts_at form.2.now, form.3, form.4)
+
+abbrev pub forms_at : List LentForm → List Form
 forms_at [] = []
 forms_at (form ∷ forms) = form_at form ∷ forms_at forms
 
@@ -48,12 +59,12 @@ abbrev pub headings_at : List Lent → List (List Part)
 headings_at [] = []
 headings_at (heading ∷ headings) = parts_at heading.now ∷ headings_at headings
 
-abbrev pub table_at : Bor (List (Lent × Front × Lent × Ends)) × Bor (List (Lent × MemoryKind)) × Bor (List Lent) → Table
-table_at table = record { forms = forms_at table.0.now; names = names_at table.1.now; headings = headings_at table.2.now }
+abbrev pub table_at : Bor (List LentForm) × Bor (List (Lent × MemoryKind)) × Bor (List Lent) × Bool → Table
+table_at table = record { forms = forms_at table.0.now; names = names_at table.1.now; headings = headings_at table.2.now; ascends = table.3 }
 
-abbrev pub forms_in : List (Kept × Front × Kept × Ends) → List Form
+abbrev pub forms_in : List KeptForm → List Form
 forms_in [] = []
-forms_in (form ∷ forms) = (parts_in form.0.now, form.1, parts_in form.2.now, form.3) ∷ forms_in forms
+forms_in (form ∷ forms) = (parts_in form.0.now, form.1, parts_in form.2.now, form.3, form.4) ∷ forms_in forms
 
 abbrev pub names_in : List (Kept × MemoryKind) → List Name
 names_in [] = []
@@ -63,8 +74,8 @@ abbrev pub headings_in : List Kept → List (List Part)
 headings_in [] = []
 headings_in (heading ∷ headings) = parts_in heading.now ∷ headings_in headings
 
-abbrev pub table_in : Held (List (Kept × Front × Kept × Ends)) × Held (List (Kept × MemoryKind)) × Held (List Kept) → Table
-table_in table = record { forms = forms_in table.0.now; names = names_in table.1.now; headings = headings_in table.2.now }
+abbrev pub table_in : Held (List KeptForm) × Held (List (Kept × MemoryKind)) × Held (List Kept) × Bool → Table
+table_in table = record { forms = forms_in table.0.now; names = names_in table.1.now; headings = headings_in table.2.now; ascends = table.3 }
 
 -- ---- rows in a line
 
@@ -87,22 +98,16 @@ stands parts line = stands_at parts 0 true line
 -- ---- names
 
 abbrev pub first_named : List Name → List ℕ → Option MemoryKind
-first_named [] line = None
-first_named (name ∷ names) line = if is_some (scanned name.0 line) then Some name.1 else first_named names line
+first_named [] text = None
+first_named (name ∷ names) text = if is_some (scanned name.0 text) then Some name.1 else first_named names text
 
-abbrev pub name_at : List Name → Bool → ℕ → List ℕ → Option MemoryKind
-name_at names starts byte rest = if starts && not (is_blank byte) then first_named names rest else None
+-- the first word from here on, behind a blank or if one has been passed
+abbrev pub word_behind : Bool → List ℕ → List ℕ
+word_behind left [] = []
+word_behind left (x ∷ xs) = if left && not (is_blank x) then x ∷ xs else word_behind (left || is_blank x) xs
 
-abbrev pub kind_or : Option MemoryKind → Option MemoryKind → Option MemoryKind
-kind_or (Some kind) next = Some kind
-kind_or None next = next
-
-abbrev pub named_at : List Name → Bool → List ℕ → Option MemoryKind
-named_at names starts [] = None
-named_at names starts (x ∷ xs) = kind_or (name_at names starts x (x ∷ xs)) (named_at names (is_blank x) xs)
-
-abbrev pub named : List Name → List ℕ → Option MemoryKind
-named names line = named_at names true line
+abbrev pub next_word : List ℕ → List ℕ
+next_word text = word_behind false text
 
 -- ---- headings
 

@@ -7,7 +7,7 @@ use Rattle.mt_memory.specs.Command.{is_memory}
 
 abbrev pub help_lines : List (List ℕ)
 help_lines =
-    codes "usage: mtrr-import memory [FORMAT [table=N]] [LOG] > MAP"
+    codes "usage: mtrr-import memory [FORMAT] [table=N] [LOG] > MAP"
     ∷ codes ""
     ∷ codes "Writes the memory map that a log shows, a line for each longest range of one"
     ∷ codes "kind: its first and its last byte, both hexadecimal, and ram, reserved, device,"

@@ -6,6 +6,7 @@ use Rattle.mt_ports.specs.Causes.{StatusHasCause}
 use Rattle.mt_ports.specs.declared.status.Status.{Status}
 use Rattle.mt_ports.specs.declared.status.Status.TheVariants.{Done, Refused, Usage, BadText, ReadFault, WriteFault, NoMemory, TooLong, TooFew, Disabled}
 use Rattle.mt_text.specs.Feed.{GaveTooMuch}
+use Rattle.mt_text.specs.Text.{lines_of}
 use Rattle.mt_output.specs.Lines.{bad_text, line, usage_line}
 use Rattle.mt_output.specs.Ports.{SinkRun, SourceRun}
 use Rattle.mt_output.specs.Written as one
@@ -14,7 +15,7 @@ use Rattle.mt_memory.specs.declared.command.Asked.{Asked}
 use Rattle.mt_memory.specs.declared.format.Format.{Format}
 use Rattle.mt_memory.specs.declared.format.Format.TheVariants.{E820, Efi, Coreboot, Iomem}
 use Rattle.mt_memory.specs.declared.format.MapFault.{MapFault}
-use Rattle.mt_memory.specs.declared.format.MapFault.TheVariants.{LongLine, Backward, UnknownKind, Hidden, TooManyRanges, SeveralMaps, NoMap}
+use Rattle.mt_memory.specs.declared.format.MapFault.TheVariants.{LongLine, Backward, UnknownKind, Hidden, Utf16, TooManyRanges, SeveralMaps, NoMap}
 use Rattle.mt_memory.specs.declared.format.MapsBegun.{MapsBegun}
 use Rattle.mt_memory.specs.declared.format.MemoryMap.{MemoryMap}
 use Rattle.mt_memory.specs.declared.format.Overlap.{Overlap}
@@ -23,6 +24,7 @@ use Rattle.mt_memory.specs.declared.format.WhichMap.TheVariants.{Sole, Last, Num
 use Rattle.mt_memory.specs.Command.{command_of}
 use Rattle.mt_memory.specs.Help.{own_text}
 use Rattle.mt_memory.specs.Log.{log_map}
+use Rattle.mt_memory.specs.Maps.{IsMapOf}
 use Rattle.mt_memory.specs.MapText.{map_text}
 
 -- the texts for standard output and for standard error, and the status
@@ -49,14 +51,19 @@ which_text Sole = codes "map"
 which_text Last = codes "table=last"
 which_text (Number number) = codes "table=" ++ decimal number
 
+-- the line on the first one that breaks off
+abbrev pub broken_note : ℕ → List ℕ
+broken_note broken = if broken == 0 then [] else line (codes "warning: line " ++ decimal broken ++ codes ": it breaks off, and its range is missing")
+
 abbrev pub missing_map : WhichMap → MapsBegun → List ℕ
-missing_map which begun = line (codes "missing " ++ which_text which ++ codes ": " ++ maps_text begun)
+missing_map which begun = broken_note begun.broken ++ line (codes "missing " ++ which_text which ++ codes ": " ++ maps_text begun)
 
 abbrev pub fault_text : WhichMap → MapFault → List ℕ
 fault_text which (LongLine place) = bad_text place (codes "bad line")
 fault_text which (Backward place) = bad_text place (codes "bad range")
 fault_text which (UnknownKind place) = bad_text place (codes "unknown kind")
 fault_text which (Hidden place) = bad_text place (codes "hidden: read as root")
+fault_text which (Utf16 place) = bad_text place (codes "UTF-16")
 fault_text which (TooManyRanges place) = bad_text place (codes "too many ranges")
 fault_text which (SeveralMaps begun) = line (maps_text begun ++ codes ": table=last takes the last")
 fault_text which (NoMap begun) = missing_map which begun
@@ -66,6 +73,7 @@ fault_status (LongLine place) = BadText
 fault_status (Backward place) = BadText
 fault_status (UnknownKind place) = BadText
 fault_status (Hidden place) = BadText
+fault_status (Utf16 place) = BadText
 fault_status (TooManyRanges place) = BadText
 fault_status (SeveralMaps begun) = BadText
 fault_status (NoMap begun) = Refused
@@ -90,7 +98,7 @@ overlap_note (Some overlap) =
     line (codes "warning: line " ++ decimal overlap.line ++ codes ": it shows bytes of line " ++ decimal overlap.earlier ++ codes " too, and counts for them")
 
 abbrev pub note_text : Asked → MemoryMap → List ℕ
-note_text asked found = format_note asked.format found.format ++ overlap_note found.overlap
+note_text asked found = format_note asked.format found.format ++ broken_note found.broken ++ overlap_note found.overlap
 
 -- ---- outcomes
 
@@ -168,3 +176,20 @@ reads_log words = is_some (command_of words)
 
 abbrev pub commands : Commands
 commands = record { name = codes "mtrr-import"; reads = reads_log; hint = None }
+
+-- ---- laws
+
+-- What is printed of a log if the status is 0: the lines of its map, and what is told of it.
+pub record IsPrinted (asked : Asked) (bytes : List ℕ) (printed : Outcome) : Type 0 where
+  pub found : MemoryMap
+  pub is_map : IsMapOf asked.format asked.which (lines_of bytes) found
+  pub map : printed.map ≡ map_text found.ranges.items
+  pub reasons : printed.reasons ≡ note_text asked found
+
+abbrev pub MapsArePrinted : Type 0
+MapsArePrinted = (words : List (List ℕ)) (asked : Asked) (bytes : List ℕ) → own_text words ≡ None → command_of words ≡ Some asked → (outcome_of words bytes).status ≡ Done
+    → IsPrinted asked bytes (outcome_of words bytes)
+
+-- Nothing is printed at another status.
+abbrev pub ReasonsComeAlone : Type 0
+ReasonsComeAlone = (words : List (List ℕ)) (bytes : List ℕ) → ((outcome_of words bytes).status ≡ Done → ⊥) → (outcome_of words bytes).map ≡ []

@@ -1,7 +1,7 @@
 -- The pages of 4 KB of a map (own).
 --     pages_of ranges      longest runs of pages of one kind
 --     IsPageOf ranges page kind      a page is of a kind
-use Rattle.std.specs.Prelude.{ℕ, ◌≡◌, ◌≤◌, ◌+◌, ◌-◌, ◌/◌, ◌%◌, ◌==◌, ◌↔◌, nat_lt, List, [], ◌∷◌, map, if◌then◌else◌, Option, Some, None}
+use Rattle.std.specs.Prelude.{ℕ, ◌≡◌, ◌≤◌, ◌+◌, ◌-◌, ◌/◌, ◌%◌, ◌==◌, ◌↔◌, nat_lt, List, [], ◌∷◌, length, map, if◌then◌else◌, Option, Some, None, IsSome}
 use Rattle.mt_memory.specs.declared.format.MapFault.{MapFault}
 use Rattle.mt_memory.specs.declared.format.Shown.{Shown}
 use Rattle.mt_memory.specs.declared.format.Shown.TheVariants.{Nothing, Range}
@@ -9,7 +9,7 @@ use Rattle.mt_memory_kinds.specs.declared.kind.MemoryKind.{MemoryKind}
 use Rattle.mt_memory_kinds.specs.declared.kind.MemoryKind.TheVariants.{Ram, Reserved, Device, Acpi, Nvs, Unusable}
 use Rattle.mt_memory_kinds.specs.declared.kind.MemoryRange.{MemoryRange}
 use Rattle.mt_memory.specs.Laying.{joined, ranges_of}
-use Rattle.mt_memory.specs.Log.{Settled, nothing_settled, settled_with}
+use Rattle.mt_memory.specs.Log.{Settled, nothing_settled, settled_from}
 use Rattle.mt_memory.specs.Maps.{AreLongest}
 use Rattle.mt_memory_kinds.specs.Ranges.{AreAscending, is_kind, kind_at, kind_number}
 
@@ -69,10 +69,6 @@ claim_of kind range = if is_kind range.kind kind then shown_pages (counted range
 abbrev pub claims_of : MemoryKind → List MemoryRange → List Shown
 claims_of kind ranges = map (claim_of kind) ranges
 
-abbrev pub settled_from : Settled → List Shown → Settled
-settled_from s [] = s
-settled_from s (shown ∷ more) = settled_from (settled_with s shown) more
-
 abbrev pub kinds_from : Settled → List MemoryKind → List MemoryRange → Settled
 kinds_from s [] ranges = s
 kinds_from s (kind ∷ kinds) ranges = kinds_from (settled_from s (claims_of kind ranges)) kinds ranges
@@ -104,3 +100,7 @@ pub record ArePagesOf (ranges pages : List MemoryRange) : Type 0 where
 
 abbrev pub PagesAreOfKinds : Type 0
 PagesAreOfKinds = (ranges pages : List MemoryRange) → AreAscending 0 ranges → pages_of ranges ≡ Some pages → ArePagesOf ranges pages
+
+-- The ranges of a map have pages.
+abbrev pub PagesAreGiven : Type 0
+PagesAreGiven = (ranges : List MemoryRange) → AreAscending 0 ranges → length ranges ≤ 512 → IsSome (pages_of ranges)

@@ -1,9 +1,10 @@
 -- What a line of a log shows, whatever the other lines show (own).
 --     shown_in format number line      what a line of this number shows
---     begins_map format line      a map begins behind the lines before this one
+--     breaks_off format line      a range begins in a line and isn't whole
+--     begins_map format low line shown      a map begins behind the lines before this one
 --     told_in format number line      a line tells the format
 --     format_told number line      the first format that a line tells
-use Rattle.std.specs.Prelude.{ℕ, ◌+◌, ◌-◌, ◌==◌, ◌||◌, nat_le, nat_lt, Bool, true, false, List, [], ◌∷◌, drop, if◌then◌else◌, Option, Some, None, is_some}
+use Rattle.std.specs.Prelude.{ℕ, ◌+◌, ◌-◌, ◌==◌, ◌&&◌, ◌||◌, nat_le, nat_lt, not, Bool, true, false, List, [], ◌∷◌, drop, if◌then◌else◌, Option, Some, None, is_some}
 use Rattle.mt_rows.specs.declared.row.Fields.{Fields}
 use Rattle.mt_rows.specs.Scan.{Part, scanned}
 use Rattle.mt_text.specs.Text.{without_return}
@@ -14,15 +15,18 @@ use Rattle.mt_memory.specs.declared.efi.TheConstants.{EFI}
 use Rattle.mt_memory.specs.declared.iomem.TheConstants.{IOMEM}
 use Rattle.mt_memory.specs.declared.format.Format.{Format}
 use Rattle.mt_memory.specs.declared.format.Format.TheVariants as format
-use Rattle.mt_memory.specs.declared.format.MapFault.TheVariants.{Backward, Hidden, UnknownKind}
+use Rattle.mt_memory.specs.declared.format.MapFault.TheVariants.{Backward, Hidden, UnknownKind, Utf16}
 use Rattle.mt_memory.specs.declared.format.Shown.{Shown}
 use Rattle.mt_memory.specs.declared.format.Shown.TheVariants.{Nothing, Range, Fault}
 use Rattle.mt_memory_kinds.specs.declared.kind.MemoryKind.{MemoryKind}
 use Rattle.mt_memory.specs.declared.table.Ends.{Ends}
-use Rattle.mt_memory.specs.declared.table.Ends.TheVariants.{Last, LastBeforeSize, LastOrHidden, Behind}
+use Rattle.mt_memory.specs.declared.table.Ends.TheVariants.{Last, LastBeforeSize, LastBeforeTwo, LastOrHidden, Behind}
 use Rattle.mt_memory.specs.declared.table.Front.{Front}
 use Rattle.mt_memory.specs.declared.table.Front.TheVariants.{Start, Word}
-use Rattle.mt_memory.specs.Finding.{Form, Name, Table, has_heading, named, stands, table_in}
+use Rattle.mt_memory.specs.declared.table.Named.{Named}
+use Rattle.mt_memory.specs.declared.table.Named.TheVariants.{AtFront, BehindFront, BehindRange}
+use Rattle.mt_memory.specs.declared.table.Seen.{Seen}
+use Rattle.mt_memory.specs.Finding.{Form, Name, Table, first_named, has_heading, next_word, stands, table_in}
 
 -- ---- a range by its numbers
 
@@ -49,12 +53,14 @@ half_open first end kind place =
 abbrev pub bounded : Ends → ℕ → ℕ → MemoryKind → Place → Shown
 bounded Last first second kind place = closed first second kind place
 bounded LastBeforeSize first second kind place = closed first second kind place
+bounded LastBeforeTwo first second kind place = closed first second kind place
 bounded Behind first second kind place = half_open first second kind place
 bounded LastOrHidden first second kind place = if second == 0 then Fault (Hidden place) else closed first second kind place
 
 abbrev pub numbers_of : Ends → Fields → ℕ × ℕ
 numbers_of Last fields = (fields.second_last.value, fields.last.value)
 numbers_of LastBeforeSize fields = (fields.third_last.value, fields.second_last.value)
+numbers_of LastBeforeTwo fields = (fields.fourth_last.value, fields.third_last.value)
 numbers_of LastOrHidden fields = (fields.second_last.value, fields.last.value)
 numbers_of Behind fields = (fields.second_last.value, fields.last.value)
 
@@ -64,41 +70,67 @@ named_range ends fields None place = Fault (UnknownKind place)
 
 -- ---- forms
 
-abbrev pub before_of : Option (ℕ × Fields) → Option ℕ
-before_of (Some found) = Some found.0
-before_of None = None
+abbrev pub at_start : Option Fields → Option (ℕ × Fields)
+at_start (Some fields) = Some (0, fields)
+at_start None = None
 
--- how many bytes stand before the front of a form
-abbrev pub front_at : Front → List Part → List ℕ → Option ℕ
-front_at Word parts line = before_of (stands parts line)
-front_at Start parts line = if is_some (scanned parts line) then Some 0 else None
+-- how many bytes stand before the front of a form, and its numbers
+abbrev pub front_at : Front → List Part → List ℕ → Option (ℕ × Fields)
+front_at Word parts line = stands parts line
+front_at Start parts line = at_start (scanned parts line)
 
--- The kind is named at the front or behind it, before the range or behind it.
-abbrev pub in_range : Ends → List Name → ℕ → ℕ → List ℕ → Option (ℕ × Fields) → Shown
-in_range ends names number before rest (Some found) = named_range ends found.1 (named names rest) (place_at number (before + found.0))
-in_range ends names number before rest None = Nothing
+-- Where the kind is named, by the numbers of the front and by those of the range, which stands behind so many bytes.
+abbrev pub name_text : Named → List ℕ → Fields → ℕ × Fields → List ℕ
+name_text AtFront rest front range = rest
+name_text BehindFront rest front range = next_word (drop front.last.column rest)
+name_text BehindRange rest front range = next_word (drop range.1.last.column (drop range.0 rest))
 
-abbrev pub behind_front : Form → List Name → ℕ → List ℕ → Option ℕ → Shown
-behind_front form names number line (Some before) = in_range form.3 names number before (drop before line) (stands form.2 (drop before line))
-behind_front form names number line None = Nothing
+abbrev pub in_range : Form → List Name → List ℕ → ℕ × Fields → Option (ℕ × Fields) → Option Seen
+in_range form names rest front (Some range) =
+    Some (record { ends = form.3; fields = range.1; kind = first_named names (name_text form.4 rest front.1 range); before = front.0 + range.0 })
+in_range form names rest front None = None
 
-abbrev pub shown_by_form : Form → List Name → ℕ → List ℕ → Shown
-shown_by_form form names number line = behind_front form names number line (front_at form.1 form.0 line)
+abbrev pub behind_front : Form → List Name → List ℕ → Option (ℕ × Fields) → Option Seen
+behind_front form names line (Some front) = in_range form names (drop front.0 line) front (stands form.2 (drop front.0 line))
+behind_front form names line None = None
 
-abbrev pub shown_or : Shown → Shown → Shown
-shown_or Nothing others = others
-shown_or (Range claim) others = Range claim
-shown_or (Fault fault) others = Fault fault
+abbrev pub seen_by_form : Form → List Name → List ℕ → Option Seen
+seen_by_form form names line = behind_front form names line (front_at form.1 form.0 line)
 
-abbrev pub shown_by : List Form → List Name → ℕ → List ℕ → Shown
-shown_by [] names number line = Nothing
-shown_by (form ∷ forms) names number line = shown_or (shown_by_form form names number line) (shown_by forms names number line)
+abbrev pub seen_or : Option Seen → Option Seen → Option Seen
+seen_or (Some seen) others = Some seen
+seen_or None others = others
+
+-- what the first form reads that reads a range
+abbrev pub seen_by : List Form → List Name → List ℕ → Option Seen
+seen_by [] names line = None
+seen_by (form ∷ forms) names line = seen_or (seen_by_form form names line) (seen_by forms names line)
+
+abbrev pub has_front : List Form → List ℕ → Bool
+has_front [] line = false
+has_front (form ∷ forms) line = is_some (front_at form.1 form.0 line) || has_front forms line
+
+abbrev pub seen_shown : ℕ → Option Seen → Shown
+seen_shown number (Some seen) = named_range seen.ends seen.fields seen.kind (place_at number seen.before)
+seen_shown number None = Nothing
 
 -- ---- formats
 
--- what a line without CR shows
+-- A byte-order mark of UTF-8 at a line's front is no part of it, nor is a CR at its end.
+abbrev pub unmarked : List ℕ → List ℕ
+unmarked (a ∷ b ∷ c ∷ rest) = if a == 239 && b == 187 && c == 191 then rest else a ∷ b ∷ c ∷ rest
+unmarked line = line
+
+abbrev pub bare : List ℕ → List ℕ
+bare line = unmarked (without_return line)
+
+-- the line begins as UTF-16 does
+abbrev pub is_utf16 : List ℕ → Bool
+is_utf16 (a ∷ b ∷ rest) = a == 255 && b == 254 || a == 254 && b == 255
+is_utf16 line = false
+
 abbrev pub shown_of : Table → ℕ → List ℕ → Shown
-shown_of table number line = shown_by table.forms table.names number line
+shown_of table number line = if is_utf16 line then Fault (Utf16 (place_at number 0)) else seen_shown number (seen_by table.forms table.names line)
 
 -- Sources: Linux 6.1, arch/x86/kernel/e820.c, `e820__print_table` and `e820_print_type`; Xen 4.17, xen/arch/x86/e820.c, `print_e820_memory_map`.
 -- Read without sources, by what is known: the forms of older versions, whose second number is behind the range.
@@ -125,10 +157,29 @@ table_of format.Coreboot = coreboot
 table_of format.Iomem = iomem
 
 abbrev pub shown_in : Format → ℕ → List ℕ → Shown
-shown_in f number line = shown_of (table_of f) number (without_return line)
+shown_in f number line = shown_of (table_of f) number (bare line)
 
-abbrev pub begins_map : Format → List ℕ → Bool
-begins_map f line = has_heading (table_of f).headings (without_return line)
+-- A front stands in the line, and no range behind it.
+abbrev pub breaks_off : Format → List ℕ → Bool
+breaks_off f line = has_front (table_of f).forms (bare line) && not (is_some (seen_by (table_of f).forms (table_of f).names (bare line)))
+
+-- A range that doesn't begin above the one before it is of another map, if the source lists ranges in ascending order.
+abbrev pub starts_over : Bool → ℕ → Shown → Bool
+starts_over ascends low Nothing = false
+starts_over ascends low (Range claim) = ascends && nat_le claim.range.first low
+starts_over ascends low (Fault fault) = false
+
+abbrev pub has_title : Format → List ℕ → Bool
+has_title f line = has_heading (table_of f).headings (bare line)
+
+-- A map begins behind the lines before this one, of which the last range has this first byte.
+abbrev pub begins_map : Format → ℕ → List ℕ → Shown → Bool
+begins_map f low line shown = has_title f line || starts_over (table_of f).ascends low shown
+
+abbrev pub low_behind : ℕ → Shown → ℕ
+low_behind low Nothing = low
+low_behind low (Range claim) = claim.range.first
+low_behind low (Fault fault) = low
 
 -- ---- without a named format: that of the first line that tells one
 
@@ -138,7 +189,7 @@ is_shown (Range claim) = true
 is_shown (Fault fault) = true
 
 unfoldable pub told_in : Format → ℕ → List ℕ → Bool
-told_in f number line = begins_map f line || is_shown (shown_in f number line)
+told_in f number line = has_title f line || is_shown (shown_in f number line)
 
 abbrev pub format_told : ℕ → List ℕ → Option Format
 format_told number line =

@@ -1,5 +1,5 @@
 ghost use Rattle.std.specs.Prelude.{◌≡◌, map, string_bytes};
-ghost use Rattle.mt_memory.specs.Command.{asked_by, asked_of, command_of, format_named, is_memory, is_text, map_named, which_named};
+ghost use Rattle.mt_memory.specs.Command.{asked_by, asked_by_word, asked_of, command_of, format_named, is_memory, is_text, map_named, which_named};
 
 use crate::{Format, WhichMap};
 use mt_text::decimal;
@@ -73,13 +73,23 @@ fn asked_by(format: Option<Option<Format>>, which: Option<WhichMap>) -> Option<A
     }
 }
 
+// What a word alone asks for: a format, or one of a log's maps.
+fn asked_by_word(word: &[u8]) -> Option<Asked>
+    ensures { result ≡ asked_by_word word.now }
+{
+    match asked_by(format_named(word), Some(WhichMap::Sole)) {
+        Some(asked) => Some(asked),
+        None => asked_by(Some(None), which_named(word)),
+    }
+}
+
 // What the words behind `memory` ask for.
 fn asked_of(words: &[String]) -> Option<Asked>
     ensures { result ≡ asked_of (map string_bytes words.now) }
 {
     match words {
         [] => asked_by(Some(None), Some(WhichMap::Sole)),
-        [format] => asked_by(format_named(format.as_bytes()), Some(WhichMap::Sole)),
+        [word] => asked_by_word(word.as_bytes()),
         [format, table] => asked_by(
             format_named(format.as_bytes()),
             which_named(table.as_bytes()),

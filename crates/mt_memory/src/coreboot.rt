@@ -1,21 +1,22 @@
 use crate::MemoryKind;
-use crate::table::{Ends, Front, Table};
-use mt_rows::{BLANKS, DECIMAL, HEX_16, Run};
+use crate::table::{Ends, Front, Named, Table};
+use mt_rows::{BLANKS, DECIMAL, HEX_16, MARKS, Run};
 
 /// The lines of coreboot's memory table.
 #[rattlefmt::skip]
 pub const COREBOOT: Table<'static> = (
     &[
         // ` 0. 0000000000000000-0000000000000fff: CONFIGURATION TABLES`
-        (&[(b"", DECIMAL), (b".", BLANKS), (b"", HEX_16), (b"-", HEX_16), (b":", Run::Nothing)], Front::Word, &[(b"", HEX_16), (b"-", HEX_16), (b":", Run::Nothing)], Ends::Last),
+        (&[(b"", DECIMAL), (b".", BLANKS), (b"", HEX_16), (b"-", MARKS)], Front::Word, &[(b"", HEX_16), (b"-", HEX_16), (b":", Run::Nothing)], Ends::Last, Named::BehindRange),
     ],
     &[
         (&[(b"RAM", Run::Nothing)], MemoryKind::Ram),
         // Both are RAM for the system.
         (&[(b"RAMSTAGE", Run::Nothing)], MemoryKind::Ram),
         (&[(b"PAYLOAD", Run::Nothing)], MemoryKind::Ram),
-        // also of `VENDOR RESERVED` and `SOFT RESERVED`
         (&[(b"RESERVED", Run::Nothing)], MemoryKind::Reserved),
+        (&[(b"VENDOR", BLANKS), (b"RESERVED", Run::Nothing)], MemoryKind::Reserved),
+        (&[(b"SOFT", BLANKS), (b"RESERVED", Run::Nothing)], MemoryKind::Reserved),
         (&[(b"CONFIGURATION", BLANKS), (b"TABLES", Run::Nothing)], MemoryKind::Reserved),
         (&[(b"BL31", Run::Nothing)], MemoryKind::Reserved),
         (&[(b"OPENSBI", Run::Nothing)], MemoryKind::Reserved),
@@ -26,4 +27,5 @@ pub const COREBOOT: Table<'static> = (
     &[
         &[(b"0.", BLANKS), (b"", HEX_16), (b"-", HEX_16), (b":", Run::Nothing)],
     ],
+    true,
 );

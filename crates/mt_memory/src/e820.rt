@@ -1,5 +1,5 @@
 use crate::MemoryKind;
-use crate::table::{Ends, Front, Table};
+use crate::table::{Ends, Front, Named, Table};
 use mt_rows::{BLANKS, DECIMAL, HEX, HEX_16, Run, SPACE, WORD};
 
 /// The lines of Linux behind `BIOS-e820:`, and those of Xen's console.
@@ -7,23 +7,23 @@ use mt_rows::{BLANKS, DECIMAL, HEX, HEX_16, Run, SPACE, WORD};
 pub const E820: Table<'static> = (
     &[
         // `BIOS-e820: [mem 0x0000000000000000-0x000000000009fbff] usable`
-        (&[(b"BIOS-e820:", Run::Nothing)], Front::Word, &[(b"[mem", BLANKS), (b"0x", HEX), (b"-0x", HEX), (b"]", Run::Nothing)], Ends::Last),
+        (&[(b"BIOS-e820:", Run::Nothing)], Front::Word, &[(b"[mem", BLANKS), (b"0x", HEX), (b"-0x", HEX), (b"]", Run::Nothing)], Ends::Last, Named::BehindRange),
         // `BIOS-e820: 0000000000000000 - 000000000009fc00 (usable)`
-        (&[(b"BIOS-e820:", Run::Nothing)], Front::Word, &[(b"", HEX_16), (b"", BLANKS), (b"-", BLANKS), (b"", HEX_16)], Ends::Behind),
+        (&[(b"BIOS-e820:", Run::Nothing)], Front::Word, &[(b"", HEX_16), (b"", BLANKS), (b"-", BLANKS), (b"", HEX_16)], Ends::Behind, Named::BehindRange),
         // `(XEN)  [0000000000000000, 000000000009fbff] (usable)`
-        (&[(b"(XEN)", BLANKS), (b"[", HEX_16), (b",", BLANKS), (b"", HEX_16), (b"]", Run::Nothing)], Front::Word, &[(b"[", HEX_16), (b",", BLANKS), (b"", HEX_16), (b"]", Run::Nothing)], Ends::Last),
+        (&[(b"(XEN)", BLANKS), (b"[", HEX_16), (b",", Run::Nothing)], Front::Word, &[(b"[", HEX_16), (b",", BLANKS), (b"", HEX_16), (b"]", Run::Nothing)], Ends::Last, Named::BehindRange),
         // `(XEN) [    0.000000]  [0000000000000000, 000000000009fbff] (usable)`
-        (&[(b"(XEN)", BLANKS), (b"[", SPACE), (b"", DECIMAL), (b".", DECIMAL), (b"]", BLANKS), (b"[", HEX_16), (b",", BLANKS), (b"", HEX_16), (b"]", Run::Nothing)], Front::Word, &[(b"[", HEX_16), (b",", BLANKS), (b"", HEX_16), (b"]", Run::Nothing)], Ends::Last),
+        (&[(b"(XEN)", BLANKS), (b"[", SPACE), (b"", DECIMAL), (b".", DECIMAL), (b"]", BLANKS), (b"[", HEX_16), (b",", Run::Nothing)], Front::Word, &[(b"[", HEX_16), (b",", BLANKS), (b"", HEX_16), (b"]", Run::Nothing)], Ends::Last, Named::BehindRange),
         // `(XEN) [2026-12-01 08:00:01]  [0000000000000000, 000000000009fbff] (usable)`
-        (&[(b"(XEN)", BLANKS), (b"[", DECIMAL), (b"-", WORD), (b"", BLANKS), (b"", WORD), (b"", BLANKS), (b"[", HEX_16), (b",", BLANKS), (b"", HEX_16), (b"]", Run::Nothing)], Front::Word, &[(b"[", HEX_16), (b",", BLANKS), (b"", HEX_16), (b"]", Run::Nothing)], Ends::Last),
+        (&[(b"(XEN)", BLANKS), (b"[", DECIMAL), (b"-", WORD), (b"", BLANKS), (b"", WORD), (b"", BLANKS), (b"[", HEX_16), (b",", Run::Nothing)], Front::Word, &[(b"[", HEX_16), (b",", BLANKS), (b"", HEX_16), (b"]", Run::Nothing)], Ends::Last, Named::BehindRange),
         // `(XEN)  0000000000000000 - 000000000009fc00 (usable)`
-        (&[(b"(XEN)", BLANKS), (b"", HEX_16), (b"", BLANKS), (b"-", BLANKS), (b"", HEX_16)], Front::Word, &[(b"", HEX_16), (b"", BLANKS), (b"-", BLANKS), (b"", HEX_16)], Ends::Behind),
+        (&[(b"(XEN)", BLANKS), (b"", HEX_16), (b"", BLANKS), (b"-", Run::Nothing)], Front::Word, &[(b"", HEX_16), (b"", BLANKS), (b"-", BLANKS), (b"", HEX_16)], Ends::Behind, Named::BehindRange),
     ],
     &[
         (&[(b"usable", Run::Nothing)], MemoryKind::Ram),
         (&[(b"(usable)", Run::Nothing)], MemoryKind::Ram),
-        // also of `soft reserved`
         (&[(b"reserved", Run::Nothing)], MemoryKind::Reserved),
+        (&[(b"soft", BLANKS), (b"reserved", Run::Nothing)], MemoryKind::Reserved),
         (&[(b"(reserved)", Run::Nothing)], MemoryKind::Reserved),
         (&[(b"ACPI", BLANKS), (b"data", Run::Nothing)], MemoryKind::Acpi),
         (&[(b"(ACPI", BLANKS), (b"data)", Run::Nothing)], MemoryKind::Acpi),
@@ -41,4 +41,5 @@ pub const E820: Table<'static> = (
         // `Dom0 memory map:` of Xen, whose map is that of the first guest
         &[(b"Dom", DECIMAL), (b"", BLANKS), (b"memory", BLANKS), (b"map:", SPACE), (b"", Run::End)],
     ],
+    true,
 );

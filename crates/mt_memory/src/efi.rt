@@ -1,5 +1,5 @@
 use crate::MemoryKind;
-use crate::table::{Ends, Front, Table};
+use crate::table::{Ends, Front, Named, Table};
 use mt_rows::{BLANKS, DECIMAL, HEX_16, MARKS, Run, WORD};
 
 /// The lines of Linux behind `efi:`, and those of the UEFI shell.
@@ -7,9 +7,9 @@ use mt_rows::{BLANKS, DECIMAL, HEX_16, MARKS, Run, WORD};
 pub const EFI: Table<'static> = (
     &[
         // `efi: mem00: [Conventional Memory|   |  |..] range=[0x0000000000000000-0x0000000000000fff] (0MB)`
-        (&[(b"efi:", BLANKS), (b"mem", DECIMAL), (b":", Run::Nothing)], Front::Word, &[(b"range=[0x", HEX_16), (b"-0x", HEX_16), (b"]", BLANKS), (b"(", DECIMAL), (b"MB)", Run::Nothing)], Ends::LastBeforeSize),
+        (&[(b"efi:", BLANKS), (b"mem", DECIMAL), (b":", Run::Nothing)], Front::Word, &[(b"range=[0x", HEX_16), (b"-0x", HEX_16), (b"]", BLANKS), (b"(", DECIMAL), (b"MB)", Run::Nothing)], Ends::LastBeforeSize, Named::BehindFront),
         // `Available  0000000000100000-00000000007FFFFF 0000000000000700 000000000000000F`
-        (&[(b"", WORD), (b"", BLANKS), (b"", HEX_16), (b"-", HEX_16), (b"", BLANKS), (b"", HEX_16), (b"", BLANKS), (b"", HEX_16)], Front::Start, &[(b"", HEX_16), (b"-", HEX_16)], Ends::Last),
+        (&[(b"", WORD), (b"", BLANKS), (b"", HEX_16), (b"-", MARKS)], Front::Start, &[(b"", HEX_16), (b"-", HEX_16), (b"", BLANKS), (b"", HEX_16), (b"", BLANKS), (b"", HEX_16)], Ends::LastBeforeTwo, Named::AtFront),
     ],
     &[
         // of Linux, where `|`, a blank or more of the name is behind it
@@ -46,4 +46,5 @@ pub const EFI: Table<'static> = (
         // `Type       Start            End              # Pages          Attributes`
         &[(b"Type", BLANKS), (b"Start", BLANKS), (b"End", BLANKS), (b"#", BLANKS), (b"Pages", BLANKS), (b"Attributes", Run::End)],
     ],
+    false,
 );

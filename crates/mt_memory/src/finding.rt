@@ -1,7 +1,7 @@
 ghost use Rattle.std.specs.Prelude.{◌≡◌, ◌≤◌, drop, length, IfSome};
 ghost use Rattle.mt_rows.specs.Scan.{parts_at};
 ghost use Rattle.mt_text.specs.Text.{is_blank};
-ghost use Rattle.mt_memory.specs.Finding.{fields_at, first_named, has_heading, headings_at, name_at, named, names_at, stands};
+ghost use Rattle.mt_memory.specs.Finding.{fields_at, first_named, has_heading, headings_at, names_at, next_word, stands};
 
 use crate::MemoryKind;
 use crate::table::Name;
@@ -15,10 +15,27 @@ fn is_blank(byte: u8) -> bool
 
 /// What stands in a line behind so many bytes.
 pub(crate) fn behind(count: usize, line: &[u8]) -> &[u8]
-    requires { count ≤ length line.now }
     ensures { result.now ≡ drop count line.now }
 {
-    &line[count..]
+    if count < line.len() {
+        &line[count..]
+    } else {
+        &[]
+    }
+}
+
+/// The next word, and what stands behind it.
+pub(crate) fn next_word(line: &[u8]) -> &[u8]
+    ensures { result.now ≡ next_word line.now }
+{
+    let mut left = false;
+    for (i, byte) in line.iter().enumerate() {
+        if left && !is_blank(*byte) {
+            return behind(i, line);
+        }
+        left = left || is_blank(*byte);
+    }
+    &[]
 }
 
 // The numbers of what is left of a line, if a word begins with its first byte and a row reads it.
@@ -47,39 +64,14 @@ pub(crate) fn stands(parts: &[Part<'_>], line: &[u8]) -> Option<(usize, Fields)>
     None
 }
 
-// The kind that the first of these names that reads a line has.
-fn first_named(names: &[Name<'_>], line: &[u8]) -> Option<MemoryKind>
-    ensures { result ≡ first_named (names_at names.now) line.now }
+/// The kind that the first of these names that reads a text has.
+pub(crate) fn first_named(names: &[Name<'_>], text: &[u8]) -> Option<MemoryKind>
+    ensures { result ≡ first_named (names_at names.now) text.now }
 {
     'names: for name in names {
-        if scanned(name.0, line).is_some() {
+        if scanned(name.0, text).is_some() {
             return Some(name.1);
         }
-    }
-    None
-}
-
-// The same, if a word begins with the line's first byte.
-fn name_at(names: &[Name<'_>], starts: bool, byte: u8, rest: &[u8]) -> Option<MemoryKind>
-    ensures { result ≡ name_at (names_at names.now) starts byte rest.now }
-{
-    if starts && !is_blank(byte) {
-        first_named(names, rest)
-    } else {
-        None
-    }
-}
-
-/// The kind that is named at the first word at which one is.
-pub(crate) fn named(names: &[Name<'_>], line: &[u8]) -> Option<MemoryKind>
-    ensures { result ≡ named (names_at names.now) line.now }
-{
-    let mut starts = true;
-    for (i, byte) in line.iter().enumerate() {
-        if let Some(kind) = name_at(names, starts, *byte, behind(i, line)) {
-            return Some(kind);
-        }
-        starts = is_blank(*byte);
     }
     None
 }

@@ -24,7 +24,8 @@ pub enum WhichMap {
     Number(u64),
 }
 
-/// The maps of a log that have begun. One begins with the first range of all, and with the first behind each heading.
+/// The maps of a log that have begun. One begins with the first range of all, with the first behind each heading, and with each range
+/// that doesn't lie above the one before it, if the source lists ranges in ascending order.
 #[derive(Clone, Copy)]
 pub struct MapsBegun {
     pub count: u64,
@@ -32,15 +33,8 @@ pub struct MapsBegun {
     pub first: u64,
     /// That of the last one's.
     pub last: u64,
-}
-
-/// Whether a map is under way, and whether it is the wanted one.
-#[derive(Clone, Copy)]
-pub enum UnderWay {
-    /// None is: no range was shown since the last heading.
-    Between,
-    Other,
-    Wanted,
+    /// The log's first line that breaks off, or 0 if none does.
+    pub broken: u64,
 }
 
 /// Why a log shows no map, and where.
@@ -54,6 +48,8 @@ pub enum MapFault {
     UnknownKind(Place),
     /// `/proc/iomem` hides its numbers from all but root.
     Hidden(Place),
+    /// The line begins as UTF-16 does.
+    Utf16(Place),
     /// The map has more than 512 ranges.
     TooManyRanges(Place),
     /// The log has several maps, and none is named.
@@ -92,6 +88,8 @@ pub struct MemoryMap {
     pub ranges: Ranges,
     /// The first line that shows bytes of a line before it.
     pub overlap: Option<Overlap>,
+    /// The log's first line in which a range begins and isn't whole, or 0 if there is none.
+    pub broken: u64,
 }
 
 impl Default for Claim {

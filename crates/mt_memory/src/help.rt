@@ -8,7 +8,7 @@ fn help_text() -> &'static [u8]
     ensures text { result.now ≡ help_text }
     ensures short { length result.now ≤ 24576 }
 {
-    b"usage: mtrr-import memory [FORMAT [table=N]] [LOG] > MAP
+    b"usage: mtrr-import memory [FORMAT] [table=N] [LOG] > MAP
 
 Writes the memory map that a log shows, a line for each longest range of one
 kind: its first and its last byte, both hexadecimal, and ram, reserved, device,

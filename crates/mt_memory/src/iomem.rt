@@ -1,6 +1,6 @@
 use crate::MemoryKind;
-use crate::table::{Ends, Front, Table};
-use mt_rows::{BLANKS, Kind, Run, WORD};
+use crate::table::{Ends, Front, Named, Table};
+use mt_rows::{BLANKS, FIGURES, Kind, Run, WORD};
 
 // Linux writes eight digits at least.
 const LONG_HEX: Run = Run::Of(Kind::Hexadecimal, 8, 16);
@@ -10,7 +10,9 @@ const LONG_HEX: Run = Run::Of(Kind::Hexadecimal, 8, 16);
 pub const IOMEM: Table<'static> = (
     &[
         // `00001000-0009fbff : System RAM`
-        (&[(b"", LONG_HEX), (b"-", LONG_HEX), (b"", BLANKS), (b":", Run::Nothing)], Front::Start, &[(b"", LONG_HEX), (b"-", LONG_HEX)], Ends::LastOrHidden),
+        (&[(b"", LONG_HEX), (b"-", LONG_HEX), (b"", BLANKS), (b":", Run::Nothing)], Front::Start, &[(b"", LONG_HEX), (b"-", LONG_HEX)], Ends::LastOrHidden, Named::BehindRange),
+        // a line that ends in its range
+        (&[(b"", LONG_HEX), (b"-", FIGURES), (b"", Run::End)], Front::Start, &[(b"", LONG_HEX), (b"-", LONG_HEX)], Ends::LastOrHidden, Named::BehindRange),
     ],
     &[
         (&[(b":", BLANKS), (b"System", BLANKS), (b"RAM", Run::Nothing)], MemoryKind::Ram),
@@ -30,4 +32,5 @@ pub const IOMEM: Table<'static> = (
         // Linux reserves the first page, so each map begins there.
         &[(b"00000000-", LONG_HEX), (b"", BLANKS), (b":", Run::Nothing)],
     ],
+    true,
 );

@@ -1,11 +1,24 @@
 ghost use Rattle.mt_memory.specs.MapText.{WrittenReadsBack};
-ghost use Rattle.mt_memory.specs.Maps.{JoinedIsSame, LaterCounts, MapsAreShown, ReturnsChangeNothing, SpareHeads, SpareLines};
-ghost use Rattle.mt_memory.specs.Pages.{PagesAreOfKinds};
+ghost use Rattle.mt_memory.specs.Maps.{JoinedIsSame, LaterCounts, MapsAreGiven, MapsAreShown, ReturnsChangeNothing, SpareHeads, SpareLines};
+ghost use Rattle.mt_memory.specs.Outcome.{MapsArePrinted, ReasonsComeAlone};
+ghost use Rattle.mt_memory.specs.Pages.{PagesAreGiven, PagesAreOfKinds};
 
-/// A byte of a log's map has the kind that the last line shows that has it, of the lines of the map that is wanted. The ranges
-/// ascend, and are the longest.
+/// If a log has a map, no line of the wanted map has a fault, and a byte has the kind of the last of these lines that shows it. The
+/// ranges ascend, and are the longest. A line that shows bytes of an earlier one is named if there is one, with that one, and so is
+/// a line that breaks off.
 pub fn maps_are_shown_by_lines()
     ensures { MapsAreShown }
+{}
+
+/// A log has a map if the lines of the wanted one show up to 512 ranges in ascending order: these, joined where those of one kind touch.
+pub fn maps_are_given()
+    ensures { MapsAreGiven }
+{}
+
+/// At status 0 a log's map is printed, and what is told of it. At any other status no map is.
+pub fn maps_are_printed()
+    ensures printed { MapsArePrinted }
+    ensures alone { ReasonsComeAlone }
 {}
 
 /// Where ranges of lines share bytes, the later line counts.
@@ -23,7 +36,12 @@ pub fn pages_are_of_kinds()
     ensures { PagesAreOfKinds }
 {}
 
-/// A line that begins no map and shows nothing changes nothing.
+/// Ranges in ascending order, of which there are at most 512, have pages.
+pub fn pages_are_given()
+    ensures { PagesAreGiven }
+{}
+
+/// A line that begins no map, shows nothing and doesn't break off changes nothing.
 pub fn spare_lines_change_nothing()
     ensures { SpareLines }
 {}

@@ -28,15 +28,13 @@ pub use command::{Asked, command_of};
 pub use coreboot::COREBOOT;
 pub use e820::E820;
 pub use efi::EFI;
-pub use format::{
-    Claim, Format, MapFault, MapsBegun, MemoryMap, Overlap, Shown, UnderWay, WhichMap,
-};
+pub use format::{Claim, Format, MapFault, MapsBegun, MemoryMap, Overlap, Shown, WhichMap};
 pub use iomem::IOMEM;
 pub use kind::{MOST_RANGES, Ranges};
 pub use laws::{
-    joined_ranges_give_the_same_kinds, maps_are_shown_by_lines, pages_are_of_kinds,
-    returns_change_nothing, spare_heads_change_nothing, spare_lines_change_nothing,
-    the_later_line_counts, what_is_written_reads_back,
+    joined_ranges_give_the_same_kinds, maps_are_given, maps_are_printed, maps_are_shown_by_lines,
+    pages_are_given, pages_are_of_kinds, returns_change_nothing, spare_heads_change_nothing,
+    spare_lines_change_nothing, the_later_line_counts, what_is_written_reads_back,
 };
 pub use map_fault::{MapTextFault, MapTextReason};
 pub use mt_memory_kinds::{MemoryKind, MemoryRange};
@@ -46,7 +44,7 @@ pub use pages::pages_of;
 pub use program::{asks_for_map, map_status};
 pub use reader::read_log;
 pub use running::import_map;
-pub use table::{Ends, Form, Front, Name, Table};
+pub use table::{Ends, Form, Front, Name, Named, Seen, Table};
 pub use worked::{
     worked_faults, worked_lines, worked_maps, worked_names, worked_overlap, worked_pages,
 };

@@ -1,6 +1,6 @@
 ghost use Rattle.std.specs.Prelude.{◌≡◌, ◌≤◌, ◌≢◌, ◌+◌, ◌++◌, decimal, length, Some};
 ghost use Rattle.arrayvec.specs.ArrayVec.{array_vec_len};
-ghost use Rattle.mt_memory.specs.Outcome.{IsToldStatus, between, fault_status, fault_text, format_name, format_note, maps_text, missing_map, note_text, outcome_by, overlap_note, own_outcome, usage_outcome};
+ghost use Rattle.mt_memory.specs.Outcome.{IsToldStatus, between, broken_note, fault_status, fault_text, format_name, format_note, maps_text, missing_map, note_text, outcome_by, overlap_note, own_outcome, usage_outcome};
 
 use crate::command::Asked;
 use crate::format::Overlap;
@@ -38,7 +38,7 @@ fn between(count: u64) -> &'static [u8]
 
 // `2 maps, at lines 1 and 18`
 fn append_maps(line: &mut LineBuffer, begun: MapsBegun)
-    requires { array_vec_len line.old ≤ 64 }
+    requires { array_vec_len line.old ≤ 128 }
     ensures text { line.new.items ≡ line.old.items ++ maps_text begun }
     ensures short { array_vec_len line.new ≤ array_vec_len line.old + 85 }
 {
@@ -67,10 +67,25 @@ fn several_maps(begun: MapsBegun) -> LineBuffer
     line
 }
 
+// The line on one that breaks off.
+fn append_broken(line: &mut LineBuffer, broken: u64)
+    requires { array_vec_len line.old ≤ 32 }
+    ensures text { line.new.items ≡ line.old.items ++ broken_note broken }
+    ensures short { array_vec_len line.new ≤ array_vec_len line.old + 76 }
+{
+    if broken == 0 {
+        return;
+    }
+    append(line, b"warning: line ");
+    append_decimal(line, broken);
+    append(line, b": it breaks off, and its range is missing\n");
+}
+
 fn missing_map(which: WhichMap, begun: MapsBegun) -> LineBuffer
     ensures { result.items ≡ missing_map which begun }
 {
     let mut line = ArrayVec::new();
+    append_broken(&mut line, begun.broken);
     append(&mut line, b"missing ");
     match which {
         WhichMap::Sole => append(&mut line, b"map"),
@@ -94,6 +109,7 @@ fn fault_text(which: WhichMap, fault: &MapFault) -> LineBuffer
         MapFault::Backward(place) => bad_text(*place, b"bad range"),
         MapFault::UnknownKind(place) => bad_text(*place, b"unknown kind"),
         MapFault::Hidden(place) => bad_text(*place, b"hidden: read as root"),
+        MapFault::Utf16(place) => bad_text(*place, b"UTF-16"),
         MapFault::TooManyRanges(place) => bad_text(*place, b"too many ranges"),
         MapFault::SeveralMaps(begun) => several_maps(*begun),
         MapFault::NoMap(begun) => missing_map(which, *begun),
@@ -142,7 +158,7 @@ fn append_format(line: &mut LineBuffer, asked: &Asked, format: Format)
 
 // The line on bytes that two lines show.
 fn append_overlap(line: &mut LineBuffer, overlap: Option<Overlap>)
-    requires { array_vec_len line.old ≤ 32 }
+    requires { array_vec_len line.old ≤ 108 }
     ensures { line.new.items ≡ line.old.items ++ overlap_note overlap }
 {
     if let Some(overlap) = overlap {
@@ -159,6 +175,7 @@ fn note_text(asked: &Asked, map: &MemoryMap) -> LineBuffer
 {
     let mut line = ArrayVec::new();
     append_format(&mut line, asked, map.format);
+    append_broken(&mut line, map.broken);
     append_overlap(&mut line, map.overlap);
     line
 }

@@ -1,6 +1,7 @@
 ghost use Rattle.std.specs.Prelude.{◌≡◌, ◌≤◌, length, IfSome, MatchOption, None, Some};
 ghost use Rattle.mt_memory_kinds.specs.Ranges.{AreAscending};
-ghost use Rattle.mt_memory.specs.Pages.{claim_of, claims_of, counted, pages_between, pages_of, settled_from, settled_kinds};
+ghost use Rattle.mt_memory.specs.Pages.{claim_of, claims_of, counted, pages_between, pages_of, settled_kinds};
+ghost use Rattle.mt_memory.specs.Log.{settled_from};
 
 use crate::format::{Claim, Shown};
 use crate::laying::joined;

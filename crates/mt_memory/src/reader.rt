@@ -5,11 +5,11 @@ ghost use Rattle.mt_text.specs.Text.{longest_input};
 ghost use Rattle.mt_text.specs.declared.fault.FeedFault.{FeedFault};
 ghost use Rattle.mt_memory.specs.Showing.{chosen};
 ghost use Rattle.mt_memory.specs.Steps.{Becomes};
-ghost use Rattle.mt_memory.specs.Log.{begun_with, finished, headed, is_between, is_last, is_sole, is_wanted, log_map, none_begun, number_of, opened, starts, taken, taken_shown};
+ghost use Rattle.mt_memory.specs.Log.{begun_behind, begun_with, finished, headed, is_last, is_sole, log_map, none_begun, number_of, opened, starts, taken, taken_shown};
 
-use crate::format::{Format, MapFault, MapsBegun, MemoryMap, Shown, UnderWay, WhichMap};
+use crate::format::{Format, MapFault, MapsBegun, MemoryMap, Shown, WhichMap};
 use crate::settled::Settled;
-use crate::showing::{begins_map, chosen, shown_in};
+use crate::showing::{begins_map, breaks_off, chosen, low_behind, shown_in};
 use mt_ports::Source;
 use mt_text::{FeedFault, Line, LineReader, Place, read_lines};
 use std::marker::Model;
@@ -21,8 +21,11 @@ pub struct LogReader {
     // the format, if it is known
     format: Option<Format>,
     begun: MapsBegun,
-    under_way: UnderWay,
-    // how many maps begin up to the wanted one, unless that is the last
+    // no range was shown since the last map ended
+    between: bool,
+    // the first byte of the last range
+    low: u64,
+    // how many maps end up to the end of the wanted one, unless that is the last
     ahead: u64,
     wanted: Settled,
 }
@@ -32,7 +35,7 @@ impl Model for LogReader {
 
     ghost Value = { State };
 
-    ghost view = { λ r. record { which = r.which; format = r.format; begun = r.begun; under_way = r.under_way; ahead = r.ahead; wanted = r.wanted } };
+    ghost view = { λ r. record { which = r.which; format = r.format; begun = r.begun; between = r.between; low = r.low; ahead = r.ahead; wanted = r.wanted } };
 }
 
 impl WhichMap {
@@ -68,6 +71,7 @@ impl MapsBegun {
             count: 0,
             first: 0,
             last: 0,
+            broken: 0,
         }
     }
 
@@ -79,6 +83,21 @@ impl MapsBegun {
             count: one_more(self.count),
             first: if self.count == 0 { line } else { self.first },
             last: line,
+            broken: self.broken,
+        }
+    }
+
+    // Those behind a line of a format.
+    fn behind(self, format: Format, line: &Line<'_>) -> MapsBegun
+        ensures { result ≡ begun_behind self format line.now.number line.now.bytes.now }
+    {
+        if self.broken == 0 && breaks_off(format, line) {
+            MapsBegun {
+                broken: line.number,
+                ..self
+            }
+        } else {
+            self
         }
     }
 }
@@ -95,20 +114,6 @@ fn one_less(count: u64) -> u64
     if count > 0 { count - 1 } else { 0 }
 }
 
-impl UnderWay {
-    fn is_between(self) -> bool
-        ensures { result ≡ is_between self }
-    {
-        matches!(self, UnderWay::Between)
-    }
-
-    fn is_wanted(self) -> bool
-        ensures { result ≡ is_wanted self }
-    {
-        matches!(self, UnderWay::Wanted)
-    }
-}
-
 impl LogReader {
     /// A reader that has read nothing. Without a format, the first line that tells one does.
     pub fn new(format: Option<Format>, which: WhichMap) -> LogReader
@@ -118,7 +123,8 @@ impl LogReader {
             which,
             format,
             begun: MapsBegun::none(),
-            under_way: UnderWay::Between,
+            between: true,
+            low: 0,
             ahead: which.number(),
             wanted: Settled::new(),
         }
@@ -128,18 +134,14 @@ impl LogReader {
     fn open(&mut self, line: u64)
         ensures { self.new ≡ opened self.old line }
     {
+        if self.begun.count > 0 {
+            self.ahead = one_less(self.ahead);
+        }
         self.begun = self.begun.with(line);
+        self.between = false;
         if self.which.is_last() {
             self.wanted = Settled::new();
-            self.under_way = UnderWay::Wanted;
-            return;
         }
-        self.under_way = if self.ahead == 1 {
-            UnderWay::Wanted
-        } else {
-            UnderWay::Other
-        };
-        self.ahead = one_less(self.ahead);
     }
 
     // Takes what a line shows, if that isn't nothing.
@@ -149,22 +151,22 @@ impl LogReader {
         if matches!(shown, Shown::Nothing) {
             return;
         }
-        if self.under_way.is_between() {
+        if self.between {
             self.open(line);
         }
-        if self.under_way.is_wanted() {
+        if self.which.is_last() || self.ahead == 1 {
             self.wanted.take(shown);
         }
     }
 
-    // Takes the format of a line, and whether it is a heading.
-    fn head(&mut self, format: Format, begins: bool)
-        ensures { self.new ≡ headed self.old format begins }
+    // Takes the format of a line, whether a map begins there, and whether it breaks off.
+    fn head(&mut self, format: Format, line: &Line<'_>, shown: &Shown)
+        ensures { self.new ≡ headed self.old format line.now.number line.now.bytes.now shown.now }
     {
         self.format = Some(format);
-        if begins {
-            self.under_way = UnderWay::Between;
-        }
+        self.between = begins_map(format, self.low, line, shown) || self.between;
+        self.low = low_behind(self.low, shown);
+        self.begun = self.begun.behind(format, line);
     }
 
     fn format_of(&self, line: &Line<'_>) -> Option<Format>
@@ -181,8 +183,9 @@ impl LogReader {
             return Err(MapFault::LongLine(line.past_limit()));
         }
         if let Some(format) = self.format_of(line) {
-            self.head(format, begins_map(format, line));
-            self.take_shown(&shown_in(format, line), line.number);
+            let shown = shown_in(format, line);
+            self.head(format, line, &shown);
+            self.take_shown(&shown, line.number);
         }
         Ok(())
     }
@@ -202,6 +205,7 @@ impl LogReader {
                 format,
                 ranges: self.wanted.ranges(),
                 overlap: self.wanted.overlap(),
+                broken: self.begun.broken,
             }),
             _ => Err(MapFault::NoMap(self.begun)),
         }

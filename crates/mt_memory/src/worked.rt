@@ -1,7 +1,7 @@
 ghost use Rattle.std.specs.Prelude.{◌≡◌, ◌∷◌, [], codes, None, Some};
 ghost use Rattle.mt_memory.specs.Pages.{pages_of};
 ghost use Rattle.mt_memory.specs.Showing.{shown_in};
-ghost use Rattle.mt_memory.specs.Worked.{ComesTo, Names, Refuses, Shows, ShowsFault, at_column, overlapping, range, two_maps};
+ghost use Rattle.mt_memory.specs.Worked.{AreNamed, ComesTo, Refuses, Shows, ShowsFault, at_column, overlapping, range, starting_over, two_maps};
 ghost use Rattle.mt_memory.specs.declared.format.Format.{Format};
 ghost use Rattle.mt_memory.specs.declared.format.MapFault.{MapFault};
 ghost use Rattle.mt_memory.specs.declared.format.Shown.{Shown};
@@ -20,38 +20,22 @@ pub fn worked_lines()
     ensures iomem { Shows Format.Iomem (codes "000a0000-000bffff : PCI Bus 0000:00") 0xa0000 0xbffff MemoryKind.Device }
 {}
 
-/// A range that ends before it begins, one that `/proc/iomem` hides, and a kind that isn't known are faults. An empty range is none.
+/// A range that ends before it begins, one that `/proc/iomem` hides, a kind that isn't known and UTF-16 are faults. An empty range is none.
 pub fn worked_faults()
     ensures backward { ShowsFault Format.E820 (codes "BIOS-e820: [mem 0x0000000000002000-0x0000000000001000] usable") (MapFault.Backward (at_column 12)) }
     ensures half_open { ShowsFault Format.E820 (codes "(XEN)  00000000000a0000 - 000000000009fc00 (reserved)") (MapFault.Backward (at_column 8)) }
     ensures hidden { ShowsFault Format.Iomem (codes "00000000-00000000 : System RAM") (MapFault.Hidden (at_column 1)) }
     ensures unknown { ShowsFault Format.E820 (codes "BIOS-e820: [mem 0x0000000000001000-0x0000000000001fff] spare") (MapFault.UnknownKind (at_column 12)) }
+    ensures wide { ShowsFault Format.Iomem (255 ∷ 254 ∷ 48 ∷ 0 ∷ []) (MapFault.Utf16 (at_column 1)) }
     ensures empty { shown_in Format.E820 1 (codes "BIOS-e820: [mem 0x0000000000001000-0x0000000000000fff] usable") ≡ Shown.Nothing }
 {}
 
 /// The names of kinds in each format.
 pub fn worked_names()
-    ensures e820 { Names Format.E820 (codes "usable" ∷ codes "(usable)" ∷ codes "reserved" ∷ codes "soft reserved" ∷ codes "(reserved)" ∷ codes "ACPI data" ∷ codes "(ACPI data)"
-        ∷ codes "ACPI NVS" ∷ codes "(ACPI NVS)" ∷ codes "unusable" ∷ codes "(unusable)" ∷ codes "persistent (type 7)" ∷ codes "type 20" ∷ [])
-        (MemoryKind.Ram ∷ MemoryKind.Ram ∷ MemoryKind.Reserved ∷ MemoryKind.Reserved ∷ MemoryKind.Reserved ∷ MemoryKind.Acpi ∷ MemoryKind.Acpi
-        ∷ MemoryKind.Nvs ∷ MemoryKind.Nvs ∷ MemoryKind.Unusable ∷ MemoryKind.Unusable ∷ MemoryKind.Reserved ∷ MemoryKind.Reserved ∷ []) }
-    ensures linux_efi { Names Format.Efi (codes "[Conventional Memory|" ∷ codes "[Loader Code" ∷ codes "[Boot Data" ∷ codes "[Unaccepted|" ∷ codes "[Reserved" ∷ codes "[Runtime Code"
-        ∷ codes "[PAL Code" ∷ codes "[Persistent" ∷ codes "[type=0x80000000" ∷ codes "[MMIO Port" ∷ codes "[Memory Mapped I/O" ∷ codes "[ACPI Reclaim Memory" ∷ codes "[ACPI Memory NVS|"
-        ∷ codes "[ACPI Mem NVS" ∷ codes "[Unusable Memory" ∷ [])
-        (MemoryKind.Ram ∷ MemoryKind.Ram ∷ MemoryKind.Ram ∷ MemoryKind.Ram ∷ MemoryKind.Reserved ∷ MemoryKind.Reserved ∷ MemoryKind.Reserved ∷ MemoryKind.Reserved ∷ MemoryKind.Reserved
-        ∷ MemoryKind.Device ∷ MemoryKind.Device ∷ MemoryKind.Acpi ∷ MemoryKind.Nvs ∷ MemoryKind.Nvs ∷ MemoryKind.Unusable ∷ []) }
-    ensures shell { Names Format.Efi (codes "Available" ∷ codes "LoaderData" ∷ codes "BS_Code" ∷ codes "Unaccepted" ∷ codes "Reserved" ∷ codes "RT_Data" ∷ codes "PalCode" ∷ codes "Persistent"
-        ∷ codes "MMIO_Port" ∷ codes "ACPI_Recl" ∷ codes "ACPI_NVS" ∷ codes "Unusable" ∷ [])
-        (MemoryKind.Ram ∷ MemoryKind.Ram ∷ MemoryKind.Ram ∷ MemoryKind.Ram ∷ MemoryKind.Reserved ∷ MemoryKind.Reserved ∷ MemoryKind.Reserved ∷ MemoryKind.Reserved
-        ∷ MemoryKind.Device ∷ MemoryKind.Acpi ∷ MemoryKind.Nvs ∷ MemoryKind.Unusable ∷ []) }
-    ensures coreboot { Names Format.Coreboot (codes "RAM" ∷ codes "RAMSTAGE" ∷ codes "PAYLOAD" ∷ codes "RESERVED" ∷ codes "VENDOR RESERVED" ∷ codes "CONFIGURATION TABLES" ∷ codes "BL31"
-        ∷ codes "OPENSBI" ∷ codes "ACPI" ∷ codes "NVS" ∷ codes "UNUSABLE" ∷ [])
-        (MemoryKind.Ram ∷ MemoryKind.Ram ∷ MemoryKind.Ram ∷ MemoryKind.Reserved ∷ MemoryKind.Reserved ∷ MemoryKind.Reserved ∷ MemoryKind.Reserved
-        ∷ MemoryKind.Reserved ∷ MemoryKind.Acpi ∷ MemoryKind.Nvs ∷ MemoryKind.Unusable ∷ []) }
-    ensures iomem { Names Format.Iomem (codes ": System RAM" ∷ codes ": Reserved" ∷ codes ": reserved" ∷ codes ": Soft Reserved" ∷ codes ": RAM buffer" ∷ codes ": Unknown E820 type"
-        ∷ codes ": Persistent Memory" ∷ codes ": ACPI Tables" ∷ codes ": ACPI Non-volatile Storage" ∷ codes ": Unusable memory" ∷ codes ": PCI Bus 0000:00" ∷ [])
-        (MemoryKind.Ram ∷ MemoryKind.Reserved ∷ MemoryKind.Reserved ∷ MemoryKind.Reserved ∷ MemoryKind.Reserved ∷ MemoryKind.Reserved
-        ∷ MemoryKind.Reserved ∷ MemoryKind.Acpi ∷ MemoryKind.Nvs ∷ MemoryKind.Unusable ∷ MemoryKind.Device ∷ []) }
+    ensures e820 { AreNamed Format.E820 }
+    ensures efi { AreNamed Format.Efi }
+    ensures coreboot { AreNamed Format.Coreboot }
+    ensures iomem { AreNamed Format.Iomem }
 {}
 
 /// The later of two lines that overlap counts.
@@ -60,12 +44,13 @@ pub fn worked_overlap()
         (Some (record { line = 3; earlier = 1 })) }
 {}
 
-/// The last of two maps is one range, and without a choice the second is a fault.
+/// The last of two maps is one range, and without a choice the second is a fault, with a heading or without.
 pub fn worked_maps()
     ensures last { ComesTo WhichMap.Last two_maps (range 0x2000 0x3fff MemoryKind.Ram ∷ []) None }
     ensures first { ComesTo (WhichMap.Number 1) two_maps (range 0x1000 0x1fff MemoryKind.Ram ∷ []) None }
-    ensures sole { Refuses WhichMap.Sole two_maps (MapFault.SeveralMaps (record { count = 2; first = 2; last = 4 })) }
-    ensures third { Refuses (WhichMap.Number 3) two_maps (MapFault.NoMap (record { count = 2; first = 2; last = 4 })) }
+    ensures sole { Refuses WhichMap.Sole two_maps (MapFault.SeveralMaps (record { count = 2; first = 2; last = 4; broken = 0 })) }
+    ensures over { Refuses WhichMap.Sole starting_over (MapFault.SeveralMaps (record { count = 2; first = 1; last = 2; broken = 3 })) }
+    ensures third { Refuses (WhichMap.Number 3) two_maps (MapFault.NoMap (record { count = 2; first = 2; last = 4; broken = 0 })) }
 {}
 
 /// A page that is RAM in part is none, and one that ranges share has the first of their kinds.

@@ -3,4 +3,4 @@ use Rattle.mt_memory.specs.Finding.{first_named, names_at}
 use Rattle.mt_memory.proofs.finding.first_named.Given as goal
 
 abbrev pub invariant-names : goal.invariant-names
-invariant-names l = first_named (names_at (drop l.name-index l.names)) l.line ≡ first_named (names_at l.names) l.line
+invariant-names l = first_named (names_at (drop l.name-index l.names)) l.text ≡ first_named (names_at l.names) l.text

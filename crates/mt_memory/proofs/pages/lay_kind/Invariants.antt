@@ -1,5 +1,6 @@
 use Rattle.std.proofs.Common.{◌≡◌, drop}
-use Rattle.mt_memory.specs.Pages.{claims_of, settled_from}
+use Rattle.mt_memory.specs.Log.{settled_from}
+use Rattle.mt_memory.specs.Pages.{claims_of}
 use Rattle.mt_memory.proofs.pages.lay_kind.Given as goal
 
 abbrev pub invariant-each : goal.invariant-each

@@ -21,3 +21,7 @@ returns-clause-unknown c = refl
 pub returns-clause-empty : goal.returns-clause-empty
 unfolding e820
 returns-clause-empty c = refl
+
+pub returns-clause-wide : goal.returns-clause-wide
+unfolding iomem
+returns-clause-wide c = refl

@@ -17,3 +17,7 @@ returns-clause-sole c = refl
 pub returns-clause-third : goal.returns-clause-third
 unfolding e820 told_in
 returns-clause-third c = refl
+
+pub returns-clause-over : goal.returns-clause-over
+unfolding e820 told_in
+returns-clause-over c = refl

@@ -4,20 +4,16 @@ use Rattle.mt_memory.proofs.worked.worked_names.Goals as goal
 
 pub returns-clause-e820 : goal.returns-clause-e820
 unfolding e820
-returns-clause-e820 c = refl
+returns-clause-e820 c = (refl, (refl, (refl, (refl, (refl, tt)))))
 
-pub returns-clause-linux_efi : goal.returns-clause-linux_efi
+pub returns-clause-efi : goal.returns-clause-efi
 unfolding efi
-returns-clause-linux_efi c = refl
-
-pub returns-clause-shell : goal.returns-clause-shell
-unfolding efi
-returns-clause-shell c = refl
+returns-clause-efi c = (refl, (refl, (refl, (refl, (refl, (refl, (refl, tt)))))))
 
 pub returns-clause-coreboot : goal.returns-clause-coreboot
 unfolding coreboot
-returns-clause-coreboot c = refl
+returns-clause-coreboot c = (refl, (refl, (refl, (refl, (refl, tt)))))
 
 pub returns-clause-iomem : goal.returns-clause-iomem
 unfolding iomem
-returns-clause-iomem c = refl
+returns-clause-iomem c = (refl, (refl, (refl, (refl, (refl, (refl, tt))))))
