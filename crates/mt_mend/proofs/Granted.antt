@@ -1,15 +1,15 @@
 -- What a fit for the map of the wished types gives.
 use Rattle.std.proofs.Common.{◌≡◌, ◌∙◌, ℕ, suc, ◌-◌, ◌<◌, ◌≤◌, Bool, true, false, List, [], ◌∷◌, ◌++◌, Some, None, refl, sym, ap, inl, inr, arith}
-use Rattle.std.specs.Prelude.{IsTrue, nat_le, nat_lt, not, ◌&&◌, if◌then◌else◌}
+use Rattle.std.specs.Prelude.{IsTrue, nat_le, nat_lt, not, if◌then◌else◌}
 use Rattle.std.specs.List.{All, slice_index_or}
-use Rattle.std.proofs.lemmas.Bool.{and_parts, cases_Bool, cases_lt, ltb-false, ltb-true}
+use Rattle.std.proofs.lemmas.Bool.{cases_Bool, cases_lt}
 use Rattle.std.proofs.lemmas.Bool.Decides.{nat_tests}
 use Rattle.std.proofs.lemmas.List.Sums.{fold-append}
 use Rattle.mt_kinds.specs.declared.mem_type.MemType.{MemType}
 use Rattle.mt_ranges.proofs.Powers.{pow_below}
 use Rattle.mt_regs.specs.declared.page_type.PageType.{PageType}
 use Rattle.mt_regs.specs.declared.page_type.PageType.TheVariants.{Kind, Undefined}
-use Rattle.mt_regs.specs.RegisterFile.{RegisterFile, is_enabled, is_fixed_enabled, page_count}
+use Rattle.mt_regs.specs.RegisterFile.{RegisterFile, is_enabled, page_count}
 use Rattle.mt_regs.specs.PageTypes.{fixed_type, matching_types, page_type, page_type_among}
 use Rattle.mt_tidy.specs.declared.fits.Tidied.{Tidied}
 use Rattle.mt_tidy.specs.Tidied.{IsTidied, Tidying}
@@ -18,10 +18,10 @@ use Rattle.mt_types.specs.declared.run.Run.{Run}
 use Rattle.mt_types.specs.Runs.{kind_at}
 use Rattle.mt_types.proofs.Chains.{chain_ascends, kind_of_run, within_chain}
 use Rattle.mt_types.proofs.Once.{some_run}
-use Rattle.mt_mend.specs.declared.fault.WishFault.TheVariants.{NoPage, BeyondWidth, UnsupportedType, FixedRange}
+use Rattle.mt_mend.specs.declared.fault.WishFault.TheVariants.{NoPage, BeyondWidth, UnsupportedType}
 use Rattle.mt_mend.specs.declared.wish.Wish.{Wish}
 use Rattle.mt_mend.specs.Mended.{AreGiven, IsMended, IsReady, bare, bare_file}
-use Rattle.mt_mend.specs.Wishes.{AreWished, EndsInTime, IsFirstUndefined, IsWish, can_give, granted, has_page, over, wished_type}
+use Rattle.mt_mend.specs.Wishes.{AreMetBelow, AreWished, EndsInTime, IsFirstUndefined, IsWish, can_give, granted, has_page, over, wished_type}
 
 nothing : Run
 nothing = record { first = 0; count = 0; kind = Undefined }
@@ -77,62 +77,40 @@ over_none page own [] none = refl
 over_none page own (w ∷ ws) none =
     ap (λ k. over k ws page) (granted_none page own w (none 0 w (omega arith))) ∙ over_none page own ws (λ k d within. none (suc k) d (omega (arith, within)))
 
--- a wish that isn't at fault
-pub record IsSound (f : RegisterFile) (w : Wish) : Type 0 where
-  pub below : w.last < page_count f
-  pub nonfree : is_free f w.first ≡ false
-
 not_le : (a b : ℕ) → nat_le a b ≡ false → b < a
 not_le a b h = grind (arith, nat_tests, h)
 
-le_not : (a b : ℕ) → b < a → nat_le a b ≡ false
-le_not a b h = grind (arith, nat_tests, h)
-
-pub sound : (f : RegisterFile) (w : Wish) → IsWish f w → IsSound f w
-sound f w is = by (nat_lt w.last w.first) (nat_le (page_count f) w.last) (not (is_supported_type f w.kind)) (is_free f w.first) refl refl is
+-- a wish that isn't at fault ends in the address space
+last_below : (f : RegisterFile) (w : Wish) → IsWish f w → w.last < page_count f
+last_below f w is = by (nat_lt w.last w.first) (nat_le (page_count f) w.last) (not (is_supported_type f w.kind)) refl is
   where
-    by : (a b c d : Bool) → nat_le (page_count f) w.last ≡ b → is_free f w.first ≡ d
-        → (if a then Some NoPage else if b then Some BeyondWidth else if c then Some UnsupportedType else if d then Some FixedRange else None) ≡ None → IsSound f w
-    by true b c d last first none = absurd (cc none)
-    by false true c d last first none = absurd (cc none)
-    by false false true d last first none = absurd (cc none)
-    by false false false true last first none = absurd (cc none)
-    by false false false false last first none = record { below = not_le (page_count f) w.last last; nonfree = first }
+    by : (a b c : Bool) → nat_le (page_count f) w.last ≡ b
+        → (if a then Some NoPage else if b then Some BeyondWidth else if c then Some UnsupportedType else None) ≡ None → w.last < page_count f
+    by true b c last none = absurd (cc none)
+    by false true c last none = absurd (cc none)
+    by false false true last none = absurd (cc none)
+    by false false false last none = not_le (page_count f) w.last last
 
 pub ends_in_time : (f : RegisterFile) (wishes : List Wish) → f.width ≤ 52 → All (IsWish f) wishes → All EndsInTime wishes
 ends_in_time f wishes narrow each k d within =
-    let below = (sound f (slice_index_or wishes k d) (each k d within)).below in
+    let below = last_below f (slice_index_or wishes k d) (each k d within) in
     omega (arith, below, pow_below (f.width - 12) 40 (omega (arith, narrow)))
-
-and_false : (a b : Bool) → a ≡ true → (a && b) ≡ false → b ≡ false
-and_false true b on h = h
-and_false false b on h = absurd (cc)
-
-left_false : (a b : Bool) → a ≡ false → (a && b) ≡ false
-left_false a b h = rw h refl
-
-outside : (f : RegisterFile) (w : Wish) (page : ℕ) → IsWish f w → is_free f page ≡ true → has_page w page ≡ false
-outside f w page is free =
-    let parts = and_parts (is_fixed_enabled f) (nat_lt page 256) free in
-    let first : nat_lt w.first 256 ≡ false = and_false (is_fixed_enabled f) (nat_lt w.first 256) parts.0 (sound f w is).nonfree in
-    let low = ltb-false w.first 256 first in
-    let high = ltb-true page 256 parts.1 in
-    left_false (nat_le w.first page) (nat_le page w.last) (le_not w.first page (omega (arith, low, high)))
 
 fixed_page : (f : RegisterFile) (types : List MemType) (page : ℕ) → is_enabled f ≡ true → is_free f page ≡ true → page_type_among f types page ≡ Kind (fixed_type f page)
 fixed_page f types page enabled free = rw (enabled, free) refl
 
-pub mended : (t : Tidying) (wishes : List Wish) → IsReady t.file wishes → (wanted : List Run) → AreWished t.file wishes wanted → AreGiven t.file wishes
+pub mended : (t : Tidying) (wishes : List Wish) → IsReady t.file wishes → AreMetBelow t.file wishes t.file → (wanted : List Run) → AreWished t.file wishes wanted → AreGiven t.file wishes
     → (new : Tidied) → IsTidied (bare t) wanted new → IsMended t wishes new
-mended t wishes ready wanted map given new tidied = record {
+mended t wishes ready met wanted map given new tidied = record {
   ready = ready;
+  met = met;
   given = given;
   types = λ page below. elim (cases_Bool (is_free t.file page)) [
     | inl free ↦
         tidied.free page free
         ∙ fixed_page t.file (matching_types (bare_file t.file) page) page ready.enabled free
         ∙ sym (fixed_page t.file (matching_types t.file page) page ready.enabled free)
-        ∙ sym (over_none page (page_type t.file page) wishes (λ k d within. outside t.file (slice_index_or wishes k d) page (ready.are_wishes.each k d within) free))
+        ∙ met page free
     | inr nonfree ↦ tidied.kinds page below nonfree ∙ kind_is t.file wishes wanted map page below
   ];
   others = tidied.file ∙ ap (λ (ps : List (ℕ × ℕ)). record t.file { pairs = ps }) (sym (ap (λ (g : RegisterFile). g.pairs) tidied.file));

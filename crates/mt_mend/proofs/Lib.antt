@@ -3,3 +3,4 @@ mod Past
 mod Bare
 mod Granted
 mod Writing
+mod Settling

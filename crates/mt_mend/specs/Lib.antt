@@ -2,3 +2,5 @@ pub mod Wishes
 pub mod Mended
 pub mod Writes
 pub mod Courses
+pub mod Settled
+pub mod Nearest

@@ -10,9 +10,9 @@ use Rattle.mt_tidy.specs.declared.fits.Tidied.{Tidied}
 use Rattle.mt_tidy.specs.Tidied.{IsTidied, IsTooFew, Tidying, tidying}
 use Rattle.mt_types.specs.declared.run.Run.{Run}
 use Rattle.mt_mend.specs.declared.fault.MendFault.{MendFault}
-use Rattle.mt_mend.specs.declared.fault.MendFault.TheVariants.{TooManyWishes, Wish as WishAtFault, Refused, Disabled, Undefined, TooFew}
+use Rattle.mt_mend.specs.declared.fault.MendFault.TheVariants.{TooManyWishes, Wish as WishAtFault, Refused, Disabled, FixedRange, Undefined, TooFew}
 use Rattle.mt_mend.specs.declared.wish.Wish.{Wish}
-use Rattle.mt_mend.specs.Wishes.{AreWished, IsFirstWishFault, IsWish, can_give, wished_type}
+use Rattle.mt_mend.specs.Wishes.{AreMetBelow, AreWished, IsFirstWishFault, IsUnmet, IsWish, can_give, wished_type}
 
 -- the file with zeros in its pairs
 abbrev pub bare_file : RegisterFile → RegisterFile
@@ -40,6 +40,7 @@ AreGiven f wishes = (page : ℕ) → page < page_count f → can_give f (wished_
 -- The file differs in its pairs alone, is accepted and gives the wished types. Its pairs are a least list for the map of these types.
 pub record IsMended (t : Tidying) (wishes : List Wish) (new : Tidied) : Type 0 where
   pub ready : IsReady t.file wishes
+  pub met : AreMetBelow t.file wishes t.file
   pub given : AreGiven t.file wishes
   pub types : (page : ℕ) → page < page_count t.file → page_type new.file page ≡ wished_type t.file wishes page
   pub others : new.file ≡ record t.file { pairs = new.file.pairs }
@@ -63,10 +64,16 @@ pub record IsUndefined (f : RegisterFile) (wishes : List Wish) (page : ℕ) : Ty
   pub undefined : can_give f (wished_type f wishes page) ≡ false
   pub before : (other : ℕ) → other < page → can_give f (wished_type f wishes other) ≡ true
 
+-- a fixed-range register gives the page another type than the wished one
+pub record IsFixedOther (f : RegisterFile) (wishes : List Wish) (page : ℕ) : Type 0 where
+  pub ready : IsReady f wishes
+  pub unmet : IsUnmet f wishes f page
+
 abbrev pub IsWhy : Tidying → List Wish → MendFault → Type 0
 IsWhy t wishes TooManyWishes = 64 < length wishes
 IsWhy t wishes (WishAtFault number fault) = (length wishes ≤ 64) × IsFirstWishFault t.file wishes number fault
 IsWhy t wishes (Refused fault) = AreWishes t.file wishes × (register_fault t.file ≡ Some fault)
 IsWhy t wishes Disabled = AreWishes t.file wishes × (register_fault t.file ≡ None) × (is_enabled t.file ≡ false)
+IsWhy t wishes (FixedRange page) = IsFixedOther t.file wishes page
 IsWhy t wishes (Undefined page) = IsUndefined t.file wishes page
 IsWhy t wishes (TooFew needs has) = NeedsMore t wishes needs has

@@ -2,7 +2,7 @@
 --     wished_type file wishes page       the type of the last wish that has the page, or else its own
 --     wish_fault file wish               what is wrong with a wish
 --     AreWished file wishes runs         the map of the wished types
-use Rattle.std.specs.Prelude.{◌≡◌, ℕ, ◌+◌, ◌^◌, ◌<◌, nat_le, nat_lt, Bool, true, false, not, ◌&&◌, if◌then◌else◌, List, fold, length, Option, None, Some}
+use Rattle.std.specs.Prelude.{◌≡◌, ◌≢◌, ℕ, ◌+◌, ◌^◌, ◌<◌, nat_le, nat_lt, Bool, true, false, not, ◌&&◌, if◌then◌else◌, List, fold, length, Option, None, Some}
 use Rattle.std.specs.List.{All, AllWithin, HoldsAt, sum_by}
 use Rattle.mt_regs.specs.declared.page_type.PageType.{PageType}
 use Rattle.mt_regs.specs.declared.page_type.PageType.TheVariants.{Kind, Undefined}
@@ -13,7 +13,7 @@ use Rattle.mt_tidy.specs.Wanted.{is_free, is_supported_type}
 use Rattle.mt_types.specs.declared.run.Run.{Run}
 use Rattle.mt_types.specs.Runs.{HasPage, IsTypeMap, pages_end}
 use Rattle.mt_mend.specs.declared.fault.WishFault.{WishFault}
-use Rattle.mt_mend.specs.declared.fault.WishFault.TheVariants.{NoPage, BeyondWidth, UnsupportedType, FixedRange}
+use Rattle.mt_mend.specs.declared.fault.WishFault.TheVariants.{NoPage, BeyondWidth, UnsupportedType}
 use Rattle.mt_mend.specs.declared.wish.Wish.{Wish}
 
 abbrev pub has_page : Wish → ℕ → Bool
@@ -36,7 +36,6 @@ wish_fault f w =
     if nat_lt w.last w.first then Some NoPage
     else if nat_le (page_count f) w.last then Some BeyondWidth
     else if not (is_supported_type f w.kind) then Some UnsupportedType
-    else if is_free f w.first then Some FixedRange
     else None
 
 abbrev pub IsWish : RegisterFile → Wish → Type 0
@@ -47,6 +46,16 @@ pub record IsFirstWishFault (f : RegisterFile) (wishes : List Wish) (n : ℕ) (f
   pub within : n < length wishes
   pub at : HoldsAt (λ w. wish_fault f w ≡ Some fault) wishes n
   pub before : AllWithin (IsWish f) wishes 0 n
+
+-- a file gives the pages of fixed ranges the types that are wished of another one
+abbrev pub AreMetBelow : RegisterFile → List Wish → RegisterFile → Type 0
+AreMetBelow f wishes file = (page : ℕ) → is_free f page ≡ true → page_type file page ≡ wished_type f wishes page
+
+-- it is the first page of one to which the file gives another type
+pub record IsUnmet (f : RegisterFile) (wishes : List Wish) (file : RegisterFile) (page : ℕ) : Type 0 where
+  pub free : is_free f page ≡ true
+  pub unmet : page_type file page ≢ wished_type f wishes page
+  pub before : (other : ℕ) → other < page → page_type file other ≡ wished_type f wishes other
 
 abbrev pub HasWishedType : RegisterFile → List Wish → Run → Type 0
 HasWishedType f wishes r = (page : ℕ) → HasPage r page → wished_type f wishes page ≡ r.kind

@@ -9,8 +9,6 @@ pub enum WishFault {
     BeyondWidth,
     /// The processor hasn't its type.
     UnsupportedType,
-    /// A fixed-range register gives its first page the type.
-    FixedRange,
 }
 
 /// Why no file is made. A variant comes only if none of those before it does.
@@ -24,6 +22,8 @@ pub enum MendFault {
     Refused(Fault),
     /// The range registers are off.
     Disabled,
+    /// The first page whose fixed range is to have several types.
+    FixedRange { page: u64 },
     /// The first page that is to have no defined type, or one that the processor hasn't.
     Undefined { page: u64 },
     /// The wished types need `needs` pairs at least, and only `has` may be used.

@@ -15,8 +15,6 @@ fn wish_fault(f: &RegFile, wish: &Wish) -> Option<WishFault>
         Some(WishFault::BeyondWidth)
     } else if !is_supported(f.has_write_combining(), wish.kind.byte()) {
         Some(WishFault::UnsupportedType)
-    } else if f.is_fixed_enabled() && wish.first < 0x100 {
-        Some(WishFault::FixedRange)
     } else {
         None
     }

@@ -4,18 +4,19 @@ ghost use Rattle.mt_regs.specs.Faults.{register_fault};
 ghost use Rattle.mt_regs.specs.RegisterFile.{is_enabled, pair_count};
 ghost use Rattle.mt_tidy.specs.Tidied.{tidying};
 ghost use Rattle.mt_mend.specs.Mended.{AreWishes, IsMended, IsReady, IsWhy, bare_file};
-ghost use Rattle.mt_mend.specs.Wishes.{AreWished, can_give};
+ghost use Rattle.mt_mend.specs.Wishes.{AreMetBelow, AreWished, can_give};
 ghost use Rattle.mt_mend.specs.declared.wish.Wish.{Wish};
 
 use crate::faults::first_wish_fault;
+use crate::fixed::first_unmet;
 use crate::wished::{first_undefined, wished_runs};
 use crate::{MAX_WISHES, MendFault, Wish};
 use arrayvec::ArrayVec;
 use mt_regs::RegFile;
 use mt_tidy::{PackedRuns, Tidied, TooFew, WorkArea, fit};
 
-// Refuses wishes of which one is at fault.
-fn check_wishes(f: &RegFile, wishes: &[Wish]) -> Result<(), MendFault>
+/// Refuses wishes of which one is at fault.
+pub fn check_wishes(f: &RegFile, wishes: &[Wish]) -> Result<(), MendFault>
     ensures ok { IfOk result (λ _. AreWishes f.now wishes.now) }
     ensures err { IfErr result (λ fault. (chunk spare : ℕ) → IsWhy (tidying f.now chunk spare) wishes.now fault) }
 {
@@ -28,8 +29,8 @@ fn check_wishes(f: &RegFile, wishes: &[Wish]) -> Result<(), MendFault>
     }
 }
 
-// Refuses a file with a register at fault by itself, and one whose range registers are off.
-fn check_registers(f: &RegFile) -> Result<(), MendFault>
+/// Refuses a file with a register at fault by itself, and one whose range registers are off.
+pub fn check_registers(f: &RegFile) -> Result<(), MendFault>
     ensures ok { IfOk result (λ _. (register_fault f.now ≡ None) × (is_enabled f.now ≡ true)) }
     ensures err { IfErr result (λ fault. (wishes : List Wish) (chunk spare : ℕ) → AreWishes f.now wishes → IsWhy (tidying f.now chunk spare) wishes fault) }
 {
@@ -40,6 +41,17 @@ fn check_registers(f: &RegFile) -> Result<(), MendFault>
         Ok(())
     } else {
         Err(MendFault::Disabled)
+    }
+}
+
+// Refuses wishes that fixed-range registers don't meet.
+fn check_fixed(f: &RegFile, wishes: &[Wish]) -> Result<(), MendFault>
+    ensures ok { IfOk result (λ _. AreMetBelow f.now wishes.now f.now) }
+    ensures err { IfErr result (λ fault. (chunk spare : ℕ) → IsReady f.now wishes.now → IsWhy (tidying f.now chunk spare) wishes.now fault) }
+{
+    match first_unmet(f, wishes, f) {
+        Some(page) => Err(MendFault::FixedRange { page }),
+        None => Ok(()),
     }
 }
 
@@ -67,8 +79,8 @@ fn zero_pairs(count: usize) -> ArrayVec<(u64, u64), 32>
     pairs
 }
 
-// The file with other pairs.
-fn with_pairs(f: &RegFile, pairs: ArrayVec<(u64, u64), 32>) -> RegFile
+/// The file with other pairs.
+pub fn with_pairs(f: &RegFile, pairs: ArrayVec<(u64, u64), 32>) -> RegFile
     requires { length pairs.items ≡ pair_count f.now }
     ensures { result ≡ record f.now { pairs = pairs.items } }
 {
@@ -91,7 +103,7 @@ fn bare_file(f: &RegFile) -> RegFile
 }
 
 /// The file that differs from `f` in its pairs alone and gives each page its wished type with the fewest of them: the type of
-/// the last wish that has the page, or else its own. `f` may have undefined pages, if wishes have each of them. Of two valid
+/// the last wish that has the page, or else its own. Fixed-range registers that are on give theirs already. `f` may have undefined pages, if wishes have each of them. Of two valid
 /// pairs that share a page the larger has at most `chunk` bytes. `spare` pairs stay unused. The valid pairs stand first: by
 /// ascending first page, then the larger first, then by type byte. The others are zeros. Fails if and only if `MendFault`
 /// says so. Allocates nothing: what is large is in `area`, whose contents may be any.
@@ -107,6 +119,7 @@ pub fn mend(
 {
     check_wishes(f, wishes)?;
     check_registers(f)?;
+    check_fixed(f, wishes)?;
     let count = wished_runs(f, wishes, &mut area.wanted);
     let runs = PackedRuns {
         packed: &area.wanted[..count],

@@ -10,7 +10,7 @@ use mt_regs::{Fault, PageType, Reason, RegFile};
 use std::alloc::{AllocError, Global};
 
 /// Which processors are compared.
-#[derive(Clone, Copy, Debug, PartialEq, Eq)]
+#[derive(Clone, Copy)]
 pub enum Sides {
     /// Those of two dumps that have the same number.
     Dumps,
@@ -21,7 +21,7 @@ pub enum Sides {
 }
 
 /// What is printed of what differs.
-#[derive(Clone, Copy, Debug, PartialEq, Eq)]
+#[derive(Clone, Copy, PartialEq, Eq)]
 pub enum View {
     All,
     /// The types of pages. Registers count for nothing.
@@ -50,7 +50,8 @@ struct Diff<'a> {
     cpus: Vec<CpuDiff<'a>>,
 }
 
-fn types_of(
+/// The runs of pages whose types differ. `None` if a register of a file is at fault by itself.
+pub fn types_of(
     alloc: Global,
     old: &RegFile,
     new: &RegFile,
@@ -239,7 +240,8 @@ fn value_at(f: &RegFile, fault: &Fault) -> u64 {
     f.get(fault.msr).unwrap_or(0)
 }
 
-fn add_side(text: &mut Text, sign: &str, f: &RegFile, msr: u32, value: Option<u64>) {
+/// Adds the line about a register's value in a file.
+pub fn add_side(text: &mut Text, sign: &str, f: &RegFile, msr: u32, value: Option<u64>) {
     text.add(sign);
     match value {
         Some(value) => add_fields(text, f, msr, value),
@@ -276,7 +278,8 @@ fn add_fault(text: &mut Text, sign: &str, f: &RegFile) {
     }
 }
 
-fn add_types(text: &mut Text, types: &Option<Vec<Span<TypeChange>>>) {
+/// Adds the lines about runs of pages whose types differ.
+pub fn add_types(text: &mut Text, types: &Option<Vec<Span<TypeChange>>>) {
     match types {
         Some(runs) => {
             for run in runs {
@@ -324,7 +327,8 @@ fn add_processors(text: &mut Text, sign: &str, dump: &Named<'_>) {
     text.add("\n");
 }
 
-fn write_side(json: &mut Json, name: &str, f: &RegFile, msr: u32, value: Option<u64>) {
+/// Writes the member about a register's value in a file.
+pub fn write_side(json: &mut Json, name: &str, f: &RegFile, msr: u32, value: Option<u64>) {
     match value {
         Some(value) => {
             json.key(name);
@@ -357,7 +361,8 @@ fn write_change(json: &mut Json, run: &Span<TypeChange>) {
     json.end_object();
 }
 
-fn write_types(json: &mut Json, types: &Option<Vec<Span<TypeChange>>>) {
+/// Writes the list of runs of pages whose types differ.
+pub fn write_types(json: &mut Json, types: &Option<Vec<Span<TypeChange>>>) {
     match types {
         Some(runs) => {
             json.begin_list("types");

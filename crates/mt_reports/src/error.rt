@@ -31,6 +31,12 @@ pub enum NoReport {
     ManyRuns,
     #[error("it has processors 0 to {0}")]
     NoProcessor(usize),
+    #[error("its processors are unlike; --like K takes the registers of processor K for all")]
+    Unlike,
+    #[error("{0}")]
+    NoMend(String),
+    #[error("{0}")]
+    NoForm(&'static str),
 }
 
 fn no_dump(fault: DumpFault) -> NoReport {

@@ -25,9 +25,9 @@ const KINDS: [PageType; 6] = [
     PageType::Undefined,
 ];
 
-// How many pages have a type.
+/// How many pages have a type.
 #[derive(Clone, Copy)]
-struct Share {
+pub struct Share {
     kind: PageType,
     pages: u64,
 }
@@ -73,7 +73,8 @@ struct Faults<'a> {
     at_fault: bool,
 }
 
-fn shares_of(alloc: Global, f: &RegFile) -> Result<Vec<Share>, AllocError>
+/// How many pages have each type that some page has.
+pub fn shares_of(alloc: Global, f: &RegFile) -> Result<Vec<Share>, AllocError>
     requires { register_fault f.now ≡ None }
 {
     let mut shares = Vec::new(alloc);
@@ -173,7 +174,8 @@ fn add_lawful(text: &mut Text, f: &RegFile, fault: &FieldFault) {
     }
 }
 
-fn add_fault(text: &mut Text, f: &RegFile, fault: &FieldFault) {
+/// Adds the lines about a field at fault.
+pub fn add_fault(text: &mut Text, f: &RegFile, fault: &FieldFault) {
     text.add("  ");
     add_value(text, fault.msr, fault.value);
     text.add(": bits ");
@@ -185,7 +187,8 @@ fn add_fault(text: &mut Text, f: &RegFile, fault: &FieldFault) {
     text.add("\n");
 }
 
-fn add_undefined(text: &mut Text, f: &RegFile, run: &Clash) {
+/// Adds the lines about pages with no defined type.
+pub fn add_undefined(text: &mut Text, f: &RegFile, run: &Clash) {
     text.add("  ");
     text.add_run(run.first, run.count);
     text.add(": no type is defined where these pairs meet\n");
@@ -206,16 +209,22 @@ fn add_faults(text: &mut Text, group: &GroupFaults<'_>) {
     }
 }
 
+/// Adds types and sizes, with a text before the first one.
+pub fn add_shares(text: &mut Text, before: &'static str, shares: &[Share]) {
+    for (i, share) in shares.iter().enumerate() {
+        let separator = if i == 0 { before } else { ", " };
+        text.add_all(&[separator, kind_name(share.kind), " "]);
+        text.add_size(share.pages);
+    }
+}
+
 // Adds the line about the pairs in use and the sizes by type.
 fn add_summary(text: &mut Text, group: &GroupFaults<'_>) {
     let f = group.file;
     text.add_decimal("  pairs: ", valid_pairs(f));
     text.add_decimal(" of ", f.pairs.len() as u64);
     if let Some(pages) = &group.pages {
-        for share in &pages.shares {
-            text.add_all(&[", ", kind_name(share.kind), " "]);
-            text.add_size(share.pages);
-        }
+        add_shares(text, ", ", pages.shares.as_slice());
     }
     for (i, note) in group.notes.iter().enumerate() {
         text.add(if i == 0 { ", notes: " } else { ", " });
@@ -224,7 +233,8 @@ fn add_summary(text: &mut Text, group: &GroupFaults<'_>) {
     text.add("\n");
 }
 
-fn write_fault(json: &mut Json, f: &RegFile, fault: &FieldFault) {
+/// Writes an object of a field at fault.
+pub fn write_fault(json: &mut Json, f: &RegFile, fault: &FieldFault) {
     json.begin_object();
     json.key("register");
     write_value(json, fault.msr, fault.value);
@@ -236,7 +246,8 @@ fn write_fault(json: &mut Json, f: &RegFile, fault: &FieldFault) {
     json.end_object();
 }
 
-fn write_undefined(json: &mut Json, f: &RegFile, run: &Clash) {
+/// Writes an object of pages with no defined type.
+pub fn write_undefined(json: &mut Json, f: &RegFile, run: &Clash) {
     json.begin_object();
     json.run(run.first, run.count);
     write_pairs(json, f, run.mark.as_slice());
@@ -260,13 +271,10 @@ fn write_cpu(json: &mut Json, cpu: u32, group: &GroupFaults<'_>) {
     json.end_object();
 }
 
-fn write_shares(json: &mut Json, pages: &Option<Pages>) {
-    let Some(pages) = pages else {
-        json.null("types");
-        return;
-    };
-    json.begin_list("types");
-    for share in &pages.shares {
+/// Writes the list of types and sizes.
+pub fn write_shares(json: &mut Json, name: &str, shares: &[Share]) {
+    json.begin_list(name);
+    for share in shares {
         json.begin_object();
         json.string("type", kind_name(share.kind));
         json.pages(Some(share.pages));
@@ -281,7 +289,10 @@ fn write_group(json: &mut Json, dump: &Named<'_>, group: &GroupFaults<'_>) {
     json.cpus(group.cpus.as_slice());
     json.number("pairs", f.pairs.len() as u64);
     json.number("valid", valid_pairs(f));
-    write_shares(json, &group.pages);
+    match &group.pages {
+        Some(pages) => write_shares(json, "types", pages.shares.as_slice()),
+        None => json.null("types"),
+    }
     match &group.unlike {
         Some(unlike) => unlike.write(json),
         None => json.null("differs"),
@@ -328,10 +339,8 @@ impl Report for Faults<'_> {
         } else {
             ": unlike processors\n"
         });
-        if self.is_found() && !self.dump.given.has_width {
-            let width = self.dump.width() as u64;
-            text.add_decimal("  the dump has no line maxphyaddr, so ", width);
-            text.add(" address bits were assumed\n");
+        if self.is_found() {
+            self.dump.add_width(text);
         }
         for group in &self.groups {
             self.add_heading(text, group);

@@ -15,24 +15,27 @@ const PAGE_LOG: u8 = 12;
 // The largest granule has 2^28 pages.
 const PAST_GRANULES: u8 = 29;
 
-// The pairs that a file has, how many of them are valid, and how many are to stay free.
+/// The pairs that a file has, how many of them are valid, and how many are to stay free.
 #[derive(Clone, Copy)]
-struct Budget {
-    pairs: u64,
-    valid: u64,
-    spare: u64,
+pub struct Budget {
+    pub pairs: u64,
+    pub valid: u64,
+    pub spare: u64,
 }
 
-// The command whose option has a size.
+/// The command whose option has a size.
 #[derive(Clone, Copy, PartialEq, Eq)]
-enum Way {
+pub enum Way {
     Tidy,
     Gran,
+    Mend,
+    /// None: there is no file with these types yet.
+    Round,
 }
 
-// What is needed from one chunk size on, or by granules of one size.
+/// What is needed from one chunk size on, or by granules of one size.
 #[derive(Clone, Copy)]
-struct Row {
+pub struct Row {
     way: Way,
     // the log of the size's bytes
     log: u8,
@@ -65,7 +68,7 @@ pub fn valid_pairs(f: &RegFile) -> u64 {
 }
 
 impl Budget {
-    fn of(f: &RegFile, spare: u64) -> Budget {
+    pub fn of(f: &RegFile, spare: u64) -> Budget {
         Budget {
             pairs: f.pairs.len() as u64,
             valid: valid_pairs(f),
@@ -88,28 +91,29 @@ impl Budget {
     }
 }
 
-fn refused(alloc: Global, msr: u32) -> Result<NoReport, AllocError> {
+fn refused(alloc: Global, msr: u32) -> NoReport {
     let mut register = Text::new(alloc);
     add_register(&mut register, msr);
-    Ok(NoReport::Refused(register.finish()?))
-}
-
-fn no_fit(alloc: Global, why: Unfit) -> NoReport {
-    match why {
-        Unfit::Disabled => NoReport::Disabled,
-        Unfit::Refused(fault) => match refused(alloc, fault.msr) {
-            Ok(refused) => refused,
-            Err(error) => NoReport::Memory(error),
-        },
+    match register.finish() {
+        Ok(register) => NoReport::Refused(register),
+        Err(error) => NoReport::Memory(error),
     }
 }
 
-// A row for each size from which on the least number is another.
-fn chunks_of(alloc: Global, least: &[u64]) -> Result<Vec<Row>, AllocError> {
+/// Why a file has no fewest pairs.
+pub fn no_fit(alloc: Global, why: Unfit) -> NoReport {
+    match why {
+        Unfit::Disabled => NoReport::Disabled,
+        Unfit::Refused(fault) => refused(alloc, fault.msr),
+    }
+}
+
+/// A row for each size from which on the least number is another.
+pub fn chunks_of(alloc: Global, way: Way, least: &[u64]) -> Result<Vec<Row>, AllocError> {
     let mut rows = Vec::new(alloc);
     for run in steps(alloc, least)?.as_slice() {
         rows.push(Row {
-            way: Way::Tidy,
+            way,
             log: (run.first % 64) as u8 + PAGE_LOG,
             needs: run.mark,
             lost: None,
@@ -118,8 +122,8 @@ fn chunks_of(alloc: Global, least: &[u64]) -> Result<Vec<Row>, AllocError> {
     Ok(rows)
 }
 
-// A row for each size at which the number changes that granules need.
-fn granules_of(alloc: Global, f: &RegFile) -> Result<Vec<Row>, NoReport> {
+/// A row for each size at which the number changes that granules need.
+pub fn granules_of(alloc: Global, way: Way, f: &RegFile) -> Result<Vec<Row>, NoReport> {
     let mut rows = Vec::new(alloc);
     let mut last = None;
     for g in 1..PAST_GRANULES {
@@ -129,7 +133,7 @@ fn granules_of(alloc: Global, f: &RegFile) -> Result<Vec<Row>, NoReport> {
         };
         if last != Some(now.pairs) {
             rows.push(Row {
-                way: Way::Gran,
+                way,
                 log: g + PAGE_LOG,
                 needs: now.pairs,
                 lost: now.lost,
@@ -158,13 +162,13 @@ fn fit_of<'a>(alloc: Global, dump: Named<'a>, spare: u64) -> Result<Fit<'a>, NoR
     let needs = least_of(numbers.as_slice());
     let granules = match has.free_after(needs) {
         Some(_) => Vec::new(alloc),
-        None => granules_of(alloc, f)?,
+        None => granules_of(alloc, Way::Gran, f)?,
     };
     Ok(Fit {
         dump,
         has,
         needs,
-        chunks: chunks_of(alloc, numbers.as_slice())?,
+        chunks: chunks_of(alloc, Way::Tidy, numbers.as_slice())?,
         granules,
     })
 }
@@ -203,13 +207,28 @@ impl Row {
                 text.add_decimal(" spare=", spare);
                 text.add(" chunk=10000000000000");
             }
+            Way::Mend => {
+                text.add_decimal("--spare ", spare);
+                text.add(" --chunk ");
+                text.add_hex(self.bytes(), 1);
+            }
+            Way::Round => {}
         }
     }
 
-    fn add(&self, text: &mut Text, has: Budget) {
-        text.add(match self.way {
-            Way::Tidy => "  chunk ",
-            Way::Gran => "  granules of ",
+    fn is_of_granules(&self) -> bool {
+        self.way == Way::Gran || self.way == Way::Round
+    }
+
+    fn has_command(&self, has: Budget) -> bool {
+        self.way != Way::Round && has.free_after(self.needs).is_some()
+    }
+
+    pub fn add(&self, text: &mut Text, has: Budget) {
+        text.add(if self.is_of_granules() {
+            "  granules of "
+        } else {
+            "  chunk "
         });
         text.add_size(self.pages());
         text.add_decimal(": ", self.needs);
@@ -228,7 +247,7 @@ impl Row {
             text.add_pages(lost);
             text.add(" lose WB");
         }
-        if has.free_after(self.needs).is_some() {
+        if self.has_command(has) {
             text.add(": ");
             self.add_command(text, has.spare);
         }
@@ -239,9 +258,10 @@ impl Row {
         let free = has.free_after(self.needs);
         json.begin_object();
         json.hex(
-            match self.way {
-                Way::Tidy => "chunk",
-                Way::Gran => "granule",
+            if self.is_of_granules() {
+                "granule"
+            } else {
+                "chunk"
             },
             self.bytes(),
             1,
@@ -251,11 +271,11 @@ impl Row {
         json.number("bytes", self.bytes());
         json.number("needs", self.needs);
         json.optional_number("free", free);
-        if self.way == Way::Gran {
+        if self.is_of_granules() {
             json.optional_number("lost", self.lost);
             json.bytes("lost_bytes", self.lost);
         }
-        if free.is_some() {
+        if self.has_command(has) {
             self.add_command(&mut json.part, has.spare);
             json.text("command");
         } else {
@@ -265,7 +285,8 @@ impl Row {
     }
 }
 
-fn write_rows(json: &mut Json, name: &str, rows: &[Row], has: Budget) {
+/// Writes the list of rows.
+pub fn write_rows(json: &mut Json, name: &str, rows: &[Row], has: Budget) {
     json.begin_list(name);
     for row in rows {
         row.write(json, has);

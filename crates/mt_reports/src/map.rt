@@ -37,6 +37,7 @@ fn log_fault(fault: MapFault, own: MapTextFault) -> NoReport {
         MapFault::Backward(place) => no_map(place, "the range ends before it begins"),
         MapFault::UnknownKind(place) => no_map(place, "no kind of memory"),
         MapFault::Hidden(place) => no_map(place, "the addresses are hidden; root sees them"),
+        MapFault::Utf16(place) => no_map(place, "UTF-16"),
         MapFault::TooManyRanges(place) => no_map(place, "more than 512 ranges"),
         MapFault::SeveralMaps(begun) => NoReport::SeveralMaps(begun.count),
         MapFault::NoMap(_) => text_fault(own),
@@ -59,7 +60,14 @@ fn ranges_of(alloc: Global, text: Vec<u8>) -> Result<Ranges, NoReport> {
     };
     let mut source = MemSource::new(text, LONGEST_INPUT, Vec::new(alloc));
     match read_log(None, WhichMap::Sole, &mut source) {
-        Ok(Ok(map)) => Ok(map.ranges),
+        Ok(Ok(map)) if map.broken == 0 => Ok(map.ranges),
+        Ok(Ok(map)) => Err(no_map(
+            Place {
+                line: map.broken,
+                column: 1,
+            },
+            "the line breaks off within its range",
+        )),
         Ok(Err(fault)) => Err(log_fault(fault, own)),
         Err(_) => Err(NoReport::TooLong),
     }

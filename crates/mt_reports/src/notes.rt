@@ -37,14 +37,13 @@ fn is_missing(given: &GivenDump, cpus: &[u32], msr: u32) -> bool {
     false
 }
 
-// The registers but the PAT that aren't given.
-fn missing(
-    alloc: Global,
+// Adds the registers but the PAT that aren't given.
+fn add_missing(
+    registers: &mut Vec<u32>,
     given: &GivenDump,
     cpus: &[u32],
     f: &RegFile,
-) -> Result<Vec<u32>, AllocError> {
-    let mut registers = Vec::new(alloc);
+) -> Result<(), AllocError> {
     for i in 0..f.count() {
         if let Some(msr) = f.register(i) {
             if msr != PAT && is_missing(given, cpus, msr) {
@@ -52,20 +51,44 @@ fn missing(
             }
         }
     }
-    Ok(registers)
+    Ok(())
 }
 
 fn registers_of(alloc: Global, note: Note) -> Result<Vec<u32>, AllocError> {
-    let mut registers = Vec::new(alloc);
     match note {
-        Note::Off | Note::FixedOff => registers.push(DEFAULT_TYPE)?,
+        Note::Off | Note::FixedOff => Vec::from_slice(alloc, &[DEFAULT_TYPE]),
         Note::IdlePair(n) => {
-            registers.push(FIRST_PAIR + 2 * n as u32)?;
-            registers.push(FIRST_PAIR + 2 * n as u32 + 1)?;
+            let base = FIRST_PAIR + 2 * n as u32;
+            Vec::from_slice(alloc, &[base, base + 1])
         }
-        Note::LocalApic | Note::IoApic | Note::OtherWidth(_) => {}
+        Note::LocalApic | Note::IoApic | Note::OtherWidth(_) => Ok(Vec::new(alloc)),
     }
-    Ok(registers)
+}
+
+fn add_remark(list: &mut Vec<Remark>, what: What, registers: Vec<u32>) -> Result<(), AllocError> {
+    list.push(Remark { what, registers })?;
+    Ok(())
+}
+
+fn add_remarks(
+    alloc: Global,
+    list: &mut Vec<Remark>,
+    dump: &Named<'_>,
+    cpus: &[u32],
+    f: &RegFile,
+) -> Result<(), AllocError> {
+    for note in notes(alloc, f)?.as_slice() {
+        add_remark(list, What::Of(*note), registers_of(alloc, *note)?)?;
+    }
+    let mut registers = Vec::new(alloc);
+    add_missing(&mut registers, dump.given, cpus, f)?;
+    if !registers.is_empty() {
+        add_remark(list, What::NotGiven, registers)?;
+    }
+    if is_missing(dump.given, cpus, PAT) {
+        add_remark(list, What::PatNotGiven, Vec::from_slice(alloc, &[PAT])?)?;
+    }
+    Ok(())
 }
 
 /// The notes of equal processors.
@@ -76,27 +99,7 @@ pub fn remarks(
     f: &RegFile,
 ) -> Result<Vec<Remark>, AllocError> {
     let mut list = Vec::new(alloc);
-    for note in notes(alloc, f)?.as_slice() {
-        list.push(Remark {
-            what: What::Of(*note),
-            registers: registers_of(alloc, *note)?,
-        })?;
-    }
-    let registers = missing(alloc, dump.given, cpus, f)?;
-    if !registers.is_empty() {
-        list.push(Remark {
-            what: What::NotGiven,
-            registers,
-        })?;
-    }
-    if is_missing(dump.given, cpus, PAT) {
-        let mut registers = Vec::new(alloc);
-        registers.push(PAT)?;
-        list.push(Remark {
-            what: What::PatNotGiven,
-            registers,
-        })?;
-    }
+    add_remarks(alloc, &mut list, dump, cpus, f)?;
     Ok(list)
 }
 

@@ -13,7 +13,7 @@ const FORMAT: u64 = 1;
 pub const MOST_CPUS: u32 = 16;
 
 /// What a report is for.
-#[derive(Clone, Copy, Debug, PartialEq, Eq)]
+#[derive(Clone, Copy, PartialEq, Eq)]
 pub enum Form {
     /// Lines for a person.
     Text,
@@ -66,6 +66,17 @@ impl<'a> Named<'a> {
 
     pub fn width(&self) -> u8 {
         self.given.dump.first_file().maxphy
+    }
+
+    /// Adds a line if the address width was assumed.
+    pub fn add_width(&self, text: &mut Text) {
+        if !self.given.has_width {
+            text.add_decimal(
+                "  the dump has no line maxphyaddr, so ",
+                self.width() as u64,
+            );
+            text.add(" address bits were assumed\n");
+        }
     }
 
     /// Writes the members about the address width.

@@ -1,6 +1,8 @@
 use anyhow::{Result, bail};
 use clap::{Arg, ArgAction, ArgMatches, Command};
-use mt_reports::{Form, NamedMap, Sides, View};
+use mt_kinds::MemType;
+use mt_mend::Wish;
+use mt_reports::{Form, Mending, NamedMap, Sides, Style, View, type_of, wish_of};
 use mt_text::{decimal, hex64};
 use std::alloc::{AllocError, Global};
 
@@ -14,7 +16,7 @@ const MOST_PAIRS: u64 = 32;
 const VERSION: &str = "1.0.0\nproved by rattle-kit-13f logic dac8208d650f15bf";
 
 const STATUSES: &str = "Exit status:
-  0  no fault, no difference, types that fit the memory, and enough pairs
+  0  no fault, no difference, types that fit the memory, enough pairs, or registers to write
   1  a fault, a difference, a page with no defined type or an unfit one, or too few pairs
   2  wrong usage, or a file without an answer: standard error says why";
 
@@ -36,6 +38,32 @@ pub enum Question {
     Ram,
     /// What differs between two files, or between processors of one.
     Diff { sides: Sides, view: View },
+    /// What to write.
+    Mend(Mended),
+}
+
+/// What is asked of a mending, but for its ranges.
+#[derive(Clone, Copy)]
+pub struct Mended {
+    take: Option<MemType>,
+    like: Option<u32>,
+    spare: u8,
+    chunk: u64,
+    style: Style,
+}
+
+impl Mended {
+    /// The same with ranges.
+    pub fn with<'a>(&self, sets: &'a [Wish]) -> Mending<'a> {
+        Mending {
+            sets,
+            like: self.like,
+            take: self.take,
+            spare: self.spare,
+            chunk: self.chunk,
+            style: self.style,
+        }
+    }
 }
 
 /// What the words of a command line ask for, but for the files.
@@ -45,6 +73,8 @@ pub struct Asked<'a> {
     pub form: Form,
     /// The memory map that the words name; without one it is empty.
     pub map: NamedMap<'a>,
+    /// The ranges that are to have a type.
+    pub sets: &'a [Wish],
     /// The words that aren't UTF-8, with U+FFFD for what isn't.
     pub garbled: &'a [String],
 }
@@ -131,6 +161,72 @@ fn ram<'a>(alloc: Global) -> Made<'a> {
     with_arg(command, files(alloc, DUMPS))
 }
 
+fn valued<'a>(
+    alloc: Global,
+    name: &'static str,
+    value: &'static str,
+    help: &'static str,
+) -> Arg<'a> {
+    option(alloc, name, help).value_name(value)
+}
+
+fn mend<'a>(alloc: Global) -> Made<'a> {
+    let about =
+        "Print which registers to write, so that pages get other types and the rest keep theirs";
+    let set = valued(
+        alloc,
+        "set",
+        "FIRST-LAST=TYPE",
+        "Give these bytes the type; may be repeated",
+    );
+    let ram = valued(alloc, "ram", "MAP", "Give the RAM of this memory map WB");
+    let take = valued(
+        alloc,
+        "take",
+        "TYPE",
+        "Give pages with no defined type this one",
+    );
+    let like = valued(
+        alloc,
+        "like",
+        "CPU",
+        "Give all processors the registers of this one",
+    );
+    let spare = valued(
+        alloc,
+        "spare",
+        "N",
+        "Leave N pairs free, 0 to 32; by default 0",
+    );
+    let chunk = valued(
+        alloc,
+        "chunk",
+        "HEX",
+        "Bound overlaps, as mtrr tidy does; by default not",
+    );
+    let form = valued(
+        alloc,
+        "as",
+        "FORM",
+        "Print dump, wrmsr, c, edk2 or coreboot",
+    );
+    let command = with_arg(
+        subcommand(alloc, "mend", about),
+        set.action(ArgAction::Append),
+    );
+    let command = with_arg(with_arg(command, ram), take);
+    let command = with_arg(with_arg(command, like), spare);
+    let command = with_arg(with_arg(command, chunk), form);
+    with_arg(
+        command,
+        positional(
+            alloc,
+            "FILE",
+            "A dump, as mtrr reads it; - is standard input",
+        ),
+    )
+}
+
 fn root<'a>(alloc: Global) -> Made<'a> {
     Command::new(alloc, "mtrr-explain")
         .version(VERSION)
@@ -149,7 +245,8 @@ pub fn command<'a>(alloc: Global) -> Result<Command<'a>, AllocError> {
     let command = with_command(command, page(alloc));
     let command = with_command(command, diff(alloc));
     let command = with_command(command, fit(alloc));
-    with_command(command, ram(alloc))
+    let command = with_command(command, ram(alloc));
+    with_command(command, mend(alloc))
 }
 
 fn page_question(matches: &ArgMatches<'_>) -> Result<Question> {
@@ -188,12 +285,78 @@ fn diff_question(matches: &ArgMatches<'_>) -> Result<Question> {
     })
 }
 
-fn fit_question(matches: &ArgMatches<'_>) -> Result<Question> {
+fn spare_of(matches: &ArgMatches<'_>) -> Result<u64> {
     let word = matches.get_str("spare").unwrap_or("0");
     match decimal(word.as_bytes(), MOST_PAIRS) {
-        Ok(spare) => Ok(Question::Fit { spare }),
+        Ok(spare) => Ok(spare),
         Err(_) => bail!("no number of pairs from 0 to 32: {word}"),
     }
+}
+
+fn fit_question(matches: &ArgMatches<'_>) -> Result<Question> {
+    let spare = spare_of(matches)?;
+    Ok(Question::Fit { spare })
+}
+
+fn taken_of(matches: &ArgMatches<'_>) -> Result<Option<MemType>> {
+    let Some(word) = matches.get_str("take") else {
+        return Ok(None);
+    };
+    match type_of(word) {
+        Some(kind) => Ok(Some(kind)),
+        None => bail!("no type UC, WC, WT, WP or WB: {word}"),
+    }
+}
+
+fn chunk_of(matches: &ArgMatches<'_>) -> Result<u64> {
+    let word = matches.get_str("chunk").unwrap_or("10000000000000");
+    match hex64(word.as_bytes()) {
+        Ok(chunk) => Ok(chunk),
+        Err(_) => bail!("no hexadecimal number of 1 to 16 digits: {word}"),
+    }
+}
+
+fn style_of(matches: &ArgMatches<'_>) -> Result<Style> {
+    let style = match matches.get_str("as").unwrap_or("") {
+        "" => return Ok(Style::Report),
+        "dump" => Style::Dump,
+        "wrmsr" => Style::Wrmsr,
+        "c" => Style::C,
+        "edk2" => Style::Edk2,
+        "coreboot" => Style::Coreboot,
+        word => bail!("no form dump, wrmsr, c, edk2 or coreboot: {word}"),
+    };
+    if matches.get_flag("json") {
+        bail!("--as and --json are both given");
+    }
+    Ok(style)
+}
+
+fn mend_question(matches: &ArgMatches<'_>) -> Result<Question> {
+    let like = match matches.get_str("like") {
+        Some(word) => Some(cpu_number(word)?),
+        None => None,
+    };
+    Ok(Question::Mend(Mended {
+        take: taken_of(matches)?,
+        like,
+        spare: spare_of(matches)?.min(MOST_PAIRS) as u8,
+        chunk: chunk_of(matches)?,
+        style: style_of(matches)?,
+    }))
+}
+
+/// The ranges that are to have a type.
+pub fn sets_of(alloc: Global, matches: &ArgMatches<'_>) -> Result<Vec<Wish>> {
+    let mut sets = Vec::new(alloc);
+    let words: &[&str] = matches.get_strs("set").unwrap_or(&[]);
+    for word in words {
+        match wish_of(*word) {
+            Ok(wish) => sets.push(wish)?,
+            Err(why) => bail!("--set {word}: {why}"),
+        }
+    }
+    Ok(sets)
 }
 
 fn question_of(name: &str, matches: &ArgMatches<'_>) -> Result<Question> {
@@ -202,6 +365,7 @@ fn question_of(name: &str, matches: &ArgMatches<'_>) -> Result<Question> {
         "diff" => diff_question(matches),
         "fit" => fit_question(matches),
         "ram" => Ok(Question::Ram),
+        "mend" => mend_question(matches),
         _ => page_question(matches),
     }
 }
@@ -220,6 +384,7 @@ pub fn asked_of<'a>(
     name: &str,
     matches: &ArgMatches<'_>,
     map: NamedMap<'a>,
+    sets: &'a [Wish],
     garbled: &'a [String],
 ) -> Result<Asked<'a>> {
     let form = form_of(matches);
@@ -227,6 +392,7 @@ pub fn asked_of<'a>(
         question: question_of(name, matches)?,
         form,
         map,
+        sets,
         garbled,
     })
 }

@@ -1,4 +1,4 @@
-use crate::command::{Asked, Question, asked_of, command, form_of};
+use crate::command::{Asked, Question, asked_of, command, form_of, sets_of};
 use crate::input::{read, read_map, words_of};
 use anyhow::{Error, Result, bail};
 use clap::ArgMatches;
@@ -6,7 +6,7 @@ use mt_dump::GivenDump;
 use mt_memory::Ranges;
 use mt_reports::{
     Answer, Form, Named, NamedMap, NoReport, Sides, View, diff_answer, diff_of_cpus_answer,
-    error_line, faults_answer, fit_answer, page_answer, ram_answer,
+    error_line, faults_answer, fit_answer, mend_answer, page_answer, ram_answer,
 };
 use std::env::Env;
 use std::fs::Files;
@@ -145,6 +145,9 @@ fn about<'a, R: Files + Input + AllocGlobal>(rt: &R, asked: &Asked<'_>, file: &'
         Question::Fit { spare } => fit_answer(alloc, dump, spare, form),
         Question::Diff { sides, view } => diff_of_cpus_answer(alloc, dump, sides, view, form),
         Question::Ram => ram_answer(alloc, asked.map, dump, form),
+        Question::Mend(mended) => {
+            mend_answer(alloc, dump, asked.map, &mended.with(asked.sets), form)
+        }
     };
     told_of(file, answer)
 }
@@ -202,12 +205,13 @@ fn tell<R: Files + Input + Print + Eprint + AllocGlobal>(
         return Ok(Verdict::Trouble);
     };
     let mut ranges = Ranges::new();
-    let file = if name == "ram" {
-        matches.get_str("MAP").unwrap_or("-")
-    } else {
-        ""
+    let named = match name {
+        "ram" => matches.get_str("MAP"),
+        "mend" => matches.get_str("ram"),
+        _ => None,
     };
-    if name == "ram" {
+    let file = named.unwrap_or("");
+    if named.is_some() {
         match read_map(rt, file, garbled) {
             Ok(found) => ranges = found,
             Err(error) => {
@@ -221,7 +225,13 @@ fn tell<R: Files + Input + Print + Eprint + AllocGlobal>(
         file,
         ranges: ranges.as_slice(),
     };
-    tell_files(rt, &asked_of(name, matches, map, garbled)?, files)
+    let sets = if name == "mend" {
+        sets_of(rt.alloc(), matches)?
+    } else {
+        Vec::new(rt.alloc())
+    };
+    let asked = asked_of(name, matches, map, sets.as_slice(), garbled)?;
+    tell_files(rt, &asked, files)
 }
 
 fn answer<R: Env + Files + Input + Print + Eprint + AllocGlobal>(rt: &R) -> Result<Verdict> {

@@ -19,6 +19,14 @@ returns-in_err-check_registers-clause-err c =
     let p = err_from_is_err_and c.from_residual-in_err-check_registers.result c.from_residual-in_err-check_registers.ensures.1 in
     rw (p.1, p.2) (c.in_err-check_registers.ensures.err c.args.wishes.now c.args.chunk c.args.spare c.in_ok-check_wishes.ensures.ok)
 
+pub returns-in_err-check_fixed-clause-err : goal.returns-in_err-check_fixed-clause-err
+returns-in_err-check_fixed-clause-err c =
+    let p = err_from_is_err_and c.from_residual-in_err-check_fixed.result c.from_residual-in_err-check_fixed.ensures.1 in
+    let registers = c.in_ok-check_registers.ensures.ok in
+    rw (p.1, p.2)
+    (c.in_err-check_fixed.ensures.err c.args.chunk c.args.spare
+    (record { are_wishes = c.in_ok-check_wishes.ensures.ok; checked = registers.0; enabled = registers.1 }))
+
 pub returns-in_err-check_runs-clause-err : goal.returns-in_err-check_runs-clause-err
 returns-in_err-check_runs-clause-err c =
     let p = err_from_is_err_and c.from_residual-in_err-check_runs.result c.from_residual-in_err-check_runs.ensures.1 in
@@ -44,7 +52,7 @@ returns-in-Ok-clause-ok c =
     let registers = c.in_ok-check_registers.ensures.ok in
     let map = c.wished_runs-count.ensures.map in
     mended (tidying f c.args.chunk c.args.spare) c.args.wishes.now (record { are_wishes = c.in_ok-check_wishes.ensures.ok; checked = registers.0; enabled = registers.1 })
-    (runs_of (take c.wished_runs-count.result c.wished_runs-count.new.runs)) map (each_given f c.args.wishes.now (runs_of (take c.wished_runs-count.result c.wished_runs-count.new.runs)) map c.in_ok-check_runs.ensures.ok) c.in-Ok.tidied
+    c.in_ok-check_fixed.ensures.ok (runs_of (take c.wished_runs-count.result c.wished_runs-count.new.runs)) map (each_given f c.args.wishes.now (runs_of (take c.wished_runs-count.result c.wished_runs-count.new.runs)) map c.in_ok-check_runs.ensures.ok) c.in-Ok.tidied
     (subst (λ (g : RegisterFile). IsTidied (tidying g c.args.chunk c.args.spare) (runs_of (take c.wished_runs-count.result c.wished_runs-count.new.runs)) c.in-Ok.tidied) c.bare_file-bare.ensures c.in-Ok.ensures.ok)
 
 pub returns-in-Err-clause-err : goal.returns-in-Err-clause-err
