@@ -3,7 +3,7 @@
 //     node compare.mjs          in Node. Its status is 77 if the engine has no 64-bit memory and tables
 import { mkdtempSync, readFileSync, rmSync, writeFileSync } from 'node:fs';
 import { tmpdir } from 'node:os';
-import { FORMATS, OTHERS, QUESTIONS, dumps, explainProgram, logs, program, randomDump, scriptInNode, top } from './programs.mjs';
+import { FORMATS, OTHERS, QUESTIONS, cases, dumps, explainProgram, logs, program, randomDump, scriptInNode, top } from './programs.mjs';
 
 const SUPPLIED = ['maxphyaddr=36', '0fe=d08', '277=7040600070406', '268=505050505050505', '2ff=c00'];
 const PICTURES = [[], ['--help'], ['--version'], ['-h'], ['more='], ['files'], ['title=<b>&\u00e9'], ['files', 'title=x'], ['title='], ['title=\ufffe']];
@@ -58,6 +58,7 @@ export async function compare({ call, formatOf }, randoms) {
     }
     await beside('logs', 'mtrr_import', ['--help'], Buffer.alloc(0));
 
+    for (const { bytes } of cases) for (const words of [[], ['picture'], ['json']]) await beside('procedures', 'mtrr_judge', words, bytes);
     process.chdir(top);
     for (const dump of dumps) {
         await explain(['faults'], [dump]);

@@ -6,7 +6,7 @@ import vm from 'node:vm';
 
 export const top = fileURLToPath(new URL('..', import.meta.url));
 export const address = `file://${top}web/mtrr.html`;
-export const PROGRAMS = { mtrr_run: 'mtrr', mtrr_import: 'mtrr_import', mtrr_map: 'mtrr_map' };
+export const PROGRAMS = { mtrr_run: 'mtrr', mtrr_import: 'mtrr_import', mtrr_map: 'mtrr_map', mtrr_judge: 'mtrr_judge' };
 export const FORMATS = ['rdmsr', 'x86info', 'inteltool', 'coreboot', 'edk2', 'linux', 'xen', 'chipsec', 'windbg', 'plain'];
 
 // What a program writes for words and bytes, and its status. `mtrr-explain` reads its inputs from files, and `mtrr-import` writes reasons to standard error.
@@ -27,6 +27,7 @@ const folder = (path, ending) => readdirSync(top + path).filter(name => name.end
 
 export const dumps = folder('examples', '.dump');
 export const logs = folder('examples/logs', '.log');
+export const cases = folder('examples/procedures', '.case');
 
 // The page's script over a module that Node runs: its functions, by their names.
 export async function scriptInNode(wasm) {

@@ -61,8 +61,8 @@ export const tasks = {
     'a log with assumed values': async (page, same) => {
         await enter(page, states.assumed[0]);
         same('colour', await page.look(level), 'good');
-        same('badge', await page.look(text, '.assumed summary'), '3 values assumed');
-        same('what is assumed', await page.look(() => document.querySelectorAll('.assumed li').length), 3);
+        same('badge', await page.look(text, '.assumed summary'), '2 values assumed');
+        same('what is assumed', await page.look(() => document.querySelectorAll('.assumed li').length), 2);
         await page.click(...await page.look(place, '.tick input'));
         await until(page, 'missing values', () => document.querySelectorAll('.fields input').length > 0);
         same('colour without', await page.look(level), 'warn');
@@ -185,8 +185,26 @@ export const tasks = {
         await until(page, 'a copy', () => document.getElementById('said').textContent !== '');
         if (page.evaluate) {
             const told = await page.evaluate('markdown()');
-            for (const part of ['## No type is defined for 256 MB from c0000000 on', '| pages | size | pairs |', '````\n# WB up to 4 GB', 'module c']) same(`has ${part}`, told.includes(part), true);
+            for (const part of ['## No type is defined for 256 MB from c0000000 on', '| pages | size | pairs |', '````\n# WB up to 4 GB', ', module ']) same(`has ${part}`, told.includes(part), true);
         }
+    },
+    'a procedure is judged, and gone through': async (page, same) => {
+        await page.click(...await page.look(place, '#procedure-tab'));
+        await until(page, 'a verdict', () => document.getElementById('judged').className === 'good' && document.querySelectorAll('#stands section').length === 2);
+        same('the manual', (await page.look(text, '#judged h2')).startsWith('Nothing is wrong in 1109 states.'), true);
+        await page.look(() => [...document.querySelectorAll('#cases button')].find(one => one.textContent === 'without the second barrier').click());
+        await until(page, 'another verdict', () => document.getElementById('judged').className === 'bad');
+        same('sentence', await page.look(text, '#judged h2'), 'Wrong after 18 turns: page 0000000100000 has two types, of processors 0 and 1.');
+        same('rows', await page.look(() => document.querySelector('#run').shadowRoot.querySelectorAll('text.turn').length), 18);
+        same('last row', (await page.look(text, '#row-told')).startsWith('18. Processor 0: release'), true);
+        await page.look(() => { for (let k = 0; k < 12; k++) document.getElementById('back').click(); });
+        same('a row before', (await page.look(text, '#row-told')).startsWith('6. Processor 0: set-cd'), true);
+        same('what changed', await page.look(() => [...document.querySelectorAll('#stands section')[0].querySelectorAll('mark')].map(mark => mark.textContent).join()), 'no-fill,CD 1');
+        await page.look(() => [...document.querySelectorAll('button.turn')].find(one => one.textContent === 'processor 1 goes on').click());
+        await until(page, 'the run goes on', () => document.getElementById('row-told').textContent.startsWith('7. Processor 1: wait 0 2'));
+        same('a run that is right so far', await page.look(text, '#judged h2'), 'Nothing is wrong in this run.');
+        await page.look(() => document.getElementById('registers-tab').click());
+        same('back to the registers', await page.look(() => document.getElementById('procedure').hidden && !document.getElementById('main').hidden), true);
     },
     'narrow screens lose nothing': async (page, same) => {
         await page.view({ width: 360 });

@@ -36,14 +36,14 @@ function faultOfText(text, side) {
 // Whether a line of a dump stands in front of the fault that `show` tells.
 const beginsAsDump = side => decoder.decode(side.bytes.subarray(0, 1 << 16)).split('\n').slice(0, Number(/^bad text (\d+)/.exec(side.fault)?.[1] ?? 1) - 1).some(line => line.replace(/#.*/, '').trim() !== '');
 
-const warningsIn = text => lines(text).filter(line => line.startsWith('warning: ')).map(line => line.slice(9));
+const warningsIn = text => lines(text).filter(line => /^(warning: |passed over )/.test(line)).map(line => line.replace('warning: ', ''));
 
 // What the importer says of a log that lacks something: its format, how many of its lines are read, and its warnings. No log has the
 // table of this number. So each log lacks it, also one that would come to a dump, which would be all that is told.
 function survey(words, bytes) {
     const told = importLog(words, bytes);
     if (told.status !== 1 && !words.includes('table=65535')) return { ...survey([words[0], 'table=65535'], bytes), told };
-    const [, count, of, found] = /^(\d+) of (\d+) lines? (?:is|are) of (\S+)/.exec(told.text) || [];
+    const [, count, of, found] = /^(\d+) of (\d+) lines? (?:is|are) of (\S+)/m.exec(told.text) || [];
     return { count, of, format: found === 'any' ? null : found ?? null, warnings: warningsIn(told.text), told };
 }
 

@@ -1,13 +1,14 @@
 // ---- the module: each fact on the page is its text or its JSON
 
-let exports;
+let exports, compiled;
 
 async function load() {
     const packed = Uint8Array.from(atob($('module').textContent.trim()), letter => letter.charCodeAt(0));
     const stream = new Blob([packed]).stream().pipeThrough(new DecompressionStream('gzip'));
     const bytes = await new Response(stream).arrayBuffer();
     if (!WebAssembly.validate(bytes)) throw new Error('no memory64');
-    exports = (await WebAssembly.instantiate(bytes, {})).instance.exports;
+    compiled = await WebAssembly.compile(bytes);
+    exports = (await WebAssembly.instantiate(compiled, {})).exports;
 }
 
 // A block of the module's memory. Its address is a BigInt.

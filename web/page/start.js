@@ -146,6 +146,7 @@ async function start() {
     }
     $('sides').append(...sides.map(makeSide));
     layExamples();
+    layProcedure();
     $('version').textContent = run(['--version'], nothing).text.trim();
     $('add').addEventListener('click', () => { showSecond(true); sides[1].text.focus(); });
     $('share').addEventListener('click', share);

@@ -5,6 +5,7 @@ mod answering;
 mod drawing;
 mod explaining;
 mod importing;
+mod judging;
 mod ports;
 mod told;
 mod words;
@@ -20,6 +21,7 @@ use answering::answered;
 use drawing::drawn;
 use explaining::explained;
 use importing::imported;
+use judging::judged;
 use std::alloc::Global;
 use told::place;
 
@@ -87,4 +89,18 @@ pub extern "C" fn mtrr_explain(
     ensures { Placed IsAnyText output.old output.new written.new result }
 {
     place(&explained(alloc, words, first, second), output, written)
+}
+
+/// Does for `mtrr-judge` what `mtrr_run` does for `mtrr`. It tells nothing in the course of a search.
+#[unsafe(no_mangle)]
+pub extern "C" fn mtrr_judge(
+    alloc: Global,
+    words: &[u8],
+    input: &[u8],
+    output: &mut [u8],
+    written: &mut usize,
+) -> u32
+    ensures { Placed IsAnyText output.old output.new written.new result }
+{
+    place(&judged(alloc, words, input), output, written)
 }
