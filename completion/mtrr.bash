@@ -65,10 +65,11 @@ _mtrr_files() {
     [ ${#files[@]} -eq 0 ] || compopt -o filenames
 }
 
-# A case, or one of the words that stand alone.
+# A form, a case, or one of the words that stand alone.
 _mtrr_judge() {
     local word=${COMP_WORDS[COMP_CWORD]}
-    COMPREPLY=($(compgen -W '-h --help --version' -- "$word"))
+    COMPREPLY=()
+    [ "$COMP_CWORD" -ne 1 ] || COMPREPLY=($(compgen -W 'picture json -h --help --version' -- "$word"))
     _mtrr_files "$word"
 }
 
@@ -90,11 +91,12 @@ _mtrr_explain() {
     COMPREPLY=()
     [[ ${COMP_WORDS[1]} != --json ]] || command=2
     if [ "$COMP_CWORD" -le "$command" ]; then
-        COMPREPLY=($(compgen -W 'faults page diff fit ram --json --help --version' -- "$word"))
+        COMPREPLY=($(compgen -W 'faults page diff fit ram mend --json --help --version' -- "$word"))
     elif [[ $word == -* ]]; then
         case ${COMP_WORDS[command]} in
         diff) COMPREPLY=($(compgen -W '--cpus --all-cpus --types --json --help' -- "$word")) ;;
         fit) COMPREPLY=($(compgen -W '--spare --json --help' -- "$word")) ;;
+        mend) COMPREPLY=($(compgen -W '--set --ram --take --like --spare --chunk --as --json --help' -- "$word")) ;;
         *) COMPREPLY=($(compgen -W '--json --help' -- "$word")) ;;
         esac
     else
