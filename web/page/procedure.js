@@ -114,7 +114,9 @@ function showVerdict(told, text) {
     const bad = told.trouble !== undefined || told.wrong;
     $('judged').className = bad ? 'bad' : 'good';
     $('judged').hidden = false;
-    $('judged').replaceChildren(make('span', { class: 'mark', 'aria-hidden': 'true' }, bad ? '✕' : '✓'), make('h2', { class: 'grow' }, sentence(told.trouble ?? told.caption)));
+    const survival = told.text && lines(told.text).find(line => /^(nothing )?survives/.test(line));
+    $('judged').replaceChildren(make('span', { class: 'mark', 'aria-hidden': 'true' }, bad ? '✕' : '✓'),
+        make('div', { class: 'grow' }, make('h2', {}, sentence(told.trouble ?? told.caption)), survival && note(`When all lists have ended: ${survival}.`)));
     $('walk').hidden = told.trouble !== undefined;
     $('drawn').replaceChildren();
     if (told.trouble !== undefined) return;
