@@ -103,7 +103,7 @@ async function harm() {
         same(`${length} bytes: colour`, await evaluate("document.getElementById('verdict').className"), 'bad');
     }
     same('no script ran', await evaluate('typeof window.harmed'), 'undefined');
-    same('scripts on the page', await evaluate("document.querySelectorAll('script').length"), 3);
+    same('scripts on the page', await evaluate("document.querySelectorAll('script').length"), 4);
     same('pictures and frames', await evaluate("document.querySelectorAll('img, iframe, object, embed').length"), 0);
 }
 
